@@ -1,0 +1,103 @@
+-- How the code judges a trace: a letter, the letters of a trace, and the verdict.
+-- Assumes nothing.
+use Prim.Native.Nat.{ℕ, suc, _+_, _*_, _/_, _%_, _^_, _≤_, _<_}
+use native.Mathlib.Nat.{one-mul}
+use native.Mathlib.Numerals.{add-one}
+use native.Mathlib.Omega.{arith}
+use mathlib.Core.Path.{_≡_, refl, sym, _∙_}
+use mathlib.Core.Bool.{Bool, true, false, _&&_, _||_, false≢true}
+use mathlib.Core.Option.{Option, none, some}
+use mathlib.Core.List.{List, [], _∷_}
+use lib.Bits.{bitAnd, and-mask}
+use lib.Dec.{eqb, ltb, lit<}
+use lib.ListN.{length, getD, drop, drop-of-length-le, length-map}
+use lib.Pow.{shl-exact}
+use lib.Seq.{drop-cons}
+use Rattle.rules.specs.declared.judging.Verdict.{Verdict}
+use Rattle.rules.specs.declared.judging.Verdict.the-variants.{True, False, Refused}
+use Rattle.rules.specs.declared.refusal.Refusal.the-variants.{BadTrace}
+use Rattle.rules.specs.Formula.{Formula}
+use Rattle.rules.specs.Limits.{kindLimit, traceLimit}
+use Rattle.rules.specs.Semantics.{Trace, holds}
+use Rattle.rules.specs.Parts.{partsOf, kindsOf, leftsOf, rightsOf}
+use Rattle.rules.specs.Row.{storedParts, judgedTrue}
+use Rattle.rules.specs.Trace.{Counts, isLetter, badStep, pickStep, stepNumber, pickVerdict, orBadStep, verdictOn}
+use Rattle.rules.proofs.RowLaws.{judged-holds}
+use Rattle.rules.proofs.StoredLaws.{stored-parts}
+
+-- ---- a letter
+
+-- a shift of 1
+shl-one : (n : ℕ) → n ≤ kindLimit → 1 * 2 ^ n % 65536 ≡ 2 ^ n
+shl-one n h = shl-exact 1 n 16 (lit< tt) (omega arith) ∙ one-mul (2 ^ n)
+
+-- the code's test of a letter
+pub letter-test : (c : Counts) (a : ℕ) → c .outputs ≤ kindLimit → c .observed ≤ kindLimit → c .hidden ≤ kindLimit
+    → ltb (bitAnd a 15) (1 * 2 ^ c .outputs % 65536)
+    && (ltb (bitAnd (a / 16) 15) (1 * 2 ^ c .observed % 65536) && ltb (a / 256) (1 * 2 ^ c .hidden % 65536))
+    ≡ isLetter c a
+unfolding isLetter
+letter-test c a h i j =
+    rw (shl-one (c .outputs) h, shl-one (c .observed) i, shl-one (c .hidden) j, and-mask a 4, and-mask (a / 16) 4)
+
+-- ---- the letters from place i on
+
+module _ (c : Counts) (π : Trace) (i : ℕ) where
+  pub bad-end : i ≡ length π → badStep c (i + 1) (drop i π) ≡ none
+  unfolding badStep
+  bad-end e = rw (drop-of-length-le π {i = i} (omega arith))
+
+  module _ (h : i < length π) (b : Bool) (e : b ≡ isLetter c (getD π i 0)) where
+    pub bad-more : b ≡ true → badStep c (i + 1) (drop i π) ≡ badStep c (i + 1 + 1) (drop (i + 1) π)
+    unfolding badStep
+    bad-more t = rw (add-one i, add-one (suc i), drop-cons π i 0, ← e, t)
+
+    pub bad-here : b ≡ false → badStep c (i + 1) (drop i π) ≡ some (i + 1)
+    unfolding badStep
+    bad-here t = rw (drop-cons π i 0, ← e, t)
+
+-- ---- the verdict
+
+-- whether a trace has a length that is refused
+abbrev pub badLength : Trace → Bool
+badLength π = eqb (length π) 0 || ltb traceLimit (length π)
+
+some-steps : (π : Trace) → badLength π ≡ false → 0 < length π
+some-steps [] e = absurd (false≢true (sym e))
+some-steps (a ∷ π) e = omega arith
+
+-- a step from 1 on is never 0
+bad-none : (c : Counts) (n : ℕ) (π : Trace) → stepNumber (badStep c (suc n) π) ≡ 0 → badStep c (suc n) π ≡ none
+unfolding badStep
+bad-none c n [] e = refl
+bad-none c n (a ∷ π) e = at (isLetter c a) e (bad-none c (suc n) π)
+  where
+    at : (b : Bool) → stepNumber (pickStep b (badStep c (suc (suc n)) π) (some (suc n))) ≡ 0
+        → (stepNumber (badStep c (suc (suc n)) π) ≡ 0 → badStep c (suc (suc n)) π ≡ none)
+        → pickStep b (badStep c (suc (suc n)) π) (some (suc n)) ≡ none
+    at true z ih = ih z
+    at false z ih = absurd (omega arith)
+
+bad-some : (o : Option ℕ) (n : ℕ) (v : Verdict) → n ≡ stepNumber o → ¬ (n ≡ 0) → orBadStep o v ≡ Refused (BadTrace n)
+bad-some none n v e h = absurd (h e)
+bad-some (some m) n v e h = rw e
+
+module _ (c : Counts) (π : Trace) (b : Bool) where
+  pub verdict-length : badLength π ≡ true → verdictOn c π b ≡ Refused (BadTrace 0)
+  unfolding verdictOn
+  verdict-length l = rw l
+
+  pub verdict-step : (n : ℕ) → badLength π ≡ false → n ≡ stepNumber (badStep c 1 π) → ¬ (n ≡ 0) → verdictOn c π b ≡ Refused (BadTrace n)
+  unfolding verdictOn
+  verdict-step n l e h = rw l (bad-some (badStep c 1 π) n _ e h)
+
+-- judging by the numbers of a formula's parts
+module _ (φ : Formula) (ks ls rs : List ℕ) (w : ℕ) (π : Trace) (f : length ks ≤ w) (long : badLength π ≡ false) (k : ks ≡ kindsOf (partsOf φ))
+    (l : ls ≡ leftsOf (partsOf φ)) (r : rs ≡ rightsOf (partsOf φ)) where
+  judged-stored : judgedTrue (storedParts ks ls rs) w π ≡ holds φ π
+  judged-stored = rw (k, l, r, stored-parts) (judged-holds φ w π (rw (k, length-map) at f) (some-steps π long))
+
+  pub verdict-judged : (c : Counts) (n : ℕ) (b : Bool) → n ≡ stepNumber (badStep c 1 π) → n ≡ 0 → b ≡ judgedTrue (storedParts ks ls rs) w π
+      → verdictOn c π (holds φ π) ≡ pickVerdict b True False
+  unfolding verdictOn
+  verdict-judged c n b e z t = rw (long, bad-none c 0 π (sym e ∙ z), t, judged-stored)

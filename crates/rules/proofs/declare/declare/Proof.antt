@@ -1,0 +1,122 @@
+use Prim.Native.Nat.{_+_}
+use lib.ListN.{length-set}
+use mathlib.Core.Path.{sym, ap₂, _∙_}
+use native.Mathlib.Omega.{arith}
+use borrow.Author.Tests.{not-true, not-false}
+use Rattle.rules.proofs.DeclareLaws.{count-limit, bit-below, no-name, name-twice, kind-full, all-full, new-signal}
+use borrow.Author.Needs.{needs}
+use Rattle.rules.proofs.declare.declare.Statement.{statement}
+use Rattle.rules.proofs.declare.declare.Tie as tie
+
+sub-name : tie.Need-sub-name
+sub-name c = search needs
+
+part-name-start : tie.Need-part-name-start
+part-name-start c = search needs
+
+part-name-end : tie.Need-part-name-end
+part-name-end c = search needs
+
+is-name-requires : tie.Need-is-name-requires
+is-name-requires c κs = search needs
+
+returns : tie.Need-returns
+returns c = no-name (c .before .before .before .before .before .args .source .now) (c .before .before .before .before .before .args .start) (c .before .before .before .before .before .args .end) (c .before .before .before .before .before .args .line) (c .before .before .before .before .before .args .kind) (c .before .before .before .before .before .args .s) (c .before .before .before .before .before .args .spans .now) (sym (c .before .is-name .ensures) ∙ not-true _ (c .if1 .taken))
+
+lookup-requires : tie.Need-lookup-requires
+lookup-requires c κs = search needs
+
+same-length : tie.Need-same-length
+same-length c = search needs
+
+returns-2 : tie.Need-returns-2
+returns-2 c = name-twice (c .before .before .before .before .before .before .before .before .args .source .now) (c .before .before .before .before .before .before .before .before .args .start) (c .before .before .before .before .before .before .before .before .args .end) (c .before .before .before .before .before .before .before .before .args .line) (c .before .before .before .before .before .before .before .before .args .kind) (c .before .before .before .before .before .before .before .before .args .s) (c .before .before .before .before .before .before .before .before .args .spans .now) (sym (c .before .before .before .before .is-name .ensures) ∙ not-false _ (c .before .before .before .if1 .left)) (c .before .lookup .result) (c .before .lookup .ensures) (c .if2 .taken)
+
+count-in-requires : tie.Need-count-in-requires
+count-in-requires c κs = search needs
+
+same-length-2 : tie.Need-same-length-2
+same-length-2 c = search needs
+
+returns-3 : tie.Need-returns-3
+returns-3 c = kind-full (c .before .before .before .before .before .before .before .before .before .before .args .source .now) (c .before .before .before .before .before .before .before .before .before .before .args .start) (c .before .before .before .before .before .before .before .before .before .before .args .end) (c .before .before .before .before .before .before .before .before .before .before .args .line) (c .before .before .before .before .before .before .before .before .before .before .args .kind) (c .before .before .before .before .before .before .before .before .before .before .args .s) (c .before .before .before .before .before .before .before .before .before .before .args .spans .now) (sym (c .before .before .before .before .before .before .is-name .ensures) ∙ not-false _ (c .before .before .before .before .before .if1 .left)) (c .before .before .before .lookup .result) (c .before .before .before .lookup .ensures) (c .before .before .if2 .left) (sym (c .before .count-in .ensures) ∙ c .if3 .taken)
+
+add-if4 : tie.Need-add-if4
+add-if4 c = search needs
+
+add-if4-2 : tie.Need-add-if4-2
+add-if4-2 c = search needs
+
+same-length-3 : tie.Need-same-length-3
+same-length-3 c = search needs
+
+returns-4 : tie.Need-returns-4
+returns-4 c = all-full (c .before .before .before .before .before .before .before .before .before .before .before .before .before .args .source .now) (c .before .before .before .before .before .before .before .before .before .before .before .before .before .args .start) (c .before .before .before .before .before .before .before .before .before .before .before .before .before .args .end) (c .before .before .before .before .before .before .before .before .before .before .before .before .before .args .line) (c .before .before .before .before .before .before .before .before .before .before .before .before .before .args .kind) (c .before .before .before .before .before .before .before .before .before .before .before .before .before .args .s) (c .before .before .before .before .before .before .before .before .before .before .before .before .before .args .spans .now) (sym (c .before .before .before .before .before .before .before .before .before .is-name .ensures) ∙ not-false _ (c .before .before .before .before .before .before .before .before .if1 .left)) (c .before .before .before .before .before .before .lookup .result) (c .before .before .before .before .before .before .lookup .ensures) (c .before .before .before .before .before .if2 .left) (c .if4 .taken)
+
+first-bit-requires : tie.Need-first-bit-requires
+first-bit-requires c κs = search needs
+
+add-b : tie.Need-add-b
+add-b c = let l = count-limit (c .before .before .before .before .before .before .before .before .before .before .before .before .before .before .args .kind) (c .before .before .before .before .before .before .before .before .before .before .before .before .before .before .args .s) (c .before .before .before .before .before .before .before .before .before .before .before .before .before .before .pre .1 .1) in let n = c .before .before .before .before .before .count-in .ensures in let d = c .before .before .before .before .if3 .left in let b = bit-below (c .before .before .before .before .before .before .before .before .before .before .before .before .before .before .args .kind) (c .before .before .before .before .before .count-in .result) (c .first-bit .result) (c .first-bit .ensures) (omega arith) in omega arith
+
+mul-spans : tie.Need-mul-spans
+mul-spans c = let l = count-limit (c .before .before .before .before .before .before .before .before .before .before .before .before .before .before .args .kind) (c .before .before .before .before .before .before .before .before .before .before .before .before .before .before .args .s) (c .before .before .before .before .before .before .before .before .before .before .before .before .before .before .pre .1 .1) in let n = c .before .before .before .before .before .count-in .ensures in let d = c .before .before .before .before .if3 .left in let b = bit-below (c .before .before .before .before .before .before .before .before .before .before .before .before .before .before .args .kind) (c .before .before .before .before .before .count-in .result) (c .first-bit .result) (c .first-bit .ensures) (omega arith) in omega arith
+
+mul-spans-2 : tie.Need-mul-spans-2
+mul-spans-2 c = let l = count-limit (c .before .before .before .before .before .before .before .before .before .before .before .before .before .before .args .kind) (c .before .before .before .before .before .before .before .before .before .before .before .before .before .before .args .s) (c .before .before .before .before .before .before .before .before .before .before .before .before .before .before .pre .1 .1) in let n = c .before .before .before .before .before .count-in .ensures in let d = c .before .before .before .before .if3 .left in let b = bit-below (c .before .before .before .before .before .before .before .before .before .before .before .before .before .before .args .kind) (c .before .before .before .before .before .count-in .result) (c .first-bit .result) (c .first-bit .ensures) (omega arith) in omega arith
+
+slice-write-spans : tie.Need-slice-write-spans
+slice-write-spans c = let l = count-limit (c .before .before .before .before .before .before .before .before .before .before .before .before .before .before .args .kind) (c .before .before .before .before .before .before .before .before .before .before .before .before .before .before .args .s) (c .before .before .before .before .before .before .before .before .before .before .before .before .before .before .pre .1 .1) in let n = c .before .before .before .before .before .count-in .ensures in let d = c .before .before .before .before .if3 .left in let b = bit-below (c .before .before .before .before .before .before .before .before .before .before .before .before .before .before .args .kind) (c .before .before .before .before .before .count-in .result) (c .first-bit .result) (c .first-bit .ensures) (omega arith) in omega (arith, c .before .before .before .before .before .before .before .before .before .before .before .before .before .before .pre .1 .0 .all)
+
+mul-spans-3 : tie.Need-mul-spans-3
+mul-spans-3 c = let l = count-limit (c .before .before .before .before .before .before .before .before .before .before .before .before .before .before .args .kind) (c .before .before .before .before .before .before .before .before .before .before .before .before .before .before .args .s) (c .before .before .before .before .before .before .before .before .before .before .before .before .before .before .pre .1 .1) in let n = c .before .before .before .before .before .count-in .ensures in let d = c .before .before .before .before .if3 .left in let b = bit-below (c .before .before .before .before .before .before .before .before .before .before .before .before .before .before .args .kind) (c .before .before .before .before .before .count-in .result) (c .first-bit .result) (c .first-bit .ensures) (omega arith) in omega arith
+
+add-spans : tie.Need-add-spans
+add-spans c = let l = count-limit (c .before .before .before .before .before .before .before .before .before .before .before .before .before .before .args .kind) (c .before .before .before .before .before .before .before .before .before .before .before .before .before .before .args .s) (c .before .before .before .before .before .before .before .before .before .before .before .before .before .before .pre .1 .1) in let n = c .before .before .before .before .before .count-in .ensures in let d = c .before .before .before .before .if3 .left in let b = bit-below (c .before .before .before .before .before .before .before .before .before .before .before .before .before .before .args .kind) (c .before .before .before .before .before .count-in .result) (c .first-bit .result) (c .first-bit .ensures) (omega arith) in omega arith
+
+mul-spans-4 : tie.Need-mul-spans-4
+mul-spans-4 c = let l = count-limit (c .before .before .before .before .before .before .before .before .before .before .before .before .before .before .args .kind) (c .before .before .before .before .before .before .before .before .before .before .before .before .before .before .args .s) (c .before .before .before .before .before .before .before .before .before .before .before .before .before .before .pre .1 .1) in let n = c .before .before .before .before .before .count-in .ensures in let d = c .before .before .before .before .if3 .left in let b = bit-below (c .before .before .before .before .before .before .before .before .before .before .before .before .before .before .args .kind) (c .before .before .before .before .before .count-in .result) (c .first-bit .result) (c .first-bit .ensures) (omega arith) in omega arith
+
+slice-write-spans-2 : tie.Need-slice-write-spans-2
+slice-write-spans-2 c = let l = count-limit (c .before .before .before .before .before .before .before .before .before .before .before .before .before .before .args .kind) (c .before .before .before .before .before .before .before .before .before .before .before .before .before .before .args .s) (c .before .before .before .before .before .before .before .before .before .before .before .before .before .before .pre .1 .1) in let n = c .before .before .before .before .before .count-in .ensures in let d = c .before .before .before .before .if3 .left in let b = bit-below (c .before .before .before .before .before .before .before .before .before .before .before .before .before .before .args .kind) (c .before .before .before .before .before .count-in .result) (c .first-bit .result) (c .first-bit .ensures) (omega arith) in simp length-set (omega (arith, c .before .before .before .before .before .before .before .before .before .before .before .before .before .before .pre .1 .0 .all))
+
+more-signals-requires : tie.Need-more-signals-requires
+more-signals-requires c κs = count-limit (c .before .before .before .before .before .before .before .before .before .before .before .before .before .before .args .kind) (c .before .before .before .before .before .before .before .before .before .before .before .before .before .before .args .s) (c .before .before .before .before .before .before .before .before .before .before .before .before .before .before .pre .1 .1)
+
+same-length-4 : tie.Need-same-length-4
+same-length-4 c = search needs
+
+returns-5 : tie.Need-returns-5
+returns-5 c = new-signal (c .before .before .before .before .before .before .before .before .before .before .before .before .before .before .before .args .source .now) (c .before .before .before .before .before .before .before .before .before .before .before .before .before .before .before .args .start) (c .before .before .before .before .before .before .before .before .before .before .before .before .before .before .before .args .end) (c .before .before .before .before .before .before .before .before .before .before .before .before .before .before .before .args .line) (c .before .before .before .before .before .before .before .before .before .before .before .before .before .before .before .args .kind) (c .before .before .before .before .before .before .before .before .before .before .before .before .before .before .before .args .s) (c .before .before .before .before .before .before .before .before .before .before .before .before .before .before .before .args .spans .now) (sym (c .before .before .before .before .before .before .before .before .before .before .before .is-name .ensures) ∙ not-false _ (c .before .before .before .before .before .before .before .before .before .before .if1 .left)) (c .before .before .before .before .before .before .before .before .lookup .result) (c .before .before .before .before .before .before .before .before .lookup .ensures) (c .before .before .before .before .before .before .before .if2 .left) (λ e. c .before .before .before .before .before .if3 .left (c .before .before .before .before .before .before .count-in .ensures ∙ e)) (c .before .before .if4 .left) (c .more-signals .result) (c .more-signals .ensures) (c .before .first-bit .result + c .before .before .before .before .before .before .count-in .result) (ap₂ _+_ (c .before .first-bit .ensures) (c .before .before .before .before .before .before .count-in .ensures))
+
+pub declare-spec : {M : Type 1} → statement M
+declare-spec =
+    tie.close
+    (tie.spec
+    sub-name
+    part-name-start
+    part-name-end
+    is-name-requires
+    returns
+    lookup-requires
+    same-length
+    returns-2
+    count-in-requires
+    same-length-2
+    returns-3
+    add-if4
+    add-if4-2
+    same-length-3
+    returns-4
+    first-bit-requires
+    add-b
+    mul-spans
+    mul-spans-2
+    slice-write-spans
+    mul-spans-3
+    add-spans
+    mul-spans-4
+    slice-write-spans-2
+    more-signals-requires
+    same-length-4
+    returns-5)

@@ -1,0 +1,54 @@
+-- Judging a recorded trace (a run in document 01): which traces are refused, and the verdict on the others.
+-- Assumes nothing.
+use Prim.Native.Nat.{ℕ, suc, _/_, _%_, _^_}
+use mathlib.Core.Bool.{Bool, true, false, _&&_, _||_}
+use mathlib.Core.Option.{Option, none, some}
+use mathlib.Core.List.{[], _∷_}
+use lib.Dec.{eqb, ltb}
+use lib.ListN.{length}
+use Rattle.rules.specs.declared.refusal.Refusal.the-variants.{BadTrace}
+use Rattle.rules.specs.declared.judging.Verdict.{Verdict}
+use Rattle.rules.specs.declared.judging.Verdict.the-variants.{True, False, Refused}
+use Rattle.rules.specs.declared.problem.Sizes.{Sizes}
+use Rattle.rules.specs.Limits.{traceLimit}
+use Rattle.rules.specs.Semantics.{Trace}
+
+-- how many signals of each kind a letter is over
+pub record Counts : Type 0 where
+  pub outputs : ℕ
+  pub observed : ℕ
+  pub hidden : ℕ
+
+abbrev pub countsOf : Sizes → Counts
+countsOf s = record { outputs = s .outputs; observed = s .observed; hidden = s .hidden }
+
+-- no bit of the letter is without a signal: output signals in bits 0 to 3, observed ones in 4 to 7, hidden ones from 8 on
+unfoldable pub isLetter : Counts → ℕ → Bool
+isLetter c a = ltb (a % 16) (2 ^ c .outputs) && (ltb (a / 16 % 16) (2 ^ c .observed) && ltb (a / 256) (2 ^ c .hidden))
+
+abbrev pub pickStep : Bool → Option ℕ → Option ℕ → Option ℕ
+pickStep true a b = a
+pickStep false a b = b
+
+-- the first step with such a bit, the first letter being step n
+unfoldable pub badStep : Counts → ℕ → Trace → Option ℕ
+badStep c n [] = none
+badStep c n (a ∷ π) = pickStep (isLetter c a) (badStep c (suc n) π) (some n)
+
+-- a step as a number, 0 for none
+abbrev pub stepNumber : Option ℕ → ℕ
+stepNumber none = 0
+stepNumber (some n) = n
+
+abbrev pub pickVerdict : Bool → Verdict → Verdict → Verdict
+pickVerdict true a b = a
+pickVerdict false a b = b
+
+abbrev pub orBadStep : Option ℕ → Verdict → Verdict
+orBadStep none v = v
+orBadStep (some n) v = Refused (BadTrace n)
+
+-- the verdict on a trace over these signals, on which the formula's value is b
+unfoldable pub verdictOn : Counts → Trace → Bool → Verdict
+verdictOn c π b =
+    pickVerdict (eqb (length π) 0 || ltb traceLimit (length π)) (Refused (BadTrace 0)) (orBadStep (badStep c 1 π) (pickVerdict b True False))

@@ -1,0 +1,118 @@
+// Judging a recorded trace.
+ghost use mathlib.Core.Path.{_≡_};
+ghost use Prim.Native.Nat.{_≤_, _<_};
+ghost use lib.ListN.{length};
+ghost use Rattle.rules.specs.Formula.{Formula};
+ghost use Rattle.rules.specs.Semantics.{holds};
+ghost use Rattle.rules.specs.Parts.{partsOf, kindsOf, leftsOf, rightsOf};
+ghost use Rattle.rules.specs.Row.{Aligned};
+ghost use Rattle.rules.specs.Limits.{kindLimit};
+ghost use Rattle.rules.specs.Trace.{countsOf, isLetter, badStep, stepNumber, verdictOn};
+ghost use Rattle.rules.specs.Problem.{readProblem};
+ghost use Rattle.rules.specs.Judge.{judgedBy, judged, workAfter, Means};
+use crate::evaluate::holds_on;
+use crate::lines::read;
+use crate::memory::clear;
+use crate::problem::Reading;
+use crate::problem::Sizes;
+use crate::refusal::Refusal;
+
+// The verdict on a trace, or a refusal.
+pub enum Verdict {
+    True,
+    False,
+    Refused(Refusal),
+}
+
+// Whether a letter has no bit without a signal.
+fn is_letter(s: Sizes, letter: u16) -> bool
+    requires { ⌜ (s .outputs ≤ kindLimit) × (s .observed ≤ kindLimit) × (s .hidden ≤ kindLimit) ⌝ }
+    ensures { λ r. ⌜ r ≡ isLetter (countsOf s) letter ⌝ }
+{
+    let outputs = s.outputs;
+    let observed = s.observed;
+    let hidden = s.hidden;
+    (letter & 15 < 1 << outputs)
+        & ((letter >> 4 & 15 < 1 << observed) & (letter >> 8 < 1 << hidden))
+}
+
+// The first step, counted from 1, whose letter has such a bit; 0 if there is none.
+fn bad_step(s: Sizes, trace: &[u16]) -> usize
+    requires { ⌜ (s .outputs ≤ kindLimit) × (s .observed ≤ kindLimit) × (s .hidden ≤ kindLimit) ⌝ }
+    ensures { λ r. ⌜ r ≡ stepNumber (badStep (countsOf s) 1 (now (trace .entry))) ⌝ }
+{
+    let mut i = 0;
+    while i < trace.len() {
+        if !is_letter(s, trace[i]) {
+            return i + 1;
+        }
+        i += 1;
+    }
+    0
+}
+
+// The most steps of a trace, and the least bytes of work memory.
+const TRACE_LIMIT: usize = 1000;
+
+const WORK_SIZE: usize = 65536;
+
+// The verdict on a trace by a formula's parts.
+pub fn judge_trace(
+    kinds: &[u8],
+    lefts: &[u8],
+    rights: &[u8],
+    s: Sizes,
+    trace: &[u16],
+    row: &mut [u8],
+) -> Verdict
+    requires { ⌜ 0 < length (now kinds) ⌝ }
+    requires { ⌜ Aligned (now kinds) (now lefts) (now rights) (length (now row)) ⌝ }
+    requires { ⌜ (s .outputs ≤ kindLimit) × (s .observed ≤ kindLimit) × (s .hidden ≤ kindLimit) ⌝ }
+    ensures { λ r. ⌜ ((φ : Formula) → now (kinds .entry) ≡ kindsOf (partsOf φ) → now (lefts .entry) ≡ leftsOf (partsOf φ) → now (rights .entry) ≡ rightsOf (partsOf φ) → r ≡ verdictOn (countsOf s) (now (trace .entry)) (holds φ (now (trace .entry)))) ⌝ }
+{
+    let steps = trace.len();
+    if (steps == 0) | (steps > TRACE_LIMIT) {
+        return Verdict::Refused(Refusal::BadTrace(0));
+    }
+    let bad = bad_step(s, trace);
+    if bad != 0 {
+        return Verdict::Refused(Refusal::BadTrace(bad));
+    }
+    if holds_on(kinds, lefts, rights, trace, row) {
+        Verdict::True
+    } else {
+        Verdict::False
+    }
+}
+
+// The verdict on a trace by a problem's text; the row is room to work in.
+fn judge_source(source: &[u8], trace: &[u16], row: &mut [u8]) -> Verdict
+    requires { ⌜ 256 ≤ length (now row) ⌝ }
+    ensures { λ r. ⌜ r ≡ judgedBy (readProblem (now (source .entry))) (now (trace .entry)) ⌝ }
+{
+    let mut kinds = [0u8; 96];
+    let mut lefts = [0u8; 96];
+    let mut rights = [0u8; 96];
+    match read(source, &mut kinds, &mut lefts, &mut rights) {
+        Reading::Refused(r) => Verdict::Refused(r),
+        Reading::Accepted(s) => {
+            let n = s.parts;
+            judge_trace(&kinds[..n], &lefts[..n], &rights[..n], s, trace, row)
+        }
+    }
+}
+
+// Judges a recorded trace by a problem's text: true exactly where the trace satisfies the formula that the written grammar
+// derives. Refusals: 12, then 1 to 8, then 16. Work memory is all zero afterwards, but untouched where it is too short.
+pub fn judge(source: &[u8], trace: &[u16], work: &mut [u8]) -> Verdict
+    ensures answer { λ r. ⌜ r ≡ judged (length (now (work .entry))) (now (source .entry)) (now (trace .entry)) ⌝ }
+    ensures cleared { λ _. ⌜ now (work .exit) ≡ workAfter (now (work .entry)) ⌝ }
+    ensures meant { λ r. ⌜ Means (now (source .entry)) (now (trace .entry)) r ⌝ }
+{
+    if work.len() < WORK_SIZE {
+        return Verdict::Refused(Refusal::ShortMemory);
+    }
+    let r = judge_source(source, trace, &mut work[..256]);
+    clear(work);
+    r
+}

@@ -1,0 +1,21 @@
+// Problems, formulas and traces: reads a problem's text, with one numbered refusal for each fault, and judges a recorded
+// trace by it. Every function here is proved, and the crate assumes nothing. `judge` has no `requires`; `read`, which serves
+// the crates above, asks for lists of 96 entries.
+mod declare;
+mod evaluate;
+mod formula;
+mod judging;
+mod lines;
+mod memory;
+mod problem;
+mod refusal;
+mod state;
+
+pub use judging::Verdict;
+pub use judging::judge;
+pub use lines::read;
+pub use problem::Reading;
+pub use problem::Sizes;
+pub use refusal::Refusal;
+pub use refusal::number;
+pub use refusal::place;
