@@ -12,6 +12,7 @@ use Rattle.grammar.specs.Lex.{tokens}
 use Rattle.grammar.specs.Tree.{Parts}
 use Rattle.grammar.specs.Parse.{Res, none, some, parseFormula}
 use Rattle.grammar.specs.Names.{leafValue}
+use Rattle.grammar.proofs.Tokens.{past-in}
 use Rattle.rules.specs.declared.refusal.Refusal.the-variants.{BadLine}
 use Rattle.rules.specs.declared.problem.Kind.{Kind}
 use Rattle.rules.specs.declared.problem.Word.{Word}
@@ -35,6 +36,14 @@ field-is source at end t h k =
 
 pub length-line : (source : List ℕ) (at end : ℕ) → at ≤ end → end ≤ length source → length (between source at end) ≡ end - at
 length-line source at end h k = length-take-le (end - at) (drop at source) (omega (arith, length-drop at source))
+
+-- the first tab is in the line or at its end
+module _ (source : List ℕ) (at end t : ℕ) (e : t ≡ past notTab (between source at end) 0) where
+  pub tab-in : at ≤ end → end ≤ length source → (t ≤ length (between source at end)) × (length (between source at end) ≡ end - at)
+  tab-in h k = (omega (arith, past-in notTab (between source at end) 0 (omega arith), e), length-line source at end h k)
+
+  pub tab-below : (t ≡ length (between source at end) → ⊥) → t < length (between source at end)
+  tab-below n = omega (arith, past-in notTab (between source at end) 0 (omega arith), e, n)
 
 -- a declaration leaves the parts, and a formula the spans
 declare-parts : (line : ℕ) (k : Kind) (name : List ℕ) (g : Signals) (s : Sizes) (p : Parts) → PartsAfter (declareEffect line k name g) s p p

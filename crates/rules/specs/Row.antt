@@ -1,5 +1,5 @@
 -- How a trace is judged: from its last step back to its first, a row of numbers has for each part its value at the present
--- step, in bit 0, and its obligation (document 01's term) about that step, in bit 1. Before the last step nothing is owed,
+-- step, in bit 0, and its obligation (document 01's term) about that step, in bit 1. Behind the last step nothing is owed,
 -- and the row is all zero.
 -- Assumes nothing.
 use Prim.Native.Nat.{ℕ, zero, suc, _+_, _*_, _≤_}

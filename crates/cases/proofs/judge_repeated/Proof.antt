@@ -9,10 +9,10 @@ use Rattle.cases.proofs.judge_repeated.Statement.{statement}
 use Rattle.cases.proofs.judge_repeated.Tie as tie
 
 abbrev Inv-loop : tie.InvT-loop
-Inv-loop name head text times tail buffer₀ n₀ k₀ t9 buffer n k = (k ≤ times) × (n ≤ length buffer) × (length buffer ≡ 4200)
+Inv-loop work name head text times tail buffer₀ n₀ k₀ t10 buffer n k = (k ≤ times) × (n ≤ length buffer) × (length buffer ≡ 4200)
 
 abbrev μ-loop : tie.MeasureT-loop
-μ-loop name head text times tail buffer₀ n₀ k₀ t9 buffer n k = times - k
+μ-loop work name head text times tail buffer₀ n₀ k₀ t10 buffer n k = times - k
 
 slice-aggregate-put : tie.Need-slice-aggregate-put Inv-loop μ-loop
 slice-aggregate-put c = search needs
@@ -56,6 +56,9 @@ slice-aggregate-judge-2 c = search needs
 judge-requires : tie.Need-judge-requires Inv-loop μ-loop
 judge-requires c κs = search needs
 
+same-length : tie.Need-same-length Inv-loop μ-loop
+same-length c = search needs
+
 returns : tie.Need-returns Inv-loop μ-loop
 returns c = search needs
 
@@ -79,4 +82,5 @@ judge-repeated-spec =
     slice-aggregate-judge
     slice-aggregate-judge-2
     judge-requires
+    same-length
     returns)

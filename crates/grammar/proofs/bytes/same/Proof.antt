@@ -26,7 +26,13 @@ shared-slice-read-if2-2 : tie.Need-shared-slice-read-if2-2 Inv-loop μ-loop
 shared-slice-read-if2-2 c = omega (arith, c .before .before .before .before .if1 .left)
 
 returns-2 : tie.Need-returns-2 Inv-loop μ-loop
-returns-2 c = sym (c .before .before .before .before .loop .inv .1 ∙ same-stop (c .before .before .before .before .before .before .args .a .now) (c .before .before .before .before .before .before .args .b .now) (c .before .before .before .before .loop .i) (omega arith) (omega (arith, c .before .before .before .before .before .if1 .left)) (c .if2 .taken))
+returns-2 c =
+    let at-loop = c .before .before .before .before in
+    let at-if1 = at-loop .before in
+    let start = at-if1 .before in
+    let a = start .args in
+    let l = at-loop .loop in
+    sym (l .inv .1 ∙ same-stop (a .a .now) (a .b .now) (l .i) (omega arith) (omega (arith, at-if1 .if1 .left)) (c .if2 .taken))
 
 add-i : tie.Need-add-i Inv-loop μ-loop
 add-i c = omega arith
@@ -35,7 +41,13 @@ loop-less : tie.Need-loop-less Inv-loop μ-loop
 loop-less c = omega arith
 
 loop-again : tie.Need-loop-again Inv-loop μ-loop
-loop-again c = (omega arith, c .before .before .before .before .loop .inv .1 ∙ same-more (c .before .before .before .before .before .before .args .a .now) (c .before .before .before .before .before .before .args .b .now) (c .before .before .before .before .loop .i) (omega arith) (omega (arith, c .before .before .before .before .before .if1 .left)) (c .if2 .left))
+loop-again c =
+    let at-loop = c .before .before .before .before in
+    let at-if1 = at-loop .before in
+    let start = at-if1 .before in
+    let a = start .args in
+    let l = at-loop .loop in
+    (omega arith, l .inv .1 ∙ same-more (a .a .now) (a .b .now) (l .i) (omega arith) (omega (arith, at-if1 .if1 .left)) (c .if2 .left))
 
 returns-3 : tie.Need-returns-3 Inv-loop μ-loop
 returns-3 c = sym (c .before .loop .inv .1 ∙ same-end _ _ _ (c .loop-test .left) (omega (arith, c .before .before .if1 .left, c .loop-test .left)))

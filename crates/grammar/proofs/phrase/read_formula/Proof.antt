@@ -30,7 +30,11 @@ token-at-requires : tie.Need-token-at-requires
 token-at-requires c κs = span ltlf-laws _ 4 0 (omega arith) (c .before .before .before .before .before .before .read-imp .ensures) (c .before .next .given .1) .high
 
 returns-2 : tie.Need-returns-2
-returns-2 c = formula-more _ (c .before .before .before .before .before .before .before .before .read-imp .ensures) (c .before .before .before .next .given .1) _ (c .before .token-at .ensures) (c .if1 .taken)
+returns-2 c =
+    let at-token-at = c .before in
+    let at-next = at-token-at .before .before in
+    let at-read-imp = at-next .before .before .before .before .before in
+    formula-more _ (at-read-imp .read-imp .ensures) (at-next .next .given .1) _ (at-token-at .token-at .ensures) (c .if1 .taken)
 
 read-imp-requires-2 : tie.Need-read-imp-requires-2
 read-imp-requires-2 c κs = search needs
@@ -45,7 +49,13 @@ same-length-3 : tie.Need-same-length-3
 same-length-3 c = search needs
 
 returns-3 : tie.Need-returns-3
-returns-3 c = formula-done _ (c .before .before .before .before .before .before .before .before .before .before .before .before .before .before .before .before .before .before .read-imp .ensures) (c .before .before .before .before .before .before .before .before .before .before .before .before .before .next .given .1) _ (c .before .before .before .before .before .before .before .before .before .before .before .token-at .ensures) (c .before .before .before .before .before .before .before .before .before .before .if1 .left) (c .before .before .before .before .before .before .read-imp2 .ensures)
+returns-3 c =
+    let at-read-imp2 = c .before .before .before .before .before .before in
+    let at-if1 = at-read-imp2 .before .before .before .before in
+    let at-token-at = at-if1 .before in
+    let at-next = at-token-at .before .before in
+    let at-read-imp = at-next .before .before .before .before .before in
+    formula-done _ (at-read-imp .read-imp .ensures) (at-next .next .given .1) _ (at-token-at .token-at .ensures) (at-if1 .if1 .left) (at-read-imp2 .read-imp2 .ensures)
 
 pub read-formula-spec : {M : Type 1} → statement M
 read-formula-spec =

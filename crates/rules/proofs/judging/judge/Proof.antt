@@ -7,7 +7,11 @@ use Rattle.rules.proofs.judging.judge.Statement.{statement}
 use Rattle.rules.proofs.judging.judge.Tie as tie
 
 returns : tie.Need-returns
-returns c = let a = short-memory (c .before .before .before .before .args .source .now) (c .before .before .before .before .args .work .now) (c .before .before .before .before .args .trace .now) (c .if1 .taken) in (a .0, (a .1, a .2))
+returns c =
+    let start = c .before .before .before .before in
+    let a = start .args in
+    let m = short-memory (a .source .now) (a .work .now) (a .trace .now) (c .if1 .taken) in
+    (m .0, (m .1, m .2))
 
 slice-relend-prefix-judge-source : tie.Need-slice-relend-prefix-judge-source
 slice-relend-prefix-judge-source c = search needs
@@ -25,7 +29,14 @@ same-length : tie.Need-same-length
 same-length c = search needs
 
 returns-2 : tie.Need-returns-2
-returns-2 c = let a = long-memory (c .before .before .before .before .before .before .before .before .before .before .before .before .args .source .now) (c .before .before .before .before .before .before .before .before .before .before .before .before .args .work .now) (c .before .before .before .before .before .before .before .before .before .before .before .before .args .trace .now) (c .before .before .before .before .before .before .before .before .if1 .left) (c .before .before .before .before .before .before .judge-source .result) (c .before .before .before .before .before .before .judge-source .ensures) _ (length-front (c .before .before .before .before .before .before .before .before .before .before .before .before .args .work .now) (c .before .before .before .before .before .before .judge-source .last .1 .1 .0) 256 (c .before .before .before .before .before .before .judge-source .kept .1 .1 .0)) in (a .0, (c .before .before .clear .ensures ∙ a .1, a .2))
+returns-2 c =
+    let at-clear = c .before .before in
+    let at-judge-source = at-clear .before .before .before .before in
+    let at-if1 = at-judge-source .before .before in
+    let start = at-if1 .before .before .before .before in
+    let a = start .args in
+    let m = long-memory (a .source .now) (a .work .now) (a .trace .now) (at-if1 .if1 .left) (at-judge-source .judge-source .result) (at-judge-source .judge-source .ensures) _ (length-front (a .work .now) (at-judge-source .judge-source .last .1 .1 .0) 256 (at-judge-source .judge-source .kept .1 .1 .0)) in
+    (m .0, (at-clear .clear .ensures ∙ m .1, m .2))
 
 pub judge-spec : {M : Type 1} → statement M
 judge-spec =

@@ -34,7 +34,12 @@ same-length-3 : tie.Need-same-length-3
 same-length-3 c = search needs
 
 returns : tie.Need-returns
-returns c = (sym (c .before .s .given .1) ∙ c .before .before .before .before .before .before .before .before .before .read-source .ensures .0, parts-accepted (readProblem (c .before .before .before .before .before .before .before .before .before .before .before .before .before .before .before .before .before .args .source .now)) (c .before .before .before .before .before .before .before .before .before .read-source .result) (c .before .before .before .before .before .before .before .before .before .read-source .ensures .0) (lists (c .before .before .before .before .before .before .before .before .before .before .before .before .before .before .before .before .before .args .kinds .now) (c .before .before .before .before .before .before .before .before .before .before .before .before .before .before .before .before .before .args .lefts .now) (c .before .before .before .before .before .before .before .before .before .before .before .before .before .before .before .before .before .args .rights .now)) _ (c .before .s .given .1) _ (c .before .before .before .before .before .before .before .before .before .read-source .ensures .1))
+returns c =
+    let at-s = c .before in
+    let at-read-source = at-s .before .before .before .before .before .before .before .before in
+    let start = at-read-source .before .before .before .before .before .before .before .before in
+    let a = start .args in
+    (sym (at-s .s .given .1) ∙ at-read-source .read-source .ensures .0, parts-accepted (readProblem (a .source .now)) (at-read-source .read-source .result) (at-read-source .read-source .ensures .0) (lists (a .kinds .now) (a .lefts .now) (a .rights .now)) _ (at-s .s .given .1) _ (at-read-source .read-source .ensures .1))
 
 same-length-4 : tie.Need-same-length-4
 same-length-4 c = search needs
@@ -46,7 +51,15 @@ same-length-6 : tie.Need-same-length-6
 same-length-6 c = search needs
 
 returns-2 : tie.Need-returns-2
-returns-2 c = (sym (c .before .before .before .before .before .before .before .before .before .before .before .before .before .r .given .1) ∙ c .before .before .before .before .before .before .before .before .before .before .before .before .before .before .before .before .before .before .before .before .before .read-source .ensures .0, lists-cleared (c .before .before .before .before .before .before .before .before .before .before .clear .ensures) (c .before .before .before .before .before .before .clear2 .ensures) (c .before .before .clear3 .ensures) ∙ parts-refused (readProblem (c .before .before .before .before .before .before .before .before .before .before .before .before .before .before .before .before .before .before .before .before .before .before .before .before .before .before .before .before .before .args .source .now)) (c .before .before .before .before .before .before .before .before .before .before .before .before .before .before .before .before .before .before .before .before .before .read-source .result) (c .before .before .before .before .before .before .before .before .before .before .before .before .before .before .before .before .before .before .before .before .before .read-source .ensures .0) (lists (c .before .before .before .before .before .before .before .before .before .before .before .before .before .before .before .before .before .before .before .before .before .before .before .before .before .before .before .before .before .args .kinds .now) (c .before .before .before .before .before .before .before .before .before .before .before .before .before .before .before .before .before .before .before .before .before .before .before .before .before .before .before .before .before .args .lefts .now) (c .before .before .before .before .before .before .before .before .before .before .before .before .before .before .before .before .before .before .before .before .before .before .before .before .before .before .before .before .before .args .rights .now)) _ (c .before .before .before .before .before .before .before .before .before .before .before .before .before .r .given .1) _ _ _ (c .before .before .before .before .before .before .before .before .before .before .before .before .before .before .before .before .before .before .before .before .before .read-source .kept .1 .0) (c .before .before .before .before .before .before .before .before .before .before .before .before .before .before .before .before .before .before .before .before .before .read-source .kept .1 .1 .0) (c .before .before .before .before .before .before .before .before .before .before .before .before .before .before .before .before .before .before .before .before .before .read-source .kept .1 .1 .1 .0))
+returns-2 c =
+    let at-clear3 = c .before .before in
+    let at-clear2 = at-clear3 .before .before .before .before in
+    let at-clear = at-clear2 .before .before .before .before in
+    let at-r = at-clear .before .before .before in
+    let at-read-source = at-r .before .before .before .before .before .before .before .before in
+    let start = at-read-source .before .before .before .before .before .before .before .before in
+    let a = start .args in
+    (sym (at-r .r .given .1) ∙ at-read-source .read-source .ensures .0, lists-cleared (at-clear .clear .ensures) (at-clear2 .clear2 .ensures) (at-clear3 .clear3 .ensures) ∙ parts-refused (readProblem (a .source .now)) (at-read-source .read-source .result) (at-read-source .read-source .ensures .0) (lists (a .kinds .now) (a .lefts .now) (a .rights .now)) _ (at-r .r .given .1) _ _ _ (at-read-source .read-source .kept .1 .0) (at-read-source .read-source .kept .1 .1 .0) (at-read-source .read-source .kept .1 .1 .1 .0))
 
 pub read-spec : {M : Type 1} → statement M
 read-spec =

@@ -1,8 +1,7 @@
 use native.Mathlib.Omega.{arith}
 use mathlib.Core.Path.{sym}
 use lib.Seq.{length-take-le}
-use Rattle.rules.proofs.FieldLaws.{length-line, no-tab, declare-word, rule-word, unknown-word}
-use Rattle.grammar.proofs.Tokens.{past-in}
+use Rattle.rules.proofs.FieldLaws.{tab-in, tab-below, no-tab, declare-word, rule-word, unknown-word}
 use Rattle.grammar.specs.Tree.{lists}
 use Rattle.grammar.specs.Bytes.{notTab, between}
 use borrow.Author.Needs.{needs}
@@ -22,16 +21,34 @@ past-requires : tie.Need-past-requires
 past-requires c κs = search needs
 
 returns : tie.Need-returns
-returns c = no-tab (c .before .before .before .before .before .before .before .before .args .source .now) (c .before .before .before .before .before .before .before .before .args .at) (c .before .before .before .before .before .before .before .before .args .end) (c .before .before .before .before .before .before .before .before .args .line) (c .before .before .before .before .before .before .before .before .args .s) (c .before .before .before .before .before .before .before .before .args .spans .now) (lists (c .before .before .before .before .before .before .before .before .args .ks .now) (c .before .before .before .before .before .before .before .before .args .ls .now) (c .before .before .before .before .before .before .before .before .args .rs .now)) (c .before .past .result) (c .before .past .ensures) (omega (arith, c .if1 .taken))
+returns c =
+    let at-past = c .before in
+    let start = at-past .before .before .before .before .before .before .before in
+    let a = start .args in
+    no-tab (a .source .now) (a .at) (a .end) (a .line) (a .s) (a .spans .now) (lists (a .ks .now) (a .ls .now) (a .rs .now)) (at-past .past .result) (at-past .past .ensures) (omega (arith, c .if1 .taken))
 
 add-start : tie.Need-add-start
-add-start c = let i = past-in notTab (between (c .before .before .before .before .before .before .before .before .args .source .now) (c .before .before .before .before .before .before .before .before .args .at) (c .before .before .before .before .before .before .before .before .args .end)) 0 (omega arith) in let e = c .before .past .ensures in let n = length-line (c .before .before .before .before .before .before .before .before .args .source .now) (c .before .before .before .before .before .before .before .before .args .at) (c .before .before .before .before .before .before .before .before .args .end) (c .before .before .before .before .before .before .before .before .pre .0 .0) (c .before .before .before .before .before .before .before .before .pre .0 .1) in omega (arith, c .if1 .left)
+add-start c =
+    let at-past = c .before in
+    let start = at-past .before .before .before .before .before .before .before in
+    let a = start .args in
+    let i = tab-in (a .source .now) (a .at) (a .end) (at-past .past .result) (at-past .past .ensures) (start .pre .0 .0) (start .pre .0 .1) in
+    omega (arith, i, c .if1 .left)
 
 add-start-2 : tie.Need-add-start-2
-add-start-2 c = let i = past-in notTab (between (c .before .before .before .before .before .before .before .before .args .source .now) (c .before .before .before .before .before .before .before .before .args .at) (c .before .before .before .before .before .before .before .before .args .end)) 0 (omega arith) in let e = c .before .past .ensures in let n = length-line (c .before .before .before .before .before .before .before .before .args .source .now) (c .before .before .before .before .before .before .before .before .args .at) (c .before .before .before .before .before .before .before .before .args .end) (c .before .before .before .before .before .before .before .before .pre .0 .0) (c .before .before .before .before .before .before .before .before .pre .0 .1) in omega (arith, c .if1 .left)
+add-start-2 c =
+    let at-past = c .before in
+    let start = at-past .before .before .before .before .before .before .before in
+    let a = start .args in
+    let i = tab-in (a .source .now) (a .at) (a .end) (at-past .past .result) (at-past .past .ensures) (start .pre .0 .0) (start .pre .0 .1) in
+    omega (arith, i, c .if1 .left)
 
 slice-aggregate-word-of : tie.Need-slice-aggregate-word-of
-slice-aggregate-word-of c = sym (length-take-le (c .before .before .past .result) (between (c .before .before .before .before .before .before .before .before .before .args .source .now) (c .before .before .before .before .before .before .before .before .before .args .at) (c .before .before .before .before .before .before .before .before .before .args .end)) (let i = past-in notTab (between (c .before .before .before .before .before .before .before .before .before .args .source .now) (c .before .before .before .before .before .before .before .before .before .args .at) (c .before .before .before .before .before .before .before .before .before .args .end)) 0 (omega arith) in let e = c .before .before .past .ensures in let n = length-line (c .before .before .before .before .before .before .before .before .before .args .source .now) (c .before .before .before .before .before .before .before .before .before .args .at) (c .before .before .before .before .before .before .before .before .before .args .end) (c .before .before .before .before .before .before .before .before .before .pre .0 .0) (c .before .before .before .before .before .before .before .before .before .pre .0 .1) in omega arith))
+slice-aggregate-word-of c =
+    let at-past = c .before .before in
+    let start = at-past .before .before .before .before .before .before .before in
+    let a = start .args in
+    sym (length-take-le (at-past .past .result) (between (a .source .now) (a .at) (a .end)) (tab-in (a .source .now) (a .at) (a .end) (at-past .past .result) (at-past .past .ensures) (start .pre .0 .0) (start .pre .0 .1) .0))
 
 word-of-requires : tie.Need-word-of-requires
 word-of-requires c κs = search needs
@@ -40,16 +57,35 @@ enum-known-kind : tie.Need-enum-known-kind
 enum-known-kind c = search needs
 
 declare-requires : tie.Need-declare-requires
-declare-requires c κs = let i = past-in notTab (between (c .before .before .before .before .before .before .before .before .before .before .before .before .before .before .args .source .now) (c .before .before .before .before .before .before .before .before .before .before .before .before .before .before .args .at) (c .before .before .before .before .before .before .before .before .before .before .before .before .before .before .args .end)) 0 (omega arith) in let e = c .before .before .before .before .before .before .before .past .ensures in let n = length-line (c .before .before .before .before .before .before .before .before .before .before .before .before .before .before .args .source .now) (c .before .before .before .before .before .before .before .before .before .before .before .before .before .before .args .at) (c .before .before .before .before .before .before .before .before .before .before .before .before .before .before .args .end) (c .before .before .before .before .before .before .before .before .before .before .before .before .before .before .pre .0 .0) (c .before .before .before .before .before .before .before .before .before .before .before .before .before .before .pre .0 .1) in let k = c .before .before .before .before .before .before .before .before .before .before .before .before .before .before .pre .1 in ((omega (arith, c .before .before .before .before .before .before .if1 .left), c .before .before .before .before .before .before .before .before .before .before .before .before .before .before .pre .0 .1), (k .spans-in, (k .outputs-few, k .observed-few, k .hidden-few)))
+declare-requires c κs =
+    let at-if1 = c .before .before .before .before .before .before in
+    let at-past = at-if1 .before in
+    let start = at-past .before .before .before .before .before .before .before in
+    let a = start .args in
+    let i = tab-in (a .source .now) (a .at) (a .end) (at-past .past .result) (at-past .past .ensures) (start .pre .0 .0) (start .pre .0 .1) in
+    let k = start .pre .1 in
+    ((omega (arith, i, at-if1 .if1 .left), start .pre .0 .1), (k .spans-in, (k .outputs-few, k .observed-few, k .hidden-few)))
 
 enum-told : tie.Need-enum-told
 enum-told c = search needs
 
 sub-state : tie.Need-sub-state
-sub-state c = let i = past-in notTab (between (c .before .before .before .before .before .before .before .before .before .before .before .before .before .args .source .now) (c .before .before .before .before .before .before .before .before .before .before .before .before .before .args .at) (c .before .before .before .before .before .before .before .before .before .before .before .before .before .args .end)) 0 (omega arith) in let e = c .before .before .before .before .before .before .past .ensures in let n = length-line (c .before .before .before .before .before .before .before .before .before .before .before .before .before .args .source .now) (c .before .before .before .before .before .before .before .before .before .before .before .before .before .args .at) (c .before .before .before .before .before .before .before .before .before .before .before .before .before .args .end) (c .before .before .before .before .before .before .before .before .before .before .before .before .before .pre .0 .0) (c .before .before .before .before .before .before .before .before .before .before .before .before .before .pre .0 .1) in omega (arith, c .before .before .before .before .before .if1 .left)
+sub-state c =
+    let at-if1 = c .before .before .before .before .before in
+    let at-past = at-if1 .before in
+    let start = at-past .before .before .before .before .before .before .before in
+    let a = start .args in
+    let i = tab-in (a .source .now) (a .at) (a .end) (at-past .past .result) (at-past .past .ensures) (start .pre .0 .0) (start .pre .0 .1) in
+    omega (arith, i, at-if1 .if1 .left)
 
 part-state-start : tie.Need-part-state-start
-part-state-start c = let i = past-in notTab (between (c .before .before .before .before .before .before .before .before .before .before .before .before .before .args .source .now) (c .before .before .before .before .before .before .before .before .before .before .before .before .before .args .at) (c .before .before .before .before .before .before .before .before .before .before .before .before .before .args .end)) 0 (omega arith) in let e = c .before .before .before .before .before .before .past .ensures in let n = length-line (c .before .before .before .before .before .before .before .before .before .before .before .before .before .args .source .now) (c .before .before .before .before .before .before .before .before .before .before .before .before .before .args .at) (c .before .before .before .before .before .before .before .before .before .before .before .before .before .args .end) (c .before .before .before .before .before .before .before .before .before .before .before .before .before .pre .0 .0) (c .before .before .before .before .before .before .before .before .before .before .before .before .before .pre .0 .1) in omega (arith, c .before .before .before .before .before .if1 .left)
+part-state-start c =
+    let at-if1 = c .before .before .before .before .before in
+    let at-past = at-if1 .before in
+    let start = at-past .before .before .before .before .before .before .before in
+    let a = start .args in
+    let i = tab-in (a .source .now) (a .at) (a .end) (at-past .past .result) (at-past .past .ensures) (start .pre .0 .0) (start .pre .0 .1) in
+    omega (arith, i, at-if1 .if1 .left)
 
 part-state-end : tie.Need-part-state-end
 part-state-end c = search needs
@@ -64,7 +100,15 @@ same-length : tie.Need-same-length
 same-length c = search needs
 
 returns-2 : tie.Need-returns-2
-returns-2 c = declare-word (c .before .before .before .before .before .before .before .before .before .before .before .before .before .before .before .before .before .args .source .now) (c .before .before .before .before .before .before .before .before .before .before .before .before .before .before .before .before .before .args .at) (c .before .before .before .before .before .before .before .before .before .before .before .before .before .before .before .before .before .args .end) (c .before .before .before .before .before .before .before .before .before .before .before .before .before .before .before .before .before .args .line) (c .before .before .before .before .before .before .before .before .before .before .before .before .before .before .before .before .before .args .s) (c .before .before .before .before .before .before .before .before .before .before .before .before .before .before .before .before .before .args .spans .now) (lists (c .before .before .before .before .before .before .before .before .before .before .before .before .before .before .before .before .before .args .ks .now) (c .before .before .before .before .before .before .before .before .before .before .before .before .before .before .before .before .before .args .ls .now) (c .before .before .before .before .before .before .before .before .before .before .before .before .before .before .before .before .before .args .rs .now)) (c .before .before .before .before .before .before .before .before .before .before .past .result) (c .before .before .before .before .before .before .before .before .before .before .past .ensures) (let i = past-in notTab (between (c .before .before .before .before .before .before .before .before .before .before .before .before .before .before .before .before .before .args .source .now) (c .before .before .before .before .before .before .before .before .before .before .before .before .before .before .before .before .before .args .at) (c .before .before .before .before .before .before .before .before .before .before .before .before .before .before .before .before .before .args .end)) 0 (omega arith) in let e = c .before .before .before .before .before .before .before .before .before .before .past .ensures in let n = length-line (c .before .before .before .before .before .before .before .before .before .before .before .before .before .before .before .before .before .args .source .now) (c .before .before .before .before .before .before .before .before .before .before .before .before .before .before .before .before .before .args .at) (c .before .before .before .before .before .before .before .before .before .before .before .before .before .before .before .before .before .args .end) (c .before .before .before .before .before .before .before .before .before .before .before .before .before .before .before .before .before .pre .0 .0) (c .before .before .before .before .before .before .before .before .before .before .before .before .before .before .before .before .before .pre .0 .1) in omega (arith, c .before .before .before .before .before .before .before .before .before .if1 .left)) (c .before .before .before .before .before .before .before .word-of .result) (c .before .before .before .before .before .before .before .word-of .ensures) (c .before .before .before .before .before .before .before .before .before .before .before .before .before .before .before .before .before .pre .0 .0) (c .before .before .before .before .before .before .before .before .before .before .before .before .before .before .before .before .before .pre .0 .1) _ (c .before .before .before .before .before .kind .given .1) (c .before .before .declare .ensures .0) (c .before .before .declare .ensures .1)
+returns-2 c =
+    let at-declare = c .before .before in
+    let at-kind = at-declare .before .before .before in
+    let at-word-of = at-kind .before .before in
+    let at-if1 = at-word-of .before .before in
+    let at-past = at-if1 .before in
+    let start = at-past .before .before .before .before .before .before .before in
+    let a = start .args in
+    declare-word (a .source .now) (a .at) (a .end) (a .line) (a .s) (a .spans .now) (lists (a .ks .now) (a .ls .now) (a .rs .now)) (at-past .past .result) (at-past .past .ensures) (tab-below (a .source .now) (a .at) (a .end) (at-past .past .result) (at-past .past .ensures) (at-if1 .if1 .left)) (at-word-of .word-of .result) (at-word-of .word-of .ensures) (start .pre .0 .0) (start .pre .0 .1) _ (at-kind .kind .given .1) (at-declare .declare .ensures .0) (at-declare .declare .ensures .1)
 
 same-length-2 : tie.Need-same-length-2
 same-length-2 c = search needs
@@ -79,10 +123,24 @@ same-length-5 : tie.Need-same-length-5
 same-length-5 c = search needs
 
 returns-3 : tie.Need-returns-3
-returns-3 c = rule-word (c .before .before .before .before .before .before .before .before .before .before .before .before .before .before .before .before .before .before .before .before .before .before .before .before .args .source .now) (c .before .before .before .before .before .before .before .before .before .before .before .before .before .before .before .before .before .before .before .before .before .before .before .before .args .at) (c .before .before .before .before .before .before .before .before .before .before .before .before .before .before .before .before .before .before .before .before .before .before .before .before .args .end) (c .before .before .before .before .before .before .before .before .before .before .before .before .before .before .before .before .before .before .before .before .before .before .before .before .args .line) (c .before .before .before .before .before .before .before .before .before .before .before .before .before .before .before .before .before .before .before .before .before .before .before .before .args .s) (c .before .before .before .before .before .before .before .before .before .before .before .before .before .before .before .before .before .before .before .before .before .before .before .before .args .spans .now) (lists (c .before .before .before .before .before .before .before .before .before .before .before .before .before .before .before .before .before .before .before .before .before .before .before .before .args .ks .now) (c .before .before .before .before .before .before .before .before .before .before .before .before .before .before .before .before .before .before .before .before .before .before .before .before .args .ls .now) (c .before .before .before .before .before .before .before .before .before .before .before .before .before .before .before .before .before .before .before .before .before .before .before .before .args .rs .now)) (c .before .before .before .before .before .before .before .before .before .before .before .before .before .before .before .before .before .past .result) (c .before .before .before .before .before .before .before .before .before .before .before .before .before .before .before .before .before .past .ensures) (let i = past-in notTab (between (c .before .before .before .before .before .before .before .before .before .before .before .before .before .before .before .before .before .before .before .before .before .before .before .before .args .source .now) (c .before .before .before .before .before .before .before .before .before .before .before .before .before .before .before .before .before .before .before .before .before .before .before .before .args .at) (c .before .before .before .before .before .before .before .before .before .before .before .before .before .before .before .before .before .before .before .before .before .before .before .before .args .end)) 0 (omega arith) in let e = c .before .before .before .before .before .before .before .before .before .before .before .before .before .before .before .before .before .past .ensures in let n = length-line (c .before .before .before .before .before .before .before .before .before .before .before .before .before .before .before .before .before .before .before .before .before .before .before .before .args .source .now) (c .before .before .before .before .before .before .before .before .before .before .before .before .before .before .before .before .before .before .before .before .before .before .before .before .args .at) (c .before .before .before .before .before .before .before .before .before .before .before .before .before .before .before .before .before .before .before .before .before .before .before .before .args .end) (c .before .before .before .before .before .before .before .before .before .before .before .before .before .before .before .before .before .before .before .before .before .before .before .before .pre .0 .0) (c .before .before .before .before .before .before .before .before .before .before .before .before .before .before .before .before .before .before .before .before .before .before .before .before .pre .0 .1) in omega (arith, c .before .before .before .before .before .before .before .before .before .before .before .before .before .before .before .before .if1 .left)) (c .before .before .before .before .before .before .before .before .before .before .before .before .before .before .word-of .result) (c .before .before .before .before .before .before .before .before .before .before .before .before .before .before .word-of .ensures) (c .before .before .before .before .before .before .before .before .before .before .before .before .before .before .before .before .before .before .before .before .before .before .before .before .pre .0 .0) (c .before .before .before .before .before .before .before .before .before .before .before .before .before .before .before .before .before .before .before .before .before .before .before .before .pre .0 .1) (c .before .before .before .before .before .before .before .before .before .before .before .before .enum-told .given .1) (c .before .before .before .before .before .before .state .ensures .0) (c .before .before .before .before .before .before .state .ensures .1)
+returns-3 c =
+    let at-state = c .before .before .before .before .before .before in
+    let at-enum-told = at-state .before .before .before .before .before .before in
+    let at-word-of = at-enum-told .before .before in
+    let at-if1 = at-word-of .before .before in
+    let at-past = at-if1 .before in
+    let start = at-past .before .before .before .before .before .before .before in
+    let a = start .args in
+    rule-word (a .source .now) (a .at) (a .end) (a .line) (a .s) (a .spans .now) (lists (a .ks .now) (a .ls .now) (a .rs .now)) (at-past .past .result) (at-past .past .ensures) (tab-below (a .source .now) (a .at) (a .end) (at-past .past .result) (at-past .past .ensures) (at-if1 .if1 .left)) (at-word-of .word-of .result) (at-word-of .word-of .ensures) (start .pre .0 .0) (start .pre .0 .1) (at-enum-told .enum-told .given .1) (at-state .state .ensures .0) (at-state .state .ensures .1)
 
 returns-4 : tie.Need-returns-4
-returns-4 c = unknown-word (c .before .before .before .before .before .before .before .before .before .before .before .before .args .source .now) (c .before .before .before .before .before .before .before .before .before .before .before .before .args .at) (c .before .before .before .before .before .before .before .before .before .before .before .before .args .end) (c .before .before .before .before .before .before .before .before .before .before .before .before .args .line) (c .before .before .before .before .before .before .before .before .before .before .before .before .args .s) (c .before .before .before .before .before .before .before .before .before .before .before .before .args .spans .now) (lists (c .before .before .before .before .before .before .before .before .before .before .before .before .args .ks .now) (c .before .before .before .before .before .before .before .before .before .before .before .before .args .ls .now) (c .before .before .before .before .before .before .before .before .before .before .before .before .args .rs .now)) (c .before .before .before .before .before .past .result) (c .before .before .before .before .before .past .ensures) (let i = past-in notTab (between (c .before .before .before .before .before .before .before .before .before .before .before .before .args .source .now) (c .before .before .before .before .before .before .before .before .before .before .before .before .args .at) (c .before .before .before .before .before .before .before .before .before .before .before .before .args .end)) 0 (omega arith) in let e = c .before .before .before .before .before .past .ensures in let n = length-line (c .before .before .before .before .before .before .before .before .before .before .before .before .args .source .now) (c .before .before .before .before .before .before .before .before .before .before .before .before .args .at) (c .before .before .before .before .before .before .before .before .before .before .before .before .args .end) (c .before .before .before .before .before .before .before .before .before .before .before .before .pre .0 .0) (c .before .before .before .before .before .before .before .before .before .before .before .before .pre .0 .1) in omega (arith, c .before .before .before .before .if1 .left)) (c .before .before .word-of .result) (c .before .before .word-of .ensures) (c .enum-told2 .given .1)
+returns-4 c =
+    let at-word-of = c .before .before in
+    let at-if1 = at-word-of .before .before in
+    let at-past = at-if1 .before in
+    let start = at-past .before .before .before .before .before .before .before in
+    let a = start .args in
+    unknown-word (a .source .now) (a .at) (a .end) (a .line) (a .s) (a .spans .now) (lists (a .ks .now) (a .ls .now) (a .rs .now)) (at-past .past .result) (at-past .past .ensures) (tab-below (a .source .now) (a .at) (a .end) (at-past .past .result) (at-past .past .ensures) (at-if1 .if1 .left)) (at-word-of .word-of .result) (at-word-of .word-of .ensures) (c .enum-told2 .given .1)
 
 pub read-line-spec : {M : Type 1} → statement M
 read-line-spec =

@@ -15,7 +15,10 @@ abbrev μ-loop : tie.MeasureT-loop
 μ-loop source ks₀ ls₀ rs₀ spans₀ s₀ at₀ line₀ ks ls rs spans s at line = length source - at
 
 loop-holds : tie.Need-loop-holds Inv-loop μ-loop
-loop-holds c = begin _ (lists (c .before .before .before .before .args .ks .now) (c .before .before .before .before .args .ls .now) (c .before .before .before .before .args .rs .now)) (c .before .before .before .before .pre .1 .0) (c .before .before .before .before .pre .1 .1) (c .before .before .before .before .pre .1 .2)
+loop-holds c =
+    let start = c .before .before .before .before in
+    let a = start .args in
+    begin _ (lists (a .ks .now) (a .ls .now) (a .rs .now)) (start .pre .1 .0) (start .pre .1 .1) (start .pre .1 .2)
 
 past-requires : tie.Need-past-requires Inv-loop μ-loop
 past-requires c κs = c .before .loop .inv .inside
@@ -30,13 +33,25 @@ same-length-3 : tie.Need-same-length-3 Inv-loop μ-loop
 same-length-3 c = (c .before .before .before .loop .inv .kept .rights-long) ∙ sym (c .before .before .before .before .before .before .before .before .pre .1 .2)
 
 returns : tie.Need-returns Inv-loop μ-loop
-returns c = refused-answer _ _ _ _ (unended-line (c .before .before .before .before .before .before .before .before .args .source .now) (lists (c .before .before .before .before .before .before .before .before .args .ks .now) (c .before .before .before .before .before .before .before .before .args .ls .now) (c .before .before .before .before .before .before .before .before .args .rs .now)) (c .before .before .before .loop .at) (c .before .before .before .loop .line) (c .before .before .before .loop .s) (c .before .before .before .loop .spans) (lists (c .before .before .before .loop .ks) (c .before .before .before .loop .ls) (c .before .before .before .loop .rs)) (c .before .before .before .loop .inv) (c .before .past .result) (c .before .past .ensures) (omega arith) (c .if1 .taken))
+returns c =
+    let at-past = c .before in
+    let at-loop = at-past .before .before in
+    let start = at-loop .before .before .before .before .before in
+    let a = start .args in
+    let l = at-loop .loop in
+    refused-answer _ _ _ _ (unended-line (a .source .now) (lists (a .ks .now) (a .ls .now) (a .rs .now)) (l .at) (l .line) (l .s) (l .spans) (lists (l .ks) (l .ls) (l .rs)) (l .inv) (at-past .past .result) (at-past .past .ensures) (omega arith) (c .if1 .taken))
 
 slice-aggregate-read-line : tie.Need-slice-aggregate-read-line Inv-loop μ-loop
 slice-aggregate-read-line c = sym (c .before .before .before .before .loop .inv .kept .spans-in .all)
 
 read-line-requires : tie.Need-read-line-requires Inv-loop μ-loop
-read-line-requires c κs = (line-in (c .before .before .before .before .before .before .before .before .before .before .before .before .args .source .now) (lists (c .before .before .before .before .before .before .before .before .before .before .before .before .args .ks .now) (c .before .before .before .before .before .before .before .before .before .before .before .before .args .ls .now) (c .before .before .before .before .before .before .before .before .before .before .before .before .args .rs .now)) (c .before .before .before .before .before .before .before .loop .at) (c .before .before .before .before .before .before .before .loop .line) (c .before .before .before .before .before .before .before .loop .s) (c .before .before .before .before .before .before .before .loop .spans) (lists (c .before .before .before .before .before .before .before .loop .ks) (c .before .before .before .before .before .before .before .loop .ls) (c .before .before .before .before .before .before .before .loop .rs)) (c .before .before .before .before .before .before .before .loop .inv) (c .before .before .before .before .before .past .result) (c .before .before .before .before .before .past .ensures) (omega arith), c .before .before .before .before .before .before .before .loop .inv .kept)
+read-line-requires c κs =
+    let at-past = c .before .before .before .before .before in
+    let at-loop = at-past .before .before in
+    let start = at-loop .before .before .before .before .before in
+    let a = start .args in
+    let l = at-loop .loop in
+    (line-in (a .source .now) (lists (a .ks .now) (a .ls .now) (a .rs .now)) (l .at) (l .line) (l .s) (l .spans) (lists (l .ks) (l .ls) (l .rs)) (l .inv) (at-past .past .result) (at-past .past .ensures) (omega arith), l .inv .kept)
 
 enum-known-t : tie.Need-enum-known-t Inv-loop μ-loop
 enum-known-t c = search needs
@@ -45,28 +60,85 @@ enum-known-r : tie.Need-enum-known-r Inv-loop μ-loop
 enum-known-r c = search needs
 
 same-length-4 : tie.Need-same-length-4 Inv-loop μ-loop
-same-length-4 c = c .before .before .before .before .before .before .before .before .before .before .read-line .kept .1 .1 .1 .1 .1 .1 .0 ∙ (c .before .before .before .before .before .before .before .before .before .before .before .before .before .before .before .before .before .before .loop .inv .kept .kinds-long) ∙ sym (c .before .before .before .before .before .before .before .before .before .before .before .before .before .before .before .before .before .before .before .before .before .before .before .pre .1 .0)
+same-length-4 c =
+    let at-read-line = c .before .before .before .before .before .before .before .before .before .before in
+    let at-loop = at-read-line .before .before .before .before .before .before .before .before in
+    let start = at-loop .before .before .before .before .before in
+    let l = at-loop .loop in
+    at-read-line .read-line .kept .1 .1 .1 .1 .1 .1 .0 ∙ (l .inv .kept .kinds-long) ∙ sym (start .pre .1 .0)
 
 same-length-5 : tie.Need-same-length-5 Inv-loop μ-loop
-same-length-5 c = c .before .before .before .before .before .before .before .before .before .before .read-line .kept .1 .1 .1 .1 .1 .1 .1 .0 ∙ (c .before .before .before .before .before .before .before .before .before .before .before .before .before .before .before .before .before .before .loop .inv .kept .lefts-long) ∙ sym (c .before .before .before .before .before .before .before .before .before .before .before .before .before .before .before .before .before .before .before .before .before .before .before .pre .1 .1)
+same-length-5 c =
+    let at-read-line = c .before .before .before .before .before .before .before .before .before .before in
+    let at-loop = at-read-line .before .before .before .before .before .before .before .before in
+    let start = at-loop .before .before .before .before .before in
+    let l = at-loop .loop in
+    at-read-line .read-line .kept .1 .1 .1 .1 .1 .1 .1 .0 ∙ (l .inv .kept .lefts-long) ∙ sym (start .pre .1 .1)
 
 same-length-6 : tie.Need-same-length-6 Inv-loop μ-loop
-same-length-6 c = c .before .before .before .before .before .before .before .before .before .before .read-line .kept .1 .1 .1 .1 .1 .1 .1 .1 .0 ∙ (c .before .before .before .before .before .before .before .before .before .before .before .before .before .before .before .before .before .before .loop .inv .kept .rights-long) ∙ sym (c .before .before .before .before .before .before .before .before .before .before .before .before .before .before .before .before .before .before .before .before .before .before .before .pre .1 .2)
+same-length-6 c =
+    let at-read-line = c .before .before .before .before .before .before .before .before .before .before in
+    let at-loop = at-read-line .before .before .before .before .before .before .before .before in
+    let start = at-loop .before .before .before .before .before in
+    let l = at-loop .loop in
+    at-read-line .read-line .kept .1 .1 .1 .1 .1 .1 .1 .1 .0 ∙ (l .inv .kept .rights-long) ∙ sym (start .pre .1 .2)
 
 returns-2 : tie.Need-returns-2 Inv-loop μ-loop
-returns-2 c = let b = line-in (c .before .before .before .before .before .before .before .before .before .before .before .before .before .before .before .before .before .before .before .before .before .before .before .args .source .now) (lists (c .before .before .before .before .before .before .before .before .before .before .before .before .before .before .before .before .before .before .before .before .before .before .before .args .ks .now) (c .before .before .before .before .before .before .before .before .before .before .before .before .before .before .before .before .before .before .before .before .before .before .before .args .ls .now) (c .before .before .before .before .before .before .before .before .before .before .before .before .before .before .before .before .before .before .before .before .before .before .before .args .rs .now)) (c .before .before .before .before .before .before .before .before .before .before .before .before .before .before .before .before .before .before .loop .at) (c .before .before .before .before .before .before .before .before .before .before .before .before .before .before .before .before .before .before .loop .line) (c .before .before .before .before .before .before .before .before .before .before .before .before .before .before .before .before .before .before .loop .s) (c .before .before .before .before .before .before .before .before .before .before .before .before .before .before .before .before .before .before .loop .spans) (lists (c .before .before .before .before .before .before .before .before .before .before .before .before .before .before .before .before .before .before .loop .ks) (c .before .before .before .before .before .before .before .before .before .before .before .before .before .before .before .before .before .before .loop .ls) (c .before .before .before .before .before .before .before .before .before .before .before .before .before .before .before .before .before .before .loop .rs)) (c .before .before .before .before .before .before .before .before .before .before .before .before .before .before .before .before .before .before .loop .inv) (c .before .before .before .before .before .before .before .before .before .before .before .before .before .before .before .before .past .result) (c .before .before .before .before .before .before .before .before .before .before .before .before .before .before .before .before .past .ensures) (omega arith) in refused-answer _ _ _ _ (refused-line (c .before .before .before .before .before .before .before .before .before .before .before .before .before .before .before .before .before .before .before .before .before .before .before .args .source .now) (lists (c .before .before .before .before .before .before .before .before .before .before .before .before .before .before .before .before .before .before .before .before .before .before .before .args .ks .now) (c .before .before .before .before .before .before .before .before .before .before .before .before .before .before .before .before .before .before .before .before .before .before .before .args .ls .now) (c .before .before .before .before .before .before .before .before .before .before .before .before .before .before .before .before .before .before .before .before .before .before .before .args .rs .now)) (c .before .before .before .before .before .before .before .before .before .before .before .before .before .before .before .before .before .before .loop .at) (c .before .before .before .before .before .before .before .before .before .before .before .before .before .before .before .before .before .before .loop .line) (c .before .before .before .before .before .before .before .before .before .before .before .before .before .before .before .before .before .before .loop .s) (c .before .before .before .before .before .before .before .before .before .before .before .before .before .before .before .before .before .before .loop .spans) (lists (c .before .before .before .before .before .before .before .before .before .before .before .before .before .before .before .before .before .before .loop .ks) (c .before .before .before .before .before .before .before .before .before .before .before .before .before .before .before .before .before .before .loop .ls) (c .before .before .before .before .before .before .before .before .before .before .before .before .before .before .before .before .before .before .loop .rs)) (c .before .before .before .before .before .before .before .before .before .before .before .before .before .before .before .before .before .before .loop .inv) (c .before .before .before .before .before .before .before .before .before .before .before .before .before .before .before .before .past .result) (c .before .before .before .before .before .before .before .before .before .before .before .before .before .before .before .before .past .ensures) (omega arith) (omega (arith, b, c .before .before .before .before .before .before .before .before .before .before .before .before .before .before .before .if1 .left)) (c .before .before .before .before .before .before .before .before .before .before .read-line .ensures) _ (c .before .r .given .1))
+returns-2 c =
+    let at-r = c .before in
+    let at-read-line = at-r .before .before .before .before .before .before .before .before .before in
+    let at-if1 = at-read-line .before .before .before .before .before in
+    let at-past = at-if1 .before in
+    let at-loop = at-past .before .before in
+    let start = at-loop .before .before .before .before .before in
+    let a = start .args in
+    let l = at-loop .loop in
+    let b = line-in (a .source .now) (lists (a .ks .now) (a .ls .now) (a .rs .now)) (l .at) (l .line) (l .s) (l .spans) (lists (l .ks) (l .ls) (l .rs)) (l .inv) (at-past .past .result) (at-past .past .ensures) (omega arith) in
+    refused-answer _ _ _ _ (refused-line (a .source .now) (lists (a .ks .now) (a .ls .now) (a .rs .now)) (l .at) (l .line) (l .s) (l .spans) (lists (l .ks) (l .ls) (l .rs)) (l .inv) (at-past .past .result) (at-past .past .ensures) (omega arith) (omega (arith, b, at-if1 .if1 .left)) (at-read-line .read-line .ensures) _ (at-r .r .given .1))
 
 add-at : tie.Need-add-at Inv-loop μ-loop
-add-at c = let b = line-in (c .before .before .before .before .before .before .before .before .before .before .before .before .before .before .before .before .before .before .before .before .before .before .before .args .source .now) (lists (c .before .before .before .before .before .before .before .before .before .before .before .before .before .before .before .before .before .before .before .before .before .before .before .args .ks .now) (c .before .before .before .before .before .before .before .before .before .before .before .before .before .before .before .before .before .before .before .before .before .before .before .args .ls .now) (c .before .before .before .before .before .before .before .before .before .before .before .before .before .before .before .before .before .before .before .before .before .before .before .args .rs .now)) (c .before .before .before .before .before .before .before .before .before .before .before .before .before .before .before .before .before .before .loop .at) (c .before .before .before .before .before .before .before .before .before .before .before .before .before .before .before .before .before .before .loop .line) (c .before .before .before .before .before .before .before .before .before .before .before .before .before .before .before .before .before .before .loop .s) (c .before .before .before .before .before .before .before .before .before .before .before .before .before .before .before .before .before .before .loop .spans) (lists (c .before .before .before .before .before .before .before .before .before .before .before .before .before .before .before .before .before .before .loop .ks) (c .before .before .before .before .before .before .before .before .before .before .before .before .before .before .before .before .before .before .loop .ls) (c .before .before .before .before .before .before .before .before .before .before .before .before .before .before .before .before .before .before .loop .rs)) (c .before .before .before .before .before .before .before .before .before .before .before .before .before .before .before .before .before .before .loop .inv) (c .before .before .before .before .before .before .before .before .before .before .before .before .before .before .before .before .past .result) (c .before .before .before .before .before .before .before .before .before .before .before .before .before .before .before .before .past .ensures) (omega arith) in omega (arith, b)
+add-at c =
+    let at-past = c .before .before .before .before .before .before .before .before .before .before .before .before .before .before .before .before in
+    let at-loop = at-past .before .before in
+    let start = at-loop .before .before .before .before .before in
+    let a = start .args in
+    let l = at-loop .loop in
+    let b = line-in (a .source .now) (lists (a .ks .now) (a .ls .now) (a .rs .now)) (l .at) (l .line) (l .s) (l .spans) (lists (l .ks) (l .ls) (l .rs)) (l .inv) (at-past .past .result) (at-past .past .ensures) (omega arith) in
+    omega (arith, b)
 
 add-line : tie.Need-add-line Inv-loop μ-loop
-add-line c = let b = line-in (c .before .before .before .before .before .before .before .before .before .before .before .before .before .before .before .before .before .before .before .before .before .before .before .args .source .now) (lists (c .before .before .before .before .before .before .before .before .before .before .before .before .before .before .before .before .before .before .before .before .before .before .before .args .ks .now) (c .before .before .before .before .before .before .before .before .before .before .before .before .before .before .before .before .before .before .before .before .before .before .before .args .ls .now) (c .before .before .before .before .before .before .before .before .before .before .before .before .before .before .before .before .before .before .before .before .before .before .before .args .rs .now)) (c .before .before .before .before .before .before .before .before .before .before .before .before .before .before .before .before .before .before .loop .at) (c .before .before .before .before .before .before .before .before .before .before .before .before .before .before .before .before .before .before .loop .line) (c .before .before .before .before .before .before .before .before .before .before .before .before .before .before .before .before .before .before .loop .s) (c .before .before .before .before .before .before .before .before .before .before .before .before .before .before .before .before .before .before .loop .spans) (lists (c .before .before .before .before .before .before .before .before .before .before .before .before .before .before .before .before .before .before .loop .ks) (c .before .before .before .before .before .before .before .before .before .before .before .before .before .before .before .before .before .before .loop .ls) (c .before .before .before .before .before .before .before .before .before .before .before .before .before .before .before .before .before .before .loop .rs)) (c .before .before .before .before .before .before .before .before .before .before .before .before .before .before .before .before .before .before .loop .inv) (c .before .before .before .before .before .before .before .before .before .before .before .before .before .before .before .before .past .result) (c .before .before .before .before .before .before .before .before .before .before .before .before .before .before .before .before .past .ensures) (omega arith) in omega (arith, c .before .before .before .before .before .before .before .before .before .before .before .before .before .before .before .before .before .before .loop .inv .numbered, c .before .before .before .before .before .before .before .before .before .before .before .before .before .before .before .before .before .before .loop .inv .inside, c .before .before .before .before .before .before .before .before .before .before .before .before .before .before .before .before .before .before .before .before .before .before .before .pre .0)
+add-line c =
+    let at-past = c .before .before .before .before .before .before .before .before .before .before .before .before .before .before .before .before in
+    let at-loop = at-past .before .before in
+    let start = at-loop .before .before .before .before .before in
+    let a = start .args in
+    let l = at-loop .loop in
+    let b = line-in (a .source .now) (lists (a .ks .now) (a .ls .now) (a .rs .now)) (l .at) (l .line) (l .s) (l .spans) (lists (l .ks) (l .ls) (l .rs)) (l .inv) (at-past .past .result) (at-past .past .ensures) (omega arith) in
+    omega (arith, l .inv .numbered, l .inv .inside, start .pre .0)
 
 loop-less : tie.Need-loop-less Inv-loop μ-loop
-loop-less c = let b = line-in (c .before .before .before .before .before .before .before .before .before .before .before .before .before .before .before .before .before .before .before .before .before .before .before .args .source .now) (lists (c .before .before .before .before .before .before .before .before .before .before .before .before .before .before .before .before .before .before .before .before .before .before .before .args .ks .now) (c .before .before .before .before .before .before .before .before .before .before .before .before .before .before .before .before .before .before .before .before .before .before .before .args .ls .now) (c .before .before .before .before .before .before .before .before .before .before .before .before .before .before .before .before .before .before .before .before .before .before .before .args .rs .now)) (c .before .before .before .before .before .before .before .before .before .before .before .before .before .before .before .before .before .before .loop .at) (c .before .before .before .before .before .before .before .before .before .before .before .before .before .before .before .before .before .before .loop .line) (c .before .before .before .before .before .before .before .before .before .before .before .before .before .before .before .before .before .before .loop .s) (c .before .before .before .before .before .before .before .before .before .before .before .before .before .before .before .before .before .before .loop .spans) (lists (c .before .before .before .before .before .before .before .before .before .before .before .before .before .before .before .before .before .before .loop .ks) (c .before .before .before .before .before .before .before .before .before .before .before .before .before .before .before .before .before .before .loop .ls) (c .before .before .before .before .before .before .before .before .before .before .before .before .before .before .before .before .before .before .loop .rs)) (c .before .before .before .before .before .before .before .before .before .before .before .before .before .before .before .before .before .before .loop .inv) (c .before .before .before .before .before .before .before .before .before .before .before .before .before .before .before .before .past .result) (c .before .before .before .before .before .before .before .before .before .before .before .before .before .before .before .before .past .ensures) (omega arith) in omega (arith, b, c .before .before .before .before .before .before .before .before .before .before .before .before .before .before .before .if1 .left)
+loop-less c =
+    let at-if1 = c .before .before .before .before .before .before .before .before .before .before .before .before .before .before .before in
+    let at-past = at-if1 .before in
+    let at-loop = at-past .before .before in
+    let start = at-loop .before .before .before .before .before in
+    let a = start .args in
+    let l = at-loop .loop in
+    let b = line-in (a .source .now) (lists (a .ks .now) (a .ls .now) (a .rs .now)) (l .at) (l .line) (l .s) (l .spans) (lists (l .ks) (l .ls) (l .rs)) (l .inv) (at-past .past .result) (at-past .past .ensures) (omega arith) in
+    omega (arith, b, at-if1 .if1 .left)
 
 loop-again : tie.Need-loop-again Inv-loop μ-loop
-loop-again c = let b = line-in (c .before .before .before .before .before .before .before .before .before .before .before .before .before .before .before .before .before .before .before .before .before .before .before .args .source .now) (lists (c .before .before .before .before .before .before .before .before .before .before .before .before .before .before .before .before .before .before .before .before .before .before .before .args .ks .now) (c .before .before .before .before .before .before .before .before .before .before .before .before .before .before .before .before .before .before .before .before .before .before .before .args .ls .now) (c .before .before .before .before .before .before .before .before .before .before .before .before .before .before .before .before .before .before .before .before .before .before .before .args .rs .now)) (c .before .before .before .before .before .before .before .before .before .before .before .before .before .before .before .before .before .before .loop .at) (c .before .before .before .before .before .before .before .before .before .before .before .before .before .before .before .before .before .before .loop .line) (c .before .before .before .before .before .before .before .before .before .before .before .before .before .before .before .before .before .before .loop .s) (c .before .before .before .before .before .before .before .before .before .before .before .before .before .before .before .before .before .before .loop .spans) (lists (c .before .before .before .before .before .before .before .before .before .before .before .before .before .before .before .before .before .before .loop .ks) (c .before .before .before .before .before .before .before .before .before .before .before .before .before .before .before .before .before .before .loop .ls) (c .before .before .before .before .before .before .before .before .before .before .before .before .before .before .before .before .before .before .loop .rs)) (c .before .before .before .before .before .before .before .before .before .before .before .before .before .before .before .before .before .before .loop .inv) (c .before .before .before .before .before .before .before .before .before .before .before .before .before .before .before .before .past .result) (c .before .before .before .before .before .before .before .before .before .before .before .before .before .before .before .before .past .ensures) (omega arith) in accepted-line (c .before .before .before .before .before .before .before .before .before .before .before .before .before .before .before .before .before .before .before .before .before .before .before .args .source .now) (lists (c .before .before .before .before .before .before .before .before .before .before .before .before .before .before .before .before .before .before .before .before .before .before .before .args .ks .now) (c .before .before .before .before .before .before .before .before .before .before .before .before .before .before .before .before .before .before .before .before .before .before .before .args .ls .now) (c .before .before .before .before .before .before .before .before .before .before .before .before .before .before .before .before .before .before .before .before .before .before .before .args .rs .now)) (c .before .before .before .before .before .before .before .before .before .before .before .before .before .before .before .before .before .before .loop .at) (c .before .before .before .before .before .before .before .before .before .before .before .before .before .before .before .before .before .before .loop .line) (c .before .before .before .before .before .before .before .before .before .before .before .before .before .before .before .before .before .before .loop .s) (c .before .before .before .before .before .before .before .before .before .before .before .before .before .before .before .before .before .before .loop .spans) (lists (c .before .before .before .before .before .before .before .before .before .before .before .before .before .before .before .before .before .before .loop .ks) (c .before .before .before .before .before .before .before .before .before .before .before .before .before .before .before .before .before .before .loop .ls) (c .before .before .before .before .before .before .before .before .before .before .before .before .before .before .before .before .before .before .loop .rs)) (c .before .before .before .before .before .before .before .before .before .before .before .before .before .before .before .before .before .before .loop .inv) (c .before .before .before .before .before .before .before .before .before .before .before .before .before .before .before .before .past .result) (c .before .before .before .before .before .before .before .before .before .before .before .before .before .before .before .before .past .ensures) (omega arith) (omega (arith, b, c .before .before .before .before .before .before .before .before .before .before .before .before .before .before .before .if1 .left)) (c .before .before .before .before .before .before .before .before .before .before .read-line .ensures) _ (c .before .t .given .1)
+loop-again c =
+    let at-t = c .before in
+    let at-read-line = at-t .before .before .before .before .before .before .before .before .before in
+    let at-if1 = at-read-line .before .before .before .before .before in
+    let at-past = at-if1 .before in
+    let at-loop = at-past .before .before in
+    let start = at-loop .before .before .before .before .before in
+    let a = start .args in
+    let l = at-loop .loop in
+    let b = line-in (a .source .now) (lists (a .ks .now) (a .ls .now) (a .rs .now)) (l .at) (l .line) (l .s) (l .spans) (lists (l .ks) (l .ls) (l .rs)) (l .inv) (at-past .past .result) (at-past .past .ensures) (omega arith) in
+    accepted-line (a .source .now) (lists (a .ks .now) (a .ls .now) (a .rs .now)) (l .at) (l .line) (l .s) (l .spans) (lists (l .ks) (l .ls) (l .rs)) (l .inv) (at-past .past .result) (at-past .past .ensures) (omega arith) (omega (arith, b, at-if1 .if1 .left)) (at-read-line .read-line .ensures) _ (at-t .t .given .1)
 
 same-length-7 : tie.Need-same-length-7 Inv-loop μ-loop
 same-length-7 c = (c .before .before .before .loop .inv .kept .kinds-long) ∙ sym (c .before .before .before .before .before .before .before .before .pre .1 .0)
@@ -78,7 +150,13 @@ same-length-9 : tie.Need-same-length-9 Inv-loop μ-loop
 same-length-9 c = (c .before .before .before .loop .inv .kept .rights-long) ∙ sym (c .before .before .before .before .before .before .before .before .pre .1 .2)
 
 returns-3 : tie.Need-returns-3 Inv-loop μ-loop
-returns-3 c = refused-answer _ _ _ _ (no-formula (c .before .before .before .before .before .before .before .before .args .source .now) (lists (c .before .before .before .before .before .before .before .before .args .ks .now) (c .before .before .before .before .before .before .before .before .args .ls .now) (c .before .before .before .before .before .before .before .before .args .rs .now)) (c .before .before .before .loop .at) (c .before .before .before .loop .line) (c .before .before .before .loop .s) (c .before .before .before .loop .spans) (lists (c .before .before .before .loop .ks) (c .before .before .before .loop .ls) (c .before .before .before .loop .rs)) (c .before .before .before .loop .inv) (c .before .before .loop-test .left) (c .if2 .taken))
+returns-3 c =
+    let at-loop-test = c .before .before in
+    let at-loop = at-loop-test .before in
+    let start = at-loop .before .before .before .before .before in
+    let a = start .args in
+    let l = at-loop .loop in
+    refused-answer _ _ _ _ (no-formula (a .source .now) (lists (a .ks .now) (a .ls .now) (a .rs .now)) (l .at) (l .line) (l .s) (l .spans) (lists (l .ks) (l .ls) (l .rs)) (l .inv) (at-loop-test .loop-test .left) (c .if2 .taken))
 
 same-length-10 : tie.Need-same-length-10 Inv-loop μ-loop
 same-length-10 c = (c .before .before .before .loop .inv .kept .kinds-long) ∙ sym (c .before .before .before .before .before .before .before .before .pre .1 .0)
@@ -90,7 +168,13 @@ same-length-12 : tie.Need-same-length-12 Inv-loop μ-loop
 same-length-12 c = (c .before .before .before .loop .inv .kept .rights-long) ∙ sym (c .before .before .before .before .before .before .before .before .pre .1 .2)
 
 returns-4 : tie.Need-returns-4 Inv-loop μ-loop
-returns-4 c = some-formula (c .before .before .before .before .before .before .before .before .args .source .now) (lists (c .before .before .before .before .before .before .before .before .args .ks .now) (c .before .before .before .before .before .before .before .before .args .ls .now) (c .before .before .before .before .before .before .before .before .args .rs .now)) (c .before .before .before .loop .at) (c .before .before .before .loop .line) (c .before .before .before .loop .s) (c .before .before .before .loop .spans) (lists (c .before .before .before .loop .ks) (c .before .before .before .loop .ls) (c .before .before .before .loop .rs)) (c .before .before .before .loop .inv) (c .before .before .loop-test .left) (c .if2 .left)
+returns-4 c =
+    let at-loop-test = c .before .before in
+    let at-loop = at-loop-test .before in
+    let start = at-loop .before .before .before .before .before in
+    let a = start .args in
+    let l = at-loop .loop in
+    some-formula (a .source .now) (lists (a .ks .now) (a .ls .now) (a .rs .now)) (l .at) (l .line) (l .s) (l .spans) (lists (l .ks) (l .ls) (l .rs)) (l .inv) (at-loop-test .loop-test .left) (c .if2 .left)
 
 pub read-lines-spec : {M : Type 1} → statement M
 read-lines-spec =

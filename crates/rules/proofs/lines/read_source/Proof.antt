@@ -23,7 +23,12 @@ same-length-3 : tie.Need-same-length-3
 same-length-3 c = search needs
 
 returns-2 : tie.Need-returns-2
-returns-2 c = let e = short-source (c .before .before .before .before .before .before .before .before .before .before .before .before .before .before .before .args .source .now) (omega arith) in let a = c .before .before .before .before .before .before .read-lines .ensures .0 in let b = c .before .before .before .before .before .before .read-lines .ensures .1 in (a ∙ ap readingOf e, subst (λ o. PartsRead o (lists (c .before .before .before .before .before .before .before .before .before .before .before .before .before .before .before .args .ks .now) (c .before .before .before .before .before .before .before .before .before .before .before .before .before .before .before .args .ls .now) (c .before .before .before .before .before .before .before .before .before .before .before .before .before .before .before .args .rs .now)) (lists (c .before .before .before .before .before .before .read-lines .last .1 .0) (c .before .before .before .before .before .before .read-lines .last .1 .1 .0) (c .before .before .before .before .before .before .read-lines .last .1 .1 .1 .0))) e b)
+returns-2 c =
+    let at-read-lines = c .before .before .before .before .before .before in
+    let start = at-read-lines .before .before .before .before .before .before .before .before .before in
+    let a = start .args in
+    let e = short-source (a .source .now) (omega arith) in
+    (at-read-lines .read-lines .ensures .0 ∙ ap readingOf e, subst (λ o. PartsRead o (lists (a .ks .now) (a .ls .now) (a .rs .now)) (lists (at-read-lines .read-lines .last .1 .0) (at-read-lines .read-lines .last .1 .1 .0) (at-read-lines .read-lines .last .1 .1 .1 .0))) e (at-read-lines .read-lines .ensures .1))
 
 pub read-source-spec : {M : Type 1} → statement M
 read-source-spec =

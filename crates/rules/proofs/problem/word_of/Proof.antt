@@ -31,7 +31,13 @@ same-requires-3 c κs = search needs
 
 returns-3 : tie.Need-returns-3
 unfolding wordOf
-returns-3 c = rw (← (c .before .before .before .before .before .before .before .same .ensures), c .before .before .before .before .before .before .if1 .left, ← (c .before .before .before .before .same2 .ensures), c .before .before .before .if2 .left, ← (c .before .same3 .ensures), c .if3 .taken)
+returns-3 c =
+    let at-same3 = c .before in
+    let at-if2 = at-same3 .before .before in
+    let at-same2 = at-if2 .before in
+    let at-if1 = at-same2 .before .before in
+    let at-same = at-if1 .before in
+    rw (← (at-same .same .ensures), at-if1 .if1 .left, ← (at-same2 .same2 .ensures), at-if2 .if2 .left, ← (at-same3 .same3 .ensures), c .if3 .taken)
 
 slice-aggregate-same-4 : tie.Need-slice-aggregate-same-4
 slice-aggregate-same-4 c = search needs
@@ -41,11 +47,27 @@ same-requires-4 c κs = search needs
 
 returns-4 : tie.Need-returns-4
 unfolding wordOf
-returns-4 c = rw (← (c .before .before .before .before .before .before .before .before .before .before .same .ensures), c .before .before .before .before .before .before .before .before .before .if1 .left, ← (c .before .before .before .before .before .before .before .same2 .ensures), c .before .before .before .before .before .before .if2 .left, ← (c .before .before .before .before .same3 .ensures), c .before .before .before .if3 .left, ← (c .before .same4 .ensures), c .if4 .taken)
+returns-4 c =
+    let at-same4 = c .before in
+    let at-if3 = at-same4 .before .before in
+    let at-same3 = at-if3 .before in
+    let at-if2 = at-same3 .before .before in
+    let at-same2 = at-if2 .before in
+    let at-if1 = at-same2 .before .before in
+    let at-same = at-if1 .before in
+    rw (← (at-same .same .ensures), at-if1 .if1 .left, ← (at-same2 .same2 .ensures), at-if2 .if2 .left, ← (at-same3 .same3 .ensures), at-if3 .if3 .left, ← (at-same4 .same4 .ensures), c .if4 .taken)
 
 returns-5 : tie.Need-returns-5
 unfolding wordOf
-returns-5 c = rw (← (c .before .before .before .before .before .before .before .before .before .before .same .ensures), c .before .before .before .before .before .before .before .before .before .if1 .left, ← (c .before .before .before .before .before .before .before .same2 .ensures), c .before .before .before .before .before .before .if2 .left, ← (c .before .before .before .before .same3 .ensures), c .before .before .before .if3 .left, ← (c .before .same4 .ensures), c .if4 .left)
+returns-5 c =
+    let at-same4 = c .before in
+    let at-if3 = at-same4 .before .before in
+    let at-same3 = at-if3 .before in
+    let at-if2 = at-same3 .before .before in
+    let at-same2 = at-if2 .before in
+    let at-if1 = at-same2 .before .before in
+    let at-same = at-if1 .before in
+    rw (← (at-same .same .ensures), at-if1 .if1 .left, ← (at-same2 .same2 .ensures), at-if2 .if2 .left, ← (at-same3 .same3 .ensures), at-if3 .if3 .left, ← (at-same4 .same4 .ensures), c .if4 .left)
 
 pub word-of-spec : {M : Type 1} → statement M
 word-of-spec =
