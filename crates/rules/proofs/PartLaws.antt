@@ -23,7 +23,7 @@ module _ {B : Type 0} (d : B) (f : ℕ → B → B → B) (ps : List Part) where
   length-bottomUp (suc n) = length-append (bottomUp d f ps n) _ ∙ ap (λ m. m + 1) (length-bottomUp n) ∙ add-one n
 
   -- a table's entry does not change as the table grows
-  getD-bottomUp : (n i : ℕ) → i < n → getD (bottomUp d f ps n) i d ≡ resultAt d f ps i
+  pub getD-bottomUp : (n i : ℕ) → i < n → getD (bottomUp d f ps n) i d ≡ resultAt d f ps i
   unfolding bottomUp resultAt
   getD-bottomUp zero i h = absurd (omega arith)
   getD-bottomUp (suc n) i h = at (eq-or-lt-of-le (le-of-suc-le-suc h)) (getD-bottomUp n i)
@@ -32,7 +32,7 @@ module _ {B : Type 0} (d : B) (f : ℕ → B → B → B) (ps : List Part) where
       at (inl e) ih = rw e
       at (inr l) ih = List·getD-append (bottomUp d f ps n) _ d i (rw length-bottomUp l) ∙ ih l
 
-  resultAt-last : (i : ℕ) → resultAt d f ps i ≡ f i (getD (bottomUp d f ps i) (partAt ps i .left) d) (getD (bottomUp d f ps i) (partAt ps i .right) d)
+  pub resultAt-last : (i : ℕ) → resultAt d f ps i ≡ f i (getD (bottomUp d f ps i) (partAt ps i .left) d) (getD (bottomUp d f ps i) (partAt ps i .right) d)
   unfolding resultAt bottomUp
   resultAt-last i = ap (λ n. getD (bottomUp d f ps (suc i)) n d) (sym (length-bottomUp i)) ∙ getD-append-seam (bottomUp d f ps i) _ [] d
 

@@ -22,7 +22,7 @@ use Rattle.rules.proofs.PartLaws.{Reads, reads-none, reads-one, reads-b
 -- ---- a part at a step
 
 -- what the obligation of a part that is the formula φ, with the left operand x, says of the rest of a trace
-abbrev asks : Op → Formula → Formula → Property
+abbrev pub asks : Op → Formula → Formula → Property
 asks k x φ π = owed k (holds x π) (holds φ π)
 
 -- `N`, `G` and `R` keep the negation of what they need
@@ -36,7 +36,7 @@ orAtEnd-own d f e [] = sym e
 orAtEnd-own d f e (a ∷ π) = refl
 
 -- a formula at the first of some steps
-holds-build : (k : Op) (b : ℕ) (x y : Formula) (a : ℕ) (π : Trace)
+pub holds-build : (k : Op) (b : ℕ) (x y : Formula) (a : ℕ) (π : Trace)
     → holds (build k b x y) (a ∷ π)
     ≡ combine k (bit a b) (orAtEnd false (asks k x (build k b x y)) π) (holds x (a ∷ π)) (holds y (a ∷ π))
 unfolding holds

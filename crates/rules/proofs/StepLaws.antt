@@ -27,11 +27,11 @@ module _ (ks ls rs : List ℕ) where
   abbrev parts : List Part
   parts = storedParts ks ls rs
 
-  length-stored : length parts ≡ length ks
+  pub length-stored : length parts ≡ length ks
   unfolding storedParts
   length-stored = length-tabulate (length ks) (storedPart ks ls rs)
 
-  partAt-stored : (i : ℕ) → i < length ks → partAt parts i ≡ storedPart ks ls rs i
+  pub partAt-stored : (i : ℕ) → i < length ks → partAt parts i ≡ storedPart ks ls rs i
   unfolding partAt storedParts
   partAt-stored i h = getD-tabulate (length ks) _ i _ h
 

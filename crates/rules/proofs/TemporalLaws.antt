@@ -31,7 +31,7 @@ pub temporals-end : (ks : List ℕ) (i : ℕ) → i ≡ length ks → temporals 
 unfolding temporals
 temporals-end ks i e = rw (drop-of-length-le ks {i = i} (omega arith))
 
-temporals-append : (xs ys : List ℕ) → temporals (xs ++ ys) ≡ temporals xs + temporals ys
+pub temporals-append : (xs ys : List ℕ) → temporals (xs ++ ys) ≡ temporals xs + temporals ys
 unfolding temporals
 temporals-append [] ys = sym (zero-add (temporals ys))
 temporals-append (x ∷ xs) ys = ap (λ n. digit (isTemporal x) + n) (temporals-append xs ys) ∙ sym (add-assoc (digit (isTemporal x)) (temporals xs) (temporals ys))

@@ -143,7 +143,7 @@ pub fn value_in(e: u8) -> bool
 }
 
 // Whether a byte stands for a temporal operator.
-fn is_temporal(kind: u8) -> bool
+pub fn is_temporal(kind: u8) -> bool
     ensures { λ r. ⌜ r ≡ isTemporal kind ⌝ }
 {
     (kind == 88) | (kind == 78) | (kind == 70) | (kind == 71) | (kind == 85) | (kind == 82)

@@ -11,9 +11,14 @@ mod problem;
 mod refusal;
 mod state;
 
+pub use formula::Op;
+pub use formula::bit_of;
+pub use formula::is_temporal;
+pub use formula::op_of;
 pub use judging::Verdict;
 pub use judging::judge;
 pub use lines::read;
+pub use memory::clear;
 pub use problem::Reading;
 pub use problem::Sizes;
 pub use refusal::Refusal;

@@ -1,0 +1,217 @@
+-- Reading every letter in one state: what the loop keeps, and what it answers.
+-- Assumes nothing.
+use Prim.Native.Nat.{ℕ, suc, _+_, _-_, _*_, _%_, _^_, _≤_, _<_}
+use native.Mathlib.Omega.{arith}
+use mathlib.Core.Path.{_≡_, refl, sym, ap, _∙_, subst}
+use mathlib.Core.Bool.{Bool}
+use mathlib.Core.List.{List, map}
+use lib.ListN.{length, getD, take, drop, set, length-set}
+use borrow.Author.Tests.{lt-ltb, le-ltb}
+use Rattle.states.specs.declared.search.Explored.the-variants.{States, TooMany}
+use Rattle.states.specs.Limits.{stateLimit, letterLimit, setSize, mapSize}
+use Rattle.states.specs.Lists.{firstThat, below}
+use Rattle.states.specs.PatternSet.{PatternSet, member, setOf, next}
+use Rattle.states.specs.ReachableSets.{nextSets}
+use Rattle.states.specs.Maps.{mapIn, Maps}
+use Rattle.states.specs.Memory.{packed, spread, Binary, nextBytes, halfOf, setIn, setsIn, Holds, withSet, sameSlot, grown, rowOf, countOf, Expanded}
+use Rattle.states.proofs.SearchLaws.{first-le}
+use Rattle.states.proofs.MidLaws.{part-length, part-at}
+use Rattle.states.proofs.PatternSetLaws.{length-setOf}
+use Rattle.states.proofs.HalfLaws.{half-small, half-stored}
+use Rattle.states.proofs.PackLaws.{packed-length, spread-length, spread-binary, next-packed}
+use Rattle.states.proofs.SlotLaws.{with-length, length-setIn, held-bytes}
+use Rattle.states.proofs.ReadingLaws.{setsTo, Reading, reading-none, reading-count, reading-copy, reading-old, reading-new, reading-over, placeIn, reading-row}
+
+-- a place has a number of one byte
+pub place-small : (p : ℕ → Bool) (m t : ℕ) → t ≡ firstThat p m → m ≤ stateLimit → t < 256
+place-small p m t e h = omega (arith, first-le p m)
+
+-- the map of letter a, as it is lent
+abbrev entriesOf : List ℕ → ℕ → List ℕ
+entriesOf maps a = take (a * mapSize + mapSize - a * mapSize) (drop (a * mapSize) maps)
+
+module _ (d : ℕ) (maps firsts mem₀ : List ℕ) (i n : ℕ) where
+  -- the set that letter a leads to from set i
+  unfoldable pub target : ℕ → PatternSet
+  target a = next d (mapIn maps firsts d) (setIn d mem₀ i) a
+
+  length-target : (a : ℕ) → length (target a) ≡ 2 ^ suc d
+  unfolding target next
+  length-target a = length-setOf d _
+
+  -- letters with the same map lead to the same set
+  target-first : (a : ℕ) → getD firsts (getD firsts a 0) 0 ≡ getD firsts a 0 → target (getD firsts a 0) ≡ target a
+  unfolding target next mapIn
+  target-first a e = ap (λ k. setOf d (λ p. member (setIn d mem₀ i) (getD maps (k * mapSize + p % 2 ^ d) 0))) e
+
+  -- a map reads the low bits only
+  map-reads : (a p q : ℕ) → p % 2 ^ d ≡ q % 2 ^ d → mapIn maps firsts d a p ≡ mapIn maps firsts d a q
+  unfolding mapIn
+  map-reads a p q e = ap (λ k. getD maps (getD firsts a 0 * mapSize + k) 0) e
+
+  -- ---- the facts that stay
+
+  -- the maps, the bits of set i and how many bytes differ are as they should be
+  pub record Setting (count : ℕ) (present : List ℕ) (h : ℕ) : Type 0 where
+    pub small : d < 8
+    pub size : length maps ≡ letterLimit * mapSize
+    pub few : count ≤ letterLimit
+    pub right : Maps d count maps firsts
+    pub room : length mem₀ ≡ (stateLimit + 1) * setSize
+    pub bits : present ≡ spread (packed (setIn d mem₀ i))
+    pub half : h ≡ halfOf d
+
+  -- what `put_set` writes for a letter whose own map is kept
+  target-bytes : (count : ℕ) (present : List ℕ) (h a : ℕ) → Setting count present h → a < count → a ≤ getD firsts a 0
+      → nextBytes present (entriesOf maps a) h ≡ packed (target a)
+  unfolding target
+  target-bytes count present h a g l k =
+      ap (λ s. nextBytes s (entriesOf maps a) h) (g .bits) ∙ ap (nextBytes (spread (packed (setIn d mem₀ i))) (entriesOf maps a)) (g .half)
+      ∙ next-packed d (setIn d mem₀ i) (g .small) (length-setIn d mem₀ i) (mapIn maps firsts d) a (entriesOf maps a) stored (map-reads a) (λ p. g .right .fits a p l)
+    where
+      own : getD firsts a 0 ≡ a
+      own = omega (arith, g .right .before a l)
+
+      stored : (q : ℕ) → q < halfOf d * 8 → getD (entriesOf maps a) q 0 ≡ mapIn maps firsts d a q
+      stored q j =
+          part-at (a * mapSize) mapSize maps q (omega (arith, half-small d (g .small) .1))
+          ∙ ap (λ b. getD maps (b * mapSize + q) 0) (sym own) ∙ g .right .entry a q l (half-stored d q (g .small) j)
+
+  -- ---- what the loop keeps
+
+  abbrev pub Kept : ℕ → List ℕ → ℕ → ℕ → ℕ → List ℕ → List ℕ → Type 0
+  Kept count present h a m mem row =
+      (a ≤ count) × (m ≤ stateLimit) × (length mem ≡ length mem₀) × (length row ≡ count) × Setting count present h × Reading d target (setsIn d mem₀ n) a m mem row
+
+  pub kept-none : (present : List ℕ) (h : ℕ) (row : List ℕ) → d < 8 → length maps ≡ letterLimit * mapSize → length row ≤ letterLimit → Maps d (length row) maps firsts
+      → i < n → n ≤ stateLimit → length mem₀ ≡ (stateLimit + 1) * setSize → Holds d mem₀ n
+      → present ≡ spread (take (i * setSize + setSize - i * setSize) (drop (i * setSize) mem₀)) → h ≡ halfOf d → Kept (length row) present h 0 n mem₀ row
+  kept-none present h row small size few right l k room g e half = (
+    omega arith,
+    k,
+    refl,
+    refl,
+    record { small = small; size = size; few = few; right = right; room = room; bits = e ∙ ap spread (held-bytes d mem₀ n i g l (omega arith)); half = half },
+    reading-none d target (setsIn d mem₀ n) n mem₀ row refl g,
+  )
+
+  module _ (count : ℕ) (present : List ℕ) (h a m : ℕ) (mem row : List ℕ) (z : Kept count present h a m mem row) (l : a < length row) where
+    within : a < count
+    within = subst (λ k. a < k) (z .3) l
+
+    -- what `put_set` asks
+    pub put-asked : (length present ≡ setSize * 8) × (Binary present × ((length (entriesOf maps a) ≡ mapSize)
+        × ((0 < h) × ((h * 8 ≤ mapSize) × ((m ≤ stateLimit) × (length mem ≡ (stateLimit + 1) * setSize))))))
+    put-asked =
+        let g = z .4 in
+        let half = half-small d (g .small) in
+        let fits : a * mapSize + mapSize ≤ length maps = omega (arith, g .size, g .few, within) in (
+          ap length (g .bits) ∙ spread-length _,
+          (
+            subst Binary (sym (g .bits)) (spread-binary _),
+            (
+              part-length (a * mapSize) mapSize maps fits,
+              (subst (λ b. 0 < b) (sym (g .half)) (half .0), (subst (λ b. b * 8 ≤ mapSize) (sym (g .half)) (half .1), (z .1, z .2 ∙ g .room))),
+            ),
+          ),
+        )
+
+    -- a letter with an earlier one's map
+    pub kept-copy : getD firsts a 0 < a → (m′ : ℕ) (mem′ row′ : List ℕ) → mem′ ≡ mem → row′ ≡ set row a (getD row (getD firsts a 0) 0) → m′ ≡ m
+        → Kept count present h (a + 1) m′ mem′ row′
+    kept-copy b m′ mem′ row′ p q s =
+        rw (p, q, s) (
+          omega (arith, within),
+          z .1,
+          z .2,
+          length-set row a (getD row (getD firsts a 0) 0) ∙ z .3,
+          z .4,
+          reading-copy d target (setsIn d mem₀ n) a m (getD firsts a 0) mem row (z .5) l b (target-first a (z .4 .right .first a within)),
+        )
+
+    -- a letter whose own map is kept: its set is written behind the others, and found at place t
+    module _ (w : List ℕ) (t : ℕ) (own : a ≤ getD firsts a 0) (written : w ≡ withSet mem m (nextBytes present (entriesOf maps a) h))
+        (found : t ≡ firstThat (sameSlot (withSet mem m (nextBytes present (entriesOf maps a) h)) m) m) where
+      room : m * setSize + setSize ≤ length mem
+      room = omega (arith, z .1, z .2, z .4 .room)
+
+      w-is : w ≡ withSet mem m (packed (target a))
+      w-is = written ∙ ap (withSet mem m) (target-bytes count present h a (z .4) within own)
+
+      first : t ≡ firstThat (sameSlot w m) m
+      first = found ∙ ap (λ v. firstThat (sameSlot v m) m) (sym written)
+
+      w-length : length w ≡ length mem₀
+      w-length = ap length w-is ∙ with-length mem (packed (target a)) m room (packed-length (target a)) ∙ z .2
+
+      row-length : length (set row a t) ≡ count
+      row-length = length-set row a t ∙ z .3
+
+      pub kept-old : (t ≡ m → ⊥) → (m′ : ℕ) (mem′ row′ : List ℕ) → mem′ ≡ w → row′ ≡ set row a t → m′ ≡ m → Kept count present h (a + 1) m′ mem′ row′
+      kept-old ne m′ mem′ row′ p q s =
+          rw (p, q, s) (
+            omega (arith, within),
+            z .1,
+            w-length,
+            row-length,
+            z .4,
+            reading-old d target (setsIn d mem₀ n) (z .4 .small) a m mem row w t (z .5) l (length-target a) room w-is first ne,
+          )
+
+      pub kept-new : t ≡ m → (m ≡ stateLimit → ⊥) → (m′ : ℕ) (mem′ row′ : List ℕ) → mem′ ≡ w → row′ ≡ set row a t → m′ ≡ m + 1
+          → Kept count present h (a + 1) m′ mem′ row′
+      kept-new e ne m′ mem′ row′ p q s =
+          rw (p, q, s) (
+            omega (arith, within),
+            omega (arith, z .1, ne),
+            w-length,
+            row-length,
+            z .4,
+            reading-new d target (setsIn d mem₀ n) (z .4 .small) a m mem row w t (z .5) l (length-target a) room w-is first e,
+          )
+
+      -- no place is left for it
+      pub over : t ≡ m → m ≡ stateLimit → stateLimit < length (setsTo d target (setsIn d mem₀ n) count)
+      over e k =
+          subst (λ b. b < length (setsTo d target (setsIn d mem₀ n) count)) k
+          (reading-over d target (setsIn d mem₀ n) (z .4 .small) a m mem row w t (z .5) l (length-target a) room w-is first count e within)
+
+  -- ---- the answer
+
+  -- the sets that there are after every letter
+  abbrev allSets : ℕ → List PatternSet
+  allSets count = grown d (mapIn maps firsts d) (below count) (setsIn d mem₀ n) (setIn d mem₀ i)
+
+  abbrev fullRow : ℕ → List ℕ
+  fullRow count = rowOf d (mapIn maps firsts d) (below count) (allSets count) (setIn d mem₀ i)
+
+  all-is : (count : ℕ) → allSets count ≡ setsTo d target (setsIn d mem₀ n) count
+  unfolding grown nextSets setsTo target
+  all-is count = refl
+
+  row-is : (count : ℕ) → fullRow count ≡ map (placeIn d target (setsIn d mem₀ n) (allSets count)) (below count)
+  unfolding rowOf target placeIn
+  row-is count = refl
+
+  pub answer-over : (count : ℕ) (mem row : List ℕ) → stateLimit < length (setsTo d target (setsIn d mem₀ n) count)
+      → (TooMany ≡ countOf (allSets count)) × Expanded d (allSets count) (fullRow count) mem row
+  answer-over count mem row h =
+      let k : stateLimit < length (allSets count) = rw all-is h in (
+        rw (lt-ltb stateLimit (length (allSets count)) k),
+        record { sets-in = λ l. absurd (omega arith); holds = λ l. absurd (omega arith); row-is = λ l. absurd (omega arith) },
+      )
+
+  pub answer-done : (count : ℕ) (present : List ℕ) (h a m : ℕ) (mem row : List ℕ) → Kept count present h a m mem row → length row ≤ a
+      → (States m ≡ countOf (allSets count)) × Expanded d (allSets count) (fullRow count) mem row
+  answer-done count present h a m mem row z l =
+      let e : a ≡ count = omega (arith, z .0, z .3) in
+      let r : Reading d target (setsIn d mem₀ n) count m mem row = rw e at (z .5) in
+      let size : length (allSets count) ≡ m = ap length (all-is count) ∙ reading-count d target (setsIn d mem₀ n) count m mem row r in (
+        sym (rw (size, le-ltb stateLimit m (z .1))),
+        record {
+          sets-in = λ l. ap (setsIn d mem) size ∙ r .sets ∙ sym (all-is count);
+          holds = λ l. subst (Holds d mem) (sym size) (r .holds);
+          row-is = λ l. reading-row d target (setsIn d mem₀ n) count m mem row r (z .3)
+              ∙ ap (λ ys. map (placeIn d target (setsIn d mem₀ n) ys) (below count)) (sym (all-is count)) ∙ sym (row-is count);
+        },
+      )

@@ -1,0 +1,154 @@
+-- Sets of patterns in 32 bytes each: a set over fewer than seven operators is repeated to fill them.
+-- Assumes nothing.
+use Prim.Native.Nat.{ℕ, suc, _+_, _*_, _/_, _%_, _^_, _<_, _≤_}
+use native.Mathlib.Nat.{div-add-mod', mod-lt, mod-eq-of-lt}
+use native.Mathlib.Omega.{arith}
+use mathlib.Core.Path.{_≡_, refl, sym, ap, _∙_, subst}
+use mathlib.Core.Bool.{Bool, true, false}
+use mathlib.Core.List.{List, _++_}
+use lib.Pow.{pow-pos, pow-mono}
+use lib.Dec.{eqb, ltb}
+use lib.ListN.{length, getD, drop, List·getD-eq-default}
+use borrow.Author.Tests.{ltb-true, ltb-false}
+use Rattle.rules.specs.Bits.{bit, digit}
+use Rattle.rules.specs.Lists.{tabulate}
+use Rattle.rules.proofs.ListLaws.{length-tabulate, getD-tabulate}
+use Rattle.states.specs.Limits.{setSize}
+use Rattle.states.specs.Bits.{fromBits}
+use Rattle.states.specs.PatternSet.{PatternSet, member, start, next}
+use Rattle.states.specs.Memory.{packed, startByte, spread, Binary, nextByte, nextBytes, halfOf, setIn}
+use Rattle.states.proofs.BitLaws.{bit-mod, digit-lt, digit-is}
+use Rattle.states.proofs.ListLaws.{tabulate-ext}
+use Rattle.states.proofs.TableLaws.{bit-table}
+use Rattle.states.proofs.FillLaws.{table-all}
+use Rattle.states.proofs.PatternSetLaws.{length-setOf, member-setOf, set-ext, length-start}
+use Rattle.states.proofs.HalfLaws.{half-small, half-pattern}
+
+-- a pattern has a bit in a set's bytes
+pattern-lt : (d p : ℕ) → d < 8 → p < 2 ^ suc d → p < setSize * 8
+pattern-lt d p h l = let m : 2 ^ suc d ≤ 2 ^ 8 = pow-mono {i = suc d} {j = 8} h in omega arith
+
+-- ---- the bytes of a set
+
+-- byte i
+unfoldable byteOf : PatternSet → ℕ → ℕ
+byteOf s i = fromBits (tabulate 8 (λ j. member s ((i * 8 + j) % length s)))
+
+packed-is : (s : PatternSet) → packed s ≡ tabulate setSize (byteOf s)
+unfolding packed byteOf
+packed-is s = refl
+
+pub packed-length : (s : PatternSet) → length (packed s) ≡ setSize
+packed-length s = ap length (packed-is s) ∙ length-tabulate setSize (byteOf s)
+
+packed-at : (s : PatternSet) (b : ℕ) → b < setSize → getD (packed s) b 0 ≡ byteOf s b
+packed-at s b h = ap (λ l. getD l b 0) (packed-is s) ∙ getD-tabulate setSize (byteOf s) b 0 h
+
+bit-byte : (s : PatternSet) (i j : ℕ) → j < 8 → bit (byteOf s i) j ≡ member s ((i * 8 + j) % length s)
+unfolding byteOf
+bit-byte s i j h = bit-table 8 (λ k. member s ((i * 8 + k) % length s)) j h
+
+bit-packed : (s : PatternSet) (p : ℕ) → p < 256 → bit (getD (packed s) (p / 8) 0) (p % 8) ≡ member s (p % length s)
+bit-packed s p h =
+    ap (λ x. bit x (p % 8)) (packed-at s (p / 8) (omega arith)) ∙ bit-byte s (p / 8) (p % 8) (omega arith)
+    ∙ ap (λ q. member s (q % length s)) (div-add-mod' p 8)
+
+-- bit p of the bytes of a set over d operators
+bit-pattern : (d : ℕ) (s : PatternSet) → d < 8 → length s ≡ 2 ^ suc d
+    → (p : ℕ) → p < 2 ^ suc d → bit (getD (packed s) (p / 8) 0) (p % 8) ≡ member s p
+bit-pattern d s h e p l =
+    bit-packed s p (pattern-lt d p h l) ∙ ap (λ n. member s (p % n)) e ∙ ap (member s) (mod-eq-of-lt l)
+
+-- a set is read back from its bytes
+pub setOf-packed : (d : ℕ) (s : PatternSet) → d < 8 → length s ≡ 2 ^ suc d → (mem : List ℕ) (i : ℕ)
+    → ((b : ℕ) → b < setSize → getD mem (i * setSize + b) 0 ≡ getD (packed s) b 0) → setIn d mem i ≡ s
+unfolding setIn
+setOf-packed d s h e mem i f =
+    set-ext d (setIn d mem i) s (length-setOf d _) e
+    (λ p l. member-setOf d _ p l ∙ ap (λ x. bit x (p % 8)) (f (p / 8) (byte p (pattern-lt d p h l))) ∙ bit-pattern d s h e p l)
+  where
+    byte : (p : ℕ) → p < setSize * 8 → p / 8 < setSize
+    byte p l = omega arith
+
+-- sets with the same bytes are the same
+pub bytes-injective : (d : ℕ) (s t : PatternSet) → d < 8 → length s ≡ 2 ^ suc d → length t ≡ 2 ^ suc d
+    → ((b : ℕ) → b < setSize → getD (packed s) b 0 ≡ getD (packed t) b 0) → s ≡ t
+bytes-injective d s t h e f q =
+    sym (setOf-packed d s h e (packed s) 0 (λ b l. at s b)) ∙ setOf-packed d t h f (packed s) 0 (λ b l. at s b ∙ q b l)
+  where
+    at : (u : PatternSet) (b : ℕ) → getD (packed u) (0 * setSize + b) 0 ≡ getD (packed u) b 0
+    at u b = let z : 0 * setSize + b ≡ b = omega arith in ap (λ k. getD (packed u) k 0) z
+
+pub packed-injective : (d : ℕ) (s t : PatternSet) → d < 8 → length s ≡ 2 ^ suc d → length t ≡ 2 ^ suc d → packed s ≡ packed t → s ≡ t
+packed-injective d s t h e f q = bytes-injective d s t h e f (λ b l. ap (λ bytes. getD bytes b 0) q)
+
+-- ---- the start set
+
+start-byte-is : (d i : ℕ) → startByte d i ≡ byteOf (start d) i
+unfolding startByte byteOf start
+start-byte-is d i =
+    ap fromBits (tabulate-ext 8 (λ j. bit (i * 8 + j) d) (λ j. member (start d) ((i * 8 + j) % length (start d)))
+    (λ j l. sym (ap (λ n. member (start d) ((i * 8 + j) % n)) (length-start d)
+    ∙ member-setOf d (λ p. bit p d) ((i * 8 + j) % 2 ^ suc d) (mod-lt (i * 8 + j) (pow-pos (suc d)))
+    ∙ bit-mod (i * 8 + j) (suc d) d (omega arith))))
+
+start-packed : (d : ℕ) → tabulate setSize (startByte d) ≡ packed (start d)
+start-packed d = tabulate-ext setSize (startByte d) (byteOf (start d)) (λ i l. start-byte-is d i) ∙ sym (packed-is (start d))
+
+pub start-done : (d : ℕ) (p w : List ℕ) (i : ℕ) → i ≡ setSize → length p ≡ setSize
+    → w ≡ tabulate i (startByte d) ++ drop i p → w ≡ packed (start d)
+start-done d p w i q l e = table-all i setSize (startByte d) p w q l e ∙ start-packed d
+
+-- ---- a set's bits one by one
+
+spread-at : (bytes : List ℕ) (p : ℕ) → p < 256 → getD (spread bytes) p 0 ≡ digit (bit (getD bytes (p / 8) 0) (p % 8))
+unfolding spread
+spread-at bytes p h = getD-tabulate (setSize * 8) (λ q. digit (bit (getD bytes (q / 8) 0) (q % 8))) p 0 h
+
+pub spread-length : (bytes : List ℕ) → length (spread bytes) ≡ setSize * 8
+unfolding spread
+spread-length bytes = length-tabulate (setSize * 8) (λ q. digit (bit (getD bytes (q / 8) 0) (q % 8)))
+
+spread-packed : (d : ℕ) (s : PatternSet) → d < 8 → length s ≡ 2 ^ suc d
+    → (p : ℕ) → p < 2 ^ suc d → getD (spread (packed s)) p 0 ≡ digit (member s p)
+spread-packed d s h e p l = spread-at (packed s) p (pattern-lt d p h l) ∙ ap digit (bit-pattern d s h e p l)
+
+pub spread-binary : (bytes : List ℕ) → Binary (spread bytes)
+spread-binary bytes = record { small = λ p. at p (ltb p 256) refl }
+  where
+    at : (p : ℕ) (b : Bool) → ltb p 256 ≡ b → getD (spread bytes) p 0 < 2
+    at p true e = subst (λ x. x < 2) (sym (spread-at bytes p (ltb-true p 256 e))) (digit-lt (bit (getD bytes (p / 8) 0) (p % 8)))
+    at p false e =
+        let l : length (spread bytes) ≤ p = subst (λ n. n ≤ p) (sym (spread-length bytes)) (ltb-false p 256 e) in
+        subst (λ x. x < 2) (sym (List·getD-eq-default (spread bytes) 0 l)) (omega arith)
+
+-- ---- the next set
+
+module _ (d : ℕ) (s : PatternSet) (h : d < 8) (e : length s ≡ 2 ^ suc d) (back : ℕ → ℕ → ℕ) (a : ℕ) (entries : List ℕ)
+    (maps : (q : ℕ) → q < halfOf d * 8 → getD entries q 0 ≡ back a q)
+    (reads : (p q : ℕ) → p % 2 ^ d ≡ q % 2 ^ d → back a p ≡ back a q)
+    (fits : (p : ℕ) → back a p < 2 ^ suc d) where
+  -- a bit of the next set
+  next-bit : (b j : ℕ) → j < 8
+      → eqb (getD (spread (packed s)) (getD entries (b % halfOf d * 8 + j) 0) 0) 1 ≡ member (next d back s a) ((b * 8 + j) % length (next d back s a))
+  unfolding next
+  next-bit b j l =
+      let q = b % halfOf d * 8 + j in
+      let p = (b * 8 + j) % 2 ^ suc d in
+      let small : b % halfOf d < halfOf d = mod-lt b (half-small d h .0) in
+      let there : q < halfOf d * 8 = omega arith in
+      ap (λ x. eqb (getD (spread (packed s)) x 0) 1) (maps q there ∙ reads q p (half-pattern d b j))
+      ∙ ap (λ x. eqb x 1) (spread-packed d s h e (back a p) (fits p)) ∙ digit-is (member s (back a p))
+      ∙ sym (ap (λ n. member (next d back s a) ((b * 8 + j) % n)) (length-setOf d (λ x. member s (back a x)))
+      ∙ member-setOf d (λ x. member s (back a x)) p (mod-lt (b * 8 + j) (pow-pos (suc d))))
+
+  next-byte-is : (b : ℕ) → nextByte (spread (packed s)) entries (b % halfOf d) ≡ byteOf (next d back s a) b
+  unfolding nextByte byteOf
+  next-byte-is b = ap fromBits (tabulate-ext 8 _ _ (λ j l. next-bit b j l))
+
+  -- what `put_next` writes from the bits of a set and a letter's map is the set after the letter
+  pub next-packed : nextBytes (spread (packed s)) entries (halfOf d) ≡ packed (next d back s a)
+  unfolding nextBytes
+  next-packed =
+      tabulate-ext setSize (λ b. nextByte (spread (packed s)) entries (b % halfOf d)) (byteOf (next d back s a)) (λ b l. next-byte-is b)
+      ∙ sym (packed-is (next d back s a))

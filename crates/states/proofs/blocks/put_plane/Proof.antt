@@ -1,0 +1,130 @@
+-- `states::blocks::put_plane` meets its contract. The invariant: the words of the blocks passed are right, and the others as they were.
+-- Assumes nothing.
+use Prim.Native.Nat.{ℕ, _+_, _-_, _*_, _≤_}
+use native.Mathlib.Omega.{arith}
+use mathlib.Core.Path.{_≡_, refl, sym, ap, _∙_}
+use mathlib.Core.List.{_++_}
+use lib.ListN.{length, drop, length-replicate}
+use borrow.Author.Needs.{needs}
+use borrow.Rule.Slice.PartMut.{same-len-mid}
+use Rattle.rules.specs.Row.{storedParts}
+use Rattle.states.specs.Maps.{plane}
+use Rattle.states.proofs.MidLaws.{part-length}
+use Rattle.states.proofs.PlaneLaws.{plane-none, plane-block}
+use Rattle.states.proofs.blocks.put_plane.Statement.{statement}
+use Rattle.states.proofs.blocks.put_plane.Tie as tie
+
+abbrev Inv-loop : tie.InvT-loop
+Inv-loop kinds lefts rights numbers spots d letters blocks w words₀ v₀ b₀ words v b =
+    (b ≤ blocks) × (length v ≡ 4096) × (length words ≡ length words₀)
+    × (words ≡ plane (storedParts kinds lefts rights) letters w (b * 16 * 8) ++ drop (b * 16 * 8) words₀)
+
+abbrev μ-loop : tie.MeasureT-loop
+μ-loop kinds lefts rights numbers spots d letters blocks w words₀ v₀ b₀ words v b = blocks - b
+
+loop-holds : tie.Need-loop-holds Inv-loop μ-loop
+loop-holds c =
+    let a = c .before .before .before .before .before .before .before .args in
+    (omega arith, length-replicate {A = ℕ} 4096 0, refl, plane-none _ _ _ (a .words .now))
+
+mul-from : tie.Need-mul-from Inv-loop μ-loop
+mul-from c = search needs
+
+mul-at : tie.Need-mul-at Inv-loop μ-loop
+mul-at c = search needs
+
+add-put-block : tie.Need-add-put-block Inv-loop μ-loop
+add-put-block c = search needs
+
+mul-put-block : tie.Need-mul-put-block Inv-loop μ-loop
+mul-put-block c = search needs
+
+sub-put-block : tie.Need-sub-put-block Inv-loop μ-loop
+sub-put-block c = search needs
+
+part-put-block-start : tie.Need-part-put-block-start Inv-loop μ-loop
+part-put-block-start c = search needs
+
+part-put-block-end : tie.Need-part-put-block-end Inv-loop μ-loop
+part-put-block-end c = search needs
+
+slice-aggregate-put-block : tie.Need-slice-aggregate-put-block Inv-loop μ-loop
+slice-aggregate-put-block c = sym (c .before .before .before .loop .inv .1)
+
+mul-put-block-2 : tie.Need-mul-put-block-2 Inv-loop μ-loop
+mul-put-block-2 c = search needs
+
+add-put-block-2 : tie.Need-add-put-block-2 Inv-loop μ-loop
+add-put-block-2 c = search needs
+
+mul-put-block-3 : tie.Need-mul-put-block-3 Inv-loop μ-loop
+mul-put-block-3 c = search needs
+
+sub-put-block-2 : tie.Need-sub-put-block-2 Inv-loop μ-loop
+sub-put-block-2 c = search needs
+
+part-put-block-start-2 : tie.Need-part-put-block-start-2 Inv-loop μ-loop
+part-put-block-start-2 c = search needs
+
+part-put-block-end-2 : tie.Need-part-put-block-end-2 Inv-loop μ-loop
+part-put-block-end-2 c = search needs
+
+put-block-requires : tie.Need-put-block-requires Inv-loop μ-loop
+put-block-requires c κs =
+    let a = c .before .before .before .before .before .before .before .before .before .before .before .before .args in
+    let p = c .before .before .before .before .before .before .before .before .before .before .before .before .pre in
+    let l = c .before .before .before .before .loop in
+    (p .0, (p .1 .0, (p .1 .1 .0, (p .1 .1 .1 .0, (part-length (l .b * 16) 16 (a .letters .now) (omega arith), (l .inv .1, part-length (l .b * 16 * 8) 128 (l .words) (omega arith)))))))
+
+add-b : tie.Need-add-b Inv-loop μ-loop
+add-b c = search needs
+
+loop-less : tie.Need-loop-less Inv-loop μ-loop
+loop-less c = search needs
+
+loop-again : tie.Need-loop-again Inv-loop μ-loop
+loop-again c =
+    let a = c .before .before .before .before .before .before .before .before .before .before .before .before .before .before .before .before .args in
+    let l = c .before .before .before .before .before .before .before .before .loop in
+    let call = c .before .before .before .put-block in
+    let at = l .b * 16 * 8 in
+    let kept = same-len-mid at (at + 128 - at) (l .words) (call .last .1 .1 .1 .1 .1 .1 .1 .1 .1 .0) (call .kept .1 .1 .1 .1 .1 .1 .1 .1 .1 .0) in
+    (omega arith, call .kept .1 .1 .1 .1 .1 .1 .1 .1 .0 ∙ l .inv .1, kept ∙ l .inv .2, plane-block _ _ _ (l .b) (a .words .now) (l .words) _ (l .inv .3) (call .ensures))
+
+same-length : tie.Need-same-length Inv-loop μ-loop
+same-length c = search needs
+
+returns : tie.Need-returns Inv-loop μ-loop
+returns c =
+    let l = c .before .loop in
+    let a = c .before .before .before .before .before .before .before .before .before .args in
+    let e : l .b ≡ a .blocks = omega arith in
+    l .inv .3 ∙ ap (λ n. plane (storedParts (a .kinds .now) (a .lefts .now) (a .rights .now)) (a .letters .now) (a .w) (n * 16 * 8) ++ drop (n * 16 * 8) (a .words .now)) e
+
+pub put-plane-spec : {M : Type 1} → statement M
+put-plane-spec =
+    tie.close
+    (tie.spec
+    Inv-loop
+    μ-loop
+    loop-holds
+    mul-from
+    mul-at
+    add-put-block
+    mul-put-block
+    sub-put-block
+    part-put-block-start
+    part-put-block-end
+    slice-aggregate-put-block
+    mul-put-block-2
+    add-put-block-2
+    mul-put-block-3
+    sub-put-block-2
+    part-put-block-start-2
+    part-put-block-end-2
+    put-block-requires
+    add-b
+    loop-less
+    loop-again
+    same-length
+    returns)
