@@ -1,9 +1,12 @@
-// The cases of document 01 that a program runs: each is judged through the public call of `rules`, and what it answers is
-// written on a line. The work memory is looked at after each call.
+// The cases of document 01 that a program runs: each is judged through the public call of `rules`, or solved through that of
+// `game`, and what it answers is written on a line. The work memory is looked at after each call.
 ghost use Prim.Native.Nat.{_≤_};
 ghost use lib.ListN.{length};
 use libc::STDOUT_FILENO;
+use rules::Refusal;
 use rules::Verdict;
+
+mod answers;
 
 fn say(text: &[u8]) {
     io::write_all(STDOUT_FILENO, text);
@@ -13,16 +16,18 @@ fn number(n: usize) {
     io::print_decimal(STDOUT_FILENO, n as u64);
 }
 
+fn refused(r: Refusal) {
+    say(b"refused\t");
+    number(rules::number(r));
+    say(b"\t");
+    number(rules::place(r));
+}
+
 fn show(v: Verdict) {
     match v {
         Verdict::True => say(b"true"),
         Verdict::False => say(b"false"),
-        Verdict::Refused(r) => {
-            say(b"refused\t");
-            number(rules::number(r));
-            say(b"\t");
-            number(rules::place(r));
-        }
+        Verdict::Refused(r) => refused(r),
     }
 }
 
@@ -283,4 +288,5 @@ fn main() {
     refusals(&mut work);
     more_refusals(&mut work);
     limits(&mut work);
+    answers::answers(&mut work);
 }

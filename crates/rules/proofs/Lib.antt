@@ -23,6 +23,7 @@ pub mod TextLaws
 pub mod StateLaws
 pub mod FieldLaws
 pub mod LimitLaws
+pub mod NumberLaws
 pub mod ReadLaws
 pub mod JudgeLaws
 pub mod Examples

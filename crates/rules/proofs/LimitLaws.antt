@@ -8,7 +8,7 @@ use borrow.Author.Tests.{ltb-false, eqb-false}
 use lib.Dec.{eqb, ltb}
 use Rattle.rules.specs.declared.problem.Kind.{Kind}
 use Rattle.rules.specs.declared.problem.Kind.the-variants.{Output, Observed, Hidden}
-use Rattle.rules.specs.Limits.{kindLimit, partLimit, operatorLimit}
+use Rattle.rules.specs.Limits.{kindLimit, signalLimit, partLimit, operatorLimit}
 use Rattle.rules.specs.Formula.{size, operators}
 use Rattle.rules.specs.Lines.{SourceLine}
 use Rattle.rules.specs.Problem.{Signals, count, isFull, withSignal, sizeIn, operatorsIn, joint, Draft, Problem, accepted, readProblem}
@@ -24,11 +24,12 @@ pub or-right : (a b : Bool) → (a || b) ≡ false → b ≡ false
 or-right true b e = absurd (false≢true (sym e))
 or-right false b e = e
 
--- few enough signals of each kind
+-- few enough signals of each kind, and in all
 pub record Few (g : Signals) : Type 0 where
   pub outputs : g .outputs ≤ kindLimit
   pub observed : g .observed ≤ kindLimit
   pub hidden : g .hidden ≤ kindLimit
+  pub total : g .outputs + g .observed + g .hidden ≤ signalLimit
 
 module _ (g : Signals) (few : Few g) where
   pub room : (k : Kind) → isFull k g ≡ false → count k g < kindLimit
@@ -36,10 +37,15 @@ module _ (g : Signals) (few : Few g) where
   room Observed f = let n = eqb-false (g .observed) kindLimit (or-left (eqb (g .observed) kindLimit) _ f) in omega (arith, n, few .observed)
   room Hidden f = let n = eqb-false (g .hidden) kindLimit (or-left (eqb (g .hidden) kindLimit) _ f) in omega (arith, n, few .hidden)
 
+  spare : (k : Kind) → isFull k g ≡ false → g .outputs + g .observed + g .hidden < signalLimit
+  spare k f =
+      let n = eqb-false (g .outputs + g .observed + g .hidden) signalLimit (or-right (eqb (count k g) kindLimit) _ f) in
+      omega (arith, n, few .total)
+
   few-more : (k : Kind) (name : List ℕ) → isFull k g ≡ false → Few (withSignal k name g)
-  few-more Output name f = let n = room Output f in record { outputs = omega (arith, n); observed = few .observed; hidden = few .hidden }
-  few-more Observed name f = let n = room Observed f in record { outputs = few .outputs; observed = omega (arith, n); hidden = few .hidden }
-  few-more Hidden name f = let n = room Hidden f in record { outputs = few .outputs; observed = few .observed; hidden = omega (arith, n) }
+  few-more Output name f = let n = room Output f in record { outputs = omega (arith, n); observed = few .observed; hidden = few .hidden; total = omega (arith, spare Output f) }
+  few-more Observed name f = let n = room Observed f in record { outputs = few .outputs; observed = omega (arith, n); hidden = few .hidden; total = omega (arith, spare Observed f) }
+  few-more Hidden name f = let n = room Hidden f in record { outputs = few .outputs; observed = few .observed; hidden = omega (arith, n); total = omega (arith, spare Hidden f) }
 
 record Small (d : Draft) : Type 0 where
   few : Few (d .signals)
@@ -75,5 +81,5 @@ make-within s (next d′ r m) = make-within (reads-small s r) m
 -- a problem that is read is within the limits
 pub read-within : (source : List ℕ) (p : Problem) → readProblem source ≡ accepted p → Within p
 read-within source p e =
-    make-within (record { few = record { outputs = omega arith; observed = omega arith; hidden = omega arith }; parts = omega arith; operators = omega arith })
+    make-within (record { few = record { outputs = omega arith; observed = omega arith; hidden = omega arith; total = omega arith }; parts = omega arith; operators = omega arith })
     (read-denotes source p e .make)

@@ -21,7 +21,9 @@ use Rattle.states.specs.ReachableSets.{sameSet, nextSets, reachableSets}
 use Rattle.states.specs.Letters.{letterCount}
 use Rattle.states.specs.States.{statesOf}
 use Rattle.states.specs.Maps.{mapIn, MapsOf}
-use Rattle.states.specs.Memory.{rowOf, exploredOf, setsOf, successorsOf}
+use Rattle.states.specs.Successors.{rowOver}
+use Rattle.states.specs.Slots.{exploredOf}
+use Rattle.states.specs.Memory.{rowOf, setsOf, successorsOf}
 use Rattle.states.proofs.ListLaws.{tabulate-ext, table-take, map-table}
 use Rattle.states.proofs.PatternSetLaws.{setOf-ext}
 
@@ -51,7 +53,7 @@ module _ (ps : List Part) (letters : List ℕ) (d n : ℕ) (maps firsts : List �
       ∙ ap (λ k. reachableSets k (back ps) letters limit) is-d
 
   row-same : (xs : List PatternSet) (s : PatternSet) → rowOf d byMap (below n) xs s ≡ rowOf d (back ps) letters xs s
-  unfolding rowOf
+  unfolding rowOver
   row-same xs s = map-numbers _ _ letters n is-n (λ a h. ap (λ t. indexIn sameSet t xs) (next-same s a h))
 
   successors-same : (l : Listing PatternSet) → successorsOf d byMap (below n) l ≡ successorsOf d (back ps) letters l

@@ -4,23 +4,22 @@ use Prim.Native.Nat.{ℕ, suc, _+_, _-_, _*_, _%_, _^_, _≤_, _<_}
 use native.Mathlib.Omega.{arith}
 use mathlib.Core.Path.{_≡_, refl, sym, ap, _∙_, subst}
 use mathlib.Core.Bool.{Bool}
-use mathlib.Core.List.{List, map}
-use lib.ListN.{length, getD, take, drop, set, length-set}
-use borrow.Author.Tests.{lt-ltb, le-ltb}
-use Rattle.states.specs.declared.search.Explored.the-variants.{States, TooMany}
+use mathlib.Core.List.{List}
+use lib.ListN.{length, getD, take, drop, set}
+use Rattle.states.specs.declared.search.Explored.the-variants.{TooMany}
 use Rattle.states.specs.Limits.{stateLimit, letterLimit, setSize, mapSize}
-use Rattle.states.specs.Lists.{firstThat, below}
+use Rattle.states.specs.Lists.{firstThat}
 use Rattle.states.specs.PatternSet.{PatternSet, member, setOf, next}
-use Rattle.states.specs.ReachableSets.{nextSets}
 use Rattle.states.specs.Maps.{mapIn, Maps}
-use Rattle.states.specs.Memory.{packed, spread, Binary, nextBytes, halfOf, setIn, setsIn, Holds, withSet, sameSlot, grown, rowOf, countOf, Expanded}
+use Rattle.states.specs.Slots.{withSet, sameSlot}
+use Rattle.states.specs.Memory.{packed, spread, Binary, nextBytes, halfOf, setIn, setsIn, Holds}
 use Rattle.states.proofs.SearchLaws.{first-le}
 use Rattle.states.proofs.MidLaws.{part-length, part-at}
 use Rattle.states.proofs.PatternSetLaws.{length-setOf}
 use Rattle.states.proofs.HalfLaws.{half-small, half-stored}
-use Rattle.states.proofs.PackLaws.{packed-length, spread-length, spread-binary, next-packed}
-use Rattle.states.proofs.SlotLaws.{with-length, length-setIn, held-bytes}
-use Rattle.states.proofs.ReadingLaws.{setsTo, Reading, reading-none, reading-count, reading-copy, reading-old, reading-new, reading-over, placeIn, reading-row}
+use Rattle.states.proofs.PackLaws.{packing, spread-length, spread-binary, next-packed}
+use Rattle.states.proofs.SlotLaws.{length-itemIn, held-bytes}
+use Rattle.states.proofs.ReadingLaws.{reading-none, Adding, Answers, adding-copy, adding-old, adding-new, adding-over}
 
 -- a place has a number of one byte
 pub place-small : (p : ℕ → Bool) (m t : ℕ) → t ≡ firstThat p m → m ≤ stateLimit → t < 256
@@ -31,17 +30,20 @@ abbrev entriesOf : List ℕ → ℕ → List ℕ
 entriesOf maps a = take (a * mapSize + mapSize - a * mapSize) (drop (a * mapSize) maps)
 
 module _ (d : ℕ) (maps firsts mem₀ : List ℕ) (i n : ℕ) where
+  abbrev byMap : PatternSet → ℕ → PatternSet
+  byMap = next d (mapIn maps firsts d)
+
   -- the set that letter a leads to from set i
-  unfoldable pub target : ℕ → PatternSet
-  target a = next d (mapIn maps firsts d) (setIn d mem₀ i) a
+  abbrev target : ℕ → PatternSet
+  target a = byMap (setIn d mem₀ i) a
 
   length-target : (a : ℕ) → length (target a) ≡ 2 ^ suc d
-  unfolding target next
+  unfolding next
   length-target a = length-setOf d _
 
   -- letters with the same map lead to the same set
   target-first : (a : ℕ) → getD firsts (getD firsts a 0) 0 ≡ getD firsts a 0 → target (getD firsts a 0) ≡ target a
-  unfolding target next mapIn
+  unfolding next mapIn
   target-first a e = ap (λ k. setOf d (λ p. member (setIn d mem₀ i) (getD maps (k * mapSize + p % 2 ^ d) 0))) e
 
   -- a map reads the low bits only
@@ -64,10 +66,9 @@ module _ (d : ℕ) (maps firsts mem₀ : List ℕ) (i n : ℕ) where
   -- what `put_set` writes for a letter whose own map is kept
   target-bytes : (count : ℕ) (present : List ℕ) (h a : ℕ) → Setting count present h → a < count → a ≤ getD firsts a 0
       → nextBytes present (entriesOf maps a) h ≡ packed (target a)
-  unfolding target
   target-bytes count present h a g l k =
       ap (λ s. nextBytes s (entriesOf maps a) h) (g .bits) ∙ ap (nextBytes (spread (packed (setIn d mem₀ i))) (entriesOf maps a)) (g .half)
-      ∙ next-packed d (setIn d mem₀ i) (g .small) (length-setIn d mem₀ i) (mapIn maps firsts d) a (entriesOf maps a) stored (map-reads a) (λ p. g .right .fits a p l)
+      ∙ next-packed d (setIn d mem₀ i) (g .small) (length-itemIn (2 ^ suc d) mem₀ i) (mapIn maps firsts d) a (entriesOf maps a) stored (map-reads a) (λ p. g .right .fits a p l)
     where
       own : getD firsts a 0 ≡ a
       own = omega (arith, g .right .before a l)
@@ -81,29 +82,25 @@ module _ (d : ℕ) (maps firsts mem₀ : List ℕ) (i n : ℕ) where
 
   abbrev pub Kept : ℕ → List ℕ → ℕ → ℕ → ℕ → List ℕ → List ℕ → Type 0
   Kept count present h a m mem row =
-      (a ≤ count) × (m ≤ stateLimit) × (length mem ≡ length mem₀) × (length row ≡ count) × Setting count present h × Reading d target (setsIn d mem₀ n) a m mem row
+      Adding (2 ^ suc d) packed byMap (setIn d mem₀ i) (setsIn d mem₀ n) stateLimit count (length mem₀) a m mem row × Setting count present h
 
   pub kept-none : (present : List ℕ) (h : ℕ) (row : List ℕ) → d < 8 → length maps ≡ letterLimit * mapSize → length row ≤ letterLimit → Maps d (length row) maps firsts
       → i < n → n ≤ stateLimit → length mem₀ ≡ (stateLimit + 1) * setSize → Holds d mem₀ n
       → present ≡ spread (take (i * setSize + setSize - i * setSize) (drop (i * setSize) mem₀)) → h ≡ halfOf d → Kept (length row) present h 0 n mem₀ row
   kept-none present h row small size few right l k room g e half = (
-    omega arith,
-    k,
-    refl,
-    refl,
-    record { small = small; size = size; few = few; right = right; room = room; bits = e ∙ ap spread (held-bytes d mem₀ n i g l (omega arith)); half = half },
-    reading-none d target (setsIn d mem₀ n) n mem₀ row refl g,
+    (omega arith, k, refl, refl, reading-none (2 ^ suc d) packed byMap (setIn d mem₀ i) (setsIn d mem₀ n) n mem₀ row refl g),
+    record { small = small; size = size; few = few; right = right; room = room; bits = e ∙ ap spread (held-bytes (2 ^ suc d) packed (packing d small) mem₀ n i g l (omega arith)); half = half },
   )
 
   module _ (count : ℕ) (present : List ℕ) (h a m : ℕ) (mem row : List ℕ) (z : Kept count present h a m mem row) (l : a < length row) where
     within : a < count
-    within = subst (λ k. a < k) (z .3) l
+    within = subst (λ k. a < k) (z .0 .3) l
 
     -- what `put_set` asks
     pub put-asked : (length present ≡ setSize * 8) × (Binary present × ((length (entriesOf maps a) ≡ mapSize)
         × ((0 < h) × ((h * 8 ≤ mapSize) × ((m ≤ stateLimit) × (length mem ≡ (stateLimit + 1) * setSize))))))
     put-asked =
-        let g = z .4 in
+        let g = z .1 in
         let half = half-small d (g .small) in
         let fits : a * mapSize + mapSize ≤ length maps = omega (arith, g .size, g .few, within) in (
           ap length (g .bits) ∙ spread-length _,
@@ -111,7 +108,7 @@ module _ (d : ℕ) (maps firsts mem₀ : List ℕ) (i n : ℕ) where
             subst Binary (sym (g .bits)) (spread-binary _),
             (
               part-length (a * mapSize) mapSize maps fits,
-              (subst (λ b. 0 < b) (sym (g .half)) (half .0), (subst (λ b. b * 8 ≤ mapSize) (sym (g .half)) (half .1), (z .1, z .2 ∙ g .room))),
+              (subst (λ b. 0 < b) (sym (g .half)) (half .0), (subst (λ b. b * 8 ≤ mapSize) (sym (g .half)) (half .1), (z .0 .1, z .0 .2 ∙ g .room))),
             ),
           ),
         )
@@ -119,99 +116,24 @@ module _ (d : ℕ) (maps firsts mem₀ : List ℕ) (i n : ℕ) where
     -- a letter with an earlier one's map
     pub kept-copy : getD firsts a 0 < a → (m′ : ℕ) (mem′ row′ : List ℕ) → mem′ ≡ mem → row′ ≡ set row a (getD row (getD firsts a 0) 0) → m′ ≡ m
         → Kept count present h (a + 1) m′ mem′ row′
-    kept-copy b m′ mem′ row′ p q s =
-        rw (p, q, s) (
-          omega (arith, within),
-          z .1,
-          z .2,
-          length-set row a (getD row (getD firsts a 0) 0) ∙ z .3,
-          z .4,
-          reading-copy d target (setsIn d mem₀ n) a m (getD firsts a 0) mem row (z .5) l b (target-first a (z .4 .right .first a within)),
-        )
+    kept-copy b m′ mem′ row′ p q s = rw (p, q, s) (adding-copy _ _ _ _ _ (z .0) l (getD firsts a 0) b (target-first a (z .1 .right .first a within)), z .1)
 
     -- a letter whose own map is kept: its set is written behind the others, and found at place t
     module _ (w : List ℕ) (t : ℕ) (own : a ≤ getD firsts a 0) (written : w ≡ withSet mem m (nextBytes present (entriesOf maps a) h))
         (found : t ≡ firstThat (sameSlot (withSet mem m (nextBytes present (entriesOf maps a) h)) m) m) where
-      room : m * setSize + setSize ≤ length mem
-      room = omega (arith, z .1, z .2, z .4 .room)
-
       w-is : w ≡ withSet mem m (packed (target a))
-      w-is = written ∙ ap (withSet mem m) (target-bytes count present h a (z .4) within own)
+      w-is = written ∙ ap (withSet mem m) (target-bytes count present h a (z .1) within own)
 
       first : t ≡ firstThat (sameSlot w m) m
       first = found ∙ ap (λ v. firstThat (sameSlot v m) m) (sym written)
 
-      w-length : length w ≡ length mem₀
-      w-length = ap length w-is ∙ with-length mem (packed (target a)) m room (packed-length (target a)) ∙ z .2
-
-      row-length : length (set row a t) ≡ count
-      row-length = length-set row a t ∙ z .3
-
       pub kept-old : (t ≡ m → ⊥) → (m′ : ℕ) (mem′ row′ : List ℕ) → mem′ ≡ w → row′ ≡ set row a t → m′ ≡ m → Kept count present h (a + 1) m′ mem′ row′
-      kept-old ne m′ mem′ row′ p q s =
-          rw (p, q, s) (
-            omega (arith, within),
-            z .1,
-            w-length,
-            row-length,
-            z .4,
-            reading-old d target (setsIn d mem₀ n) (z .4 .small) a m mem row w t (z .5) l (length-target a) room w-is first ne,
-          )
+      kept-old ne m′ mem′ row′ p q s = rw (p, q, s) (adding-old _ _ _ _ _ (z .0) l (packing d (z .1 .small)) (z .1 .room) (length-target a) w t w-is first ne, z .1)
 
       pub kept-new : t ≡ m → (m ≡ stateLimit → ⊥) → (m′ : ℕ) (mem′ row′ : List ℕ) → mem′ ≡ w → row′ ≡ set row a t → m′ ≡ m + 1
           → Kept count present h (a + 1) m′ mem′ row′
-      kept-new e ne m′ mem′ row′ p q s =
-          rw (p, q, s) (
-            omega (arith, within),
-            omega (arith, z .1, ne),
-            w-length,
-            row-length,
-            z .4,
-            reading-new d target (setsIn d mem₀ n) (z .4 .small) a m mem row w t (z .5) l (length-target a) room w-is first e,
-          )
+      kept-new e ne m′ mem′ row′ p q s = rw (p, q, s) (adding-new _ _ _ _ _ (z .0) l (packing d (z .1 .small)) (z .1 .room) (length-target a) w t w-is first e ne, z .1)
 
-      -- no place is left for it
-      pub over : t ≡ m → m ≡ stateLimit → stateLimit < length (setsTo d target (setsIn d mem₀ n) count)
-      over e k =
-          subst (λ b. b < length (setsTo d target (setsIn d mem₀ n) count)) k
-          (reading-over d target (setsIn d mem₀ n) (z .4 .small) a m mem row w t (z .5) l (length-target a) room w-is first count e within)
-
-  -- ---- the answer
-
-  -- the sets that there are after every letter
-  abbrev allSets : ℕ → List PatternSet
-  allSets count = grown d (mapIn maps firsts d) (below count) (setsIn d mem₀ n) (setIn d mem₀ i)
-
-  abbrev fullRow : ℕ → List ℕ
-  fullRow count = rowOf d (mapIn maps firsts d) (below count) (allSets count) (setIn d mem₀ i)
-
-  all-is : (count : ℕ) → allSets count ≡ setsTo d target (setsIn d mem₀ n) count
-  unfolding grown nextSets setsTo target
-  all-is count = refl
-
-  row-is : (count : ℕ) → fullRow count ≡ map (placeIn d target (setsIn d mem₀ n) (allSets count)) (below count)
-  unfolding rowOf target placeIn
-  row-is count = refl
-
-  pub answer-over : (count : ℕ) (mem row : List ℕ) → stateLimit < length (setsTo d target (setsIn d mem₀ n) count)
-      → (TooMany ≡ countOf (allSets count)) × Expanded d (allSets count) (fullRow count) mem row
-  answer-over count mem row h =
-      let k : stateLimit < length (allSets count) = rw all-is h in (
-        rw (lt-ltb stateLimit (length (allSets count)) k),
-        record { sets-in = λ l. absurd (omega arith); holds = λ l. absurd (omega arith); row-is = λ l. absurd (omega arith) },
-      )
-
-  pub answer-done : (count : ℕ) (present : List ℕ) (h a m : ℕ) (mem row : List ℕ) → Kept count present h a m mem row → length row ≤ a
-      → (States m ≡ countOf (allSets count)) × Expanded d (allSets count) (fullRow count) mem row
-  answer-done count present h a m mem row z l =
-      let e : a ≡ count = omega (arith, z .0, z .3) in
-      let r : Reading d target (setsIn d mem₀ n) count m mem row = rw e at (z .5) in
-      let size : length (allSets count) ≡ m = ap length (all-is count) ∙ reading-count d target (setsIn d mem₀ n) count m mem row r in (
-        sym (rw (size, le-ltb stateLimit m (z .1))),
-        record {
-          sets-in = λ l. ap (setsIn d mem) size ∙ r .sets ∙ sym (all-is count);
-          holds = λ l. subst (Holds d mem) (sym size) (r .holds);
-          row-is = λ l. reading-row d target (setsIn d mem₀ n) count m mem row r (z .3)
-              ∙ ap (λ ys. map (placeIn d target (setsIn d mem₀ n) ys) (below count)) (sym (all-is count)) ∙ sym (row-is count);
-        },
-      )
+      pub kept-over : t ≡ m → m ≡ stateLimit → (mem′ row′ : List ℕ)
+          → Answers (2 ^ suc d) packed byMap (setIn d mem₀ i) (setsIn d mem₀ n) stateLimit count TooMany mem′ row′
+      kept-over e k mem′ row′ = adding-over _ _ _ _ _ (z .0) l (packing d (z .1 .small)) (z .1 .room) (length-target a) w t w-is first e k mem′ row′

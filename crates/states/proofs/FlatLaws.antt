@@ -1,11 +1,15 @@
 -- Lists of equally long rows one after another.
 -- Assumes nothing.
-use Prim.Native.Nat.{ℕ, zero, suc, _+_, _*_, _<_}
-use native.Mathlib.Nat.{zero-mul, zero-add, suc-mul, add-assoc, add-comm, not-suc-le-zero, le-of-suc-le-suc}
+use Prim.Native.Nat.{ℕ, zero, suc, _+_, _*_, _≤_, _<_}
+use native.Mathlib.Nat.{zero-mul, zero-add, suc-mul, add-assoc, add-comm, not-suc-le-zero, le-of-suc-le-suc, mul-le-mul-right}
 use mathlib.Core.Path.{_≡_, sym, ap, _∙_, subst}
 use mathlib.Core.List.{List, [], _∷_, _++_, flatMap}
 use lib.ListN.{length, getD, length-append, List·getD-append}
 use lib.Seq.{getD-append-add}
+
+-- row j ends where the next begins, or before
+pub row-ends : (w i j : ℕ) → j < i → j * w + w ≤ i * w
+row-ends w i j h = subst (λ n. n ≤ i * w) (suc-mul j w) (mul-le-mul-right w h)
 
 module _ {A : Type 0} (w : ℕ) (g : A → List ℕ) (wide : (x : A) → length (g x) ≡ w) where
   pub length-rows : (xs : List A) → length (flatMap g xs) ≡ length xs * w

@@ -45,7 +45,7 @@ bit-and x y j =
     ap (λ m. eqb (m % 2) 1) (and-shr x y j) ∙ ap (λ m. eqb m 1) (and-mod (x / 2 ^ j) (y / 2 ^ j) 1)
     ∙ odd-and (x / 2 ^ j % 2) (y / 2 ^ j % 2) (odd-lt (x / 2 ^ j)) (odd-lt (y / 2 ^ j))
 
-bit-or : (x y j : ℕ) → bit (bitOr x y) j ≡ (bit x j || bit y j)
+pub bit-or : (x y j : ℕ) → bit (bitOr x y) j ≡ (bit x j || bit y j)
 bit-or x y j =
     ap (λ m. eqb (m % 2) 1) (or-shr x y j) ∙ ap (λ m. eqb m 1) (or-mod (x / 2 ^ j) (y / 2 ^ j) 1)
     ∙ odd-or (x / 2 ^ j % 2) (y / 2 ^ j % 2) (odd-lt (x / 2 ^ j)) (odd-lt (y / 2 ^ j))

@@ -36,11 +36,11 @@ pub mod PlaneLaws
 -- the maps of letters
 pub mod MapLaws
 pub mod PrepareLaws
--- sets in memory
+-- items in memory, sets among them
+pub mod SlotLaws
 pub mod SetLaws
 pub mod HalfLaws
 pub mod PackLaws
-pub mod SlotLaws
 -- the search: one state, turn by turn, the end
 pub mod ReadingLaws
 pub mod ExpandLaws

@@ -16,12 +16,13 @@ use Rattle.rules.proofs.ListLaws.{length-tabulate, getD-tabulate}
 use Rattle.states.specs.Limits.{setSize}
 use Rattle.states.specs.Bits.{fromBits}
 use Rattle.states.specs.PatternSet.{PatternSet, member, start, next}
-use Rattle.states.specs.Memory.{packed, startByte, spread, Binary, nextByte, nextBytes, halfOf, setIn}
+use Rattle.states.specs.Memory.{packed, startByte, spread, Binary, nextByte, nextBytes, halfOf}
 use Rattle.states.proofs.BitLaws.{bit-mod, digit-lt, digit-is}
 use Rattle.states.proofs.ListLaws.{tabulate-ext}
 use Rattle.states.proofs.TableLaws.{bit-table}
 use Rattle.states.proofs.FillLaws.{table-all}
-use Rattle.states.proofs.PatternSetLaws.{length-setOf, member-setOf, set-ext, length-start}
+use Rattle.states.proofs.PatternSetLaws.{length-setOf, member-setOf, length-start}
+use Rattle.states.proofs.SlotLaws.{Packing, packing-bits}
 use Rattle.states.proofs.HalfLaws.{half-small, half-pattern}
 
 -- a pattern has a bit in a set's bytes
@@ -48,7 +49,7 @@ bit-byte : (s : PatternSet) (i j : ℕ) → j < 8 → bit (byteOf s i) j ≡ mem
 unfolding byteOf
 bit-byte s i j h = bit-table 8 (λ k. member s ((i * 8 + k) % length s)) j h
 
-bit-packed : (s : PatternSet) (p : ℕ) → p < 256 → bit (getD (packed s) (p / 8) 0) (p % 8) ≡ member s (p % length s)
+pub bit-packed : (s : PatternSet) (p : ℕ) → p < 256 → bit (getD (packed s) (p / 8) 0) (p % 8) ≡ member s (p % length s)
 bit-packed s p h =
     ap (λ x. bit x (p % 8)) (packed-at s (p / 8) (omega arith)) ∙ bit-byte s (p / 8) (p % 8) (omega arith)
     ∙ ap (λ q. member s (q % length s)) (div-add-mod' p 8)
@@ -59,28 +60,10 @@ bit-pattern : (d : ℕ) (s : PatternSet) → d < 8 → length s ≡ 2 ^ suc d
 bit-pattern d s h e p l =
     bit-packed s p (pattern-lt d p h l) ∙ ap (λ n. member s (p % n)) e ∙ ap (member s) (mod-eq-of-lt l)
 
--- a set is read back from its bytes
-pub setOf-packed : (d : ℕ) (s : PatternSet) → d < 8 → length s ≡ 2 ^ suc d → (mem : List ℕ) (i : ℕ)
-    → ((b : ℕ) → b < setSize → getD mem (i * setSize + b) 0 ≡ getD (packed s) b 0) → setIn d mem i ≡ s
-unfolding setIn
-setOf-packed d s h e mem i f =
-    set-ext d (setIn d mem i) s (length-setOf d _) e
-    (λ p l. member-setOf d _ p l ∙ ap (λ x. bit x (p % 8)) (f (p / 8) (byte p (pattern-lt d p h l))) ∙ bit-pattern d s h e p l)
-  where
-    byte : (p : ℕ) → p < setSize * 8 → p / 8 < setSize
-    byte p l = omega arith
-
--- sets with the same bytes are the same
-pub bytes-injective : (d : ℕ) (s t : PatternSet) → d < 8 → length s ≡ 2 ^ suc d → length t ≡ 2 ^ suc d
-    → ((b : ℕ) → b < setSize → getD (packed s) b 0 ≡ getD (packed t) b 0) → s ≡ t
-bytes-injective d s t h e f q =
-    sym (setOf-packed d s h e (packed s) 0 (λ b l. at s b)) ∙ setOf-packed d t h f (packed s) 0 (λ b l. at s b ∙ q b l)
-  where
-    at : (u : PatternSet) (b : ℕ) → getD (packed u) (0 * setSize + b) 0 ≡ getD (packed u) b 0
-    at u b = let z : 0 * setSize + b ≡ b = omega arith in ap (λ k. getD (packed u) k 0) z
-
-pub packed-injective : (d : ℕ) (s t : PatternSet) → d < 8 → length s ≡ 2 ^ suc d → length t ≡ 2 ^ suc d → packed s ≡ packed t → s ≡ t
-packed-injective d s t h e f q = bytes-injective d s t h e f (λ b l. ap (λ bytes. getD bytes b 0) q)
+-- so a set is read back from its bytes
+pub packing : (d : ℕ) → d < 8 → Packing (2 ^ suc d) packed
+unfolding member
+packing d h = packing-bits (2 ^ suc d) packed (pow-mono {i = suc d} {j = 8} h) packed-length (λ s e. bit-pattern d s h e)
 
 -- ---- the start set
 
@@ -101,7 +84,7 @@ start-done d p w i q l e = table-all i setSize (startByte d) p w q l e ∙ start
 
 -- ---- a set's bits one by one
 
-spread-at : (bytes : List ℕ) (p : ℕ) → p < 256 → getD (spread bytes) p 0 ≡ digit (bit (getD bytes (p / 8) 0) (p % 8))
+pub spread-at : (bytes : List ℕ) (p : ℕ) → p < 256 → getD (spread bytes) p 0 ≡ digit (bit (getD bytes (p / 8) 0) (p % 8))
 unfolding spread
 spread-at bytes p h = getD-tabulate (setSize * 8) (λ q. digit (bit (getD bytes (q / 8) 0) (q % 8))) p 0 h
 

@@ -4,7 +4,7 @@ use Prim.Native.Nat.{ℕ, suc, _^_, _<_}
 use native.Mathlib.Omega.{arith}
 use mathlib.Core.Path.{_≡_, refl, sym, _∙_}
 use mathlib.Core.Bool.{Bool, false}
-use mathlib.Core.List.{List, [], _∷_, _++_, foldr, foldl-append}
+use mathlib.Core.List.{List, [], _∷_, foldr}
 use lib.Pow.{pow-pos}
 use lib.ListN.{length}
 use lib.Seq.{ext-getD}
@@ -65,17 +65,7 @@ module _ (d : ℕ) (back : ℕ → ℕ → ℕ) (fits : (a p : ℕ) → back a p
   length-after [] s e = e
   length-after (a ∷ π) s e = length-after π (next d back s a) (length-next s a)
 
-  pub after-append : (s : PatternSet) (π σ : List ℕ) → after d back s (π ++ σ) ≡ after d back (after d back s π) σ
-  unfolding after
-  after-append s π σ = foldl-append (next d back) s π σ
-
   pub accepts-after : (π : List ℕ) → accepts (after d back (start d) π) ≡ bit (foldr back 0 π) d
   unfolding accepts start
   accepts-after π =
       member-after π (start d) 0 (pow-pos (suc d)) ∙ member-setOf d (λ p. bit p d) (foldr back 0 π) (foldr-fits π 0 (pow-pos (suc d)))
-
-  -- a set that holds all patterns, or none, has its answer whatever letters follow
-  pub accepts-settled : (b : Bool) (s : PatternSet) → ((p : ℕ) → p < 2 ^ suc d → member s p ≡ b)
-      → (π : List ℕ) → accepts (after d back s π) ≡ b
-  unfolding accepts
-  accepts-settled b s e π = member-after π s 0 (pow-pos (suc d)) ∙ e (foldr back 0 π) (foldr-fits π 0 (pow-pos (suc d)))

@@ -9,8 +9,9 @@ use lib.ListN.{length}
 use Rattle.rules.proofs.Says.{Says, says-and}
 use Rattle.states.specs.Lists.{_∈_, Distinct}
 use Rattle.states.specs.PatternSet.{PatternSet, start, next, after}
-use Rattle.states.specs.Reach.{closed, over, Reached, Enumerates}
+use Rattle.states.specs.Reach.{closed, over, reachable, Reached, Enumerates}
 use Rattle.states.specs.ReachableSets.{sameSet, nextSets, reachableSets, IsReachable}
+use Rattle.states.specs.Successors.{stepsOver}
 use Rattle.states.proofs.ReachLaws.{closed-lists, over-iff, reached-iff-spelled}
 
 same-bit : (b c : Bool) → Says (Bool·beq b c) (b ≡ c)
@@ -36,6 +37,11 @@ module _ (d : ℕ) (back : ℕ → ℕ → ℕ) (letters : List ℕ) where
         λ w. record { trace = w .word; spelled = w .spelled; leads = w .leads },
         λ r. record { word = r .trace; spelled = r .spelled; leads = r .leads },
       )
+
+  -- they are what the letters as steps reach
+  pub sets-reachable : (limit : ℕ) → reachableSets d back letters limit ≡ reachable sameSet (stepsOver (next d back) letters) (start d) limit
+  unfolding reachableSets nextSets
+  sets-reachable limit = refl
 
   -- a closed list has each reachable set once, and nothing else
   pub sets-closed : (limit : ℕ) (xs : List PatternSet) → reachableSets d back letters limit ≡ closed xs

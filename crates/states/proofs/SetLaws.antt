@@ -13,7 +13,8 @@ use Rattle.rules.specs.Bits.{bit, digit}
 use Rattle.rules.specs.Lists.{tabulate}
 use Rattle.states.specs.Limits.{setSize}
 use Rattle.states.specs.Lists.{agree}
-use Rattle.states.specs.Memory.{startByte, spread, Binary, nextByte, repeated, nextBytes, sameSlot}
+use Rattle.states.specs.Slots.{sameSlot}
+use Rattle.states.specs.Memory.{startByte, spread, Binary, nextByte, repeated, nextBytes}
 use Rattle.states.proofs.BitLaws.{low-digit, one-digit}
 use Rattle.states.proofs.ListLaws.{tabulate-ext, table-take, getD-table}
 use Rattle.states.proofs.TableLaws.{tableFrom, from-all}

@@ -1,6 +1,7 @@
--- Sets one after another in memory: what writing the next one changes, and when it is one of those before.
+-- Items one after another in memory, of any length and packed in any way: what writing the next one changes, and when it is one
+-- of those before.
 -- Assumes nothing.
-use Prim.Native.Nat.{ℕ, suc, _+_, _-_, _*_, _^_, _≤_, _<_}
+use Prim.Native.Nat.{ℕ, _+_, _-_, _*_, _/_, _%_, _≤_, _<_}
 use native.Mathlib.Numerals.{add-one}
 use native.Mathlib.Omega.{arith}
 use mathlib.Core.Path.{_≡_, refl, sym, ap, _∙_, subst, ap₂}
@@ -10,21 +11,19 @@ use mathlib.Core.List.{List, [], _∷_, _++_, append-assoc}
 use lib.ListN.{length, getD, take, drop}
 use lib.Seq.{drop-drop, ext-getD}
 use borrow.Rule.Slice.PartMut.{putMid}
+use Rattle.rules.specs.Bits.{bit}
 use Rattle.rules.proofs.Says.{Says}
 use Rattle.rules.proofs.ListLaws.{length-tabulate, getD-tabulate}
 use Rattle.states.specs.Limits.{setSize}
 use Rattle.states.specs.Lists.{agree, firstThat}
-use Rattle.states.specs.PatternSet.{PatternSet}
 use Rattle.states.specs.Reach.{isIn, indexIn}
 use Rattle.states.specs.ReachableSets.{sameSet}
-use Rattle.states.specs.Memory.{packed, setIn, setsIn, Holds, withSet, sameSlot}
+use Rattle.states.specs.Slots.{itemIn, itemsIn, HoldsItems, withSet, sameSlot}
 use Rattle.states.proofs.ListLaws.{tabulate-suc, tabulate-ext}
 use Rattle.states.proofs.SearchLaws.{agree-at, first-passes, first-least, agree-all, last-or-before}
 use Rattle.states.proofs.AddLaws.{index-found, index-none}
 use Rattle.states.proofs.MidLaws.{part-length, part-at, mid-before, mid-in, mid-length}
-use Rattle.states.proofs.PatternSetLaws.{length-setOf}
 use Rattle.states.proofs.ReachableSetLaws.{sameSet-says}
-use Rattle.states.proofs.PackLaws.{packed-length, setOf-packed, bytes-injective}
 
 -- ---- the memory with the bytes of place m written
 
@@ -52,103 +51,130 @@ module _ (mem bytes : List ℕ) (m : ℕ) (room : m * setSize + setSize ≤ leng
     pub with-length : length (withSet mem m bytes) ≡ length mem
     with-length = ap length (with-mid mem bytes m) ∙ mid-length mem (m * setSize) setSize bytes room size
 
--- ---- sets in memory
+-- ---- items in memory
 
-pub length-setIn : (d : ℕ) (mem : List ℕ) (i : ℕ) → length (setIn d mem i) ≡ 2 ^ suc d
-unfolding setIn
-length-setIn d mem i = length-setOf d _
+pub length-itemIn : (len : ℕ) (mem : List ℕ) (i : ℕ) → length (itemIn len mem i) ≡ len
+unfolding itemIn
+length-itemIn len mem i = length-tabulate len _
 
-pub length-setsIn : (d : ℕ) (mem : List ℕ) (n : ℕ) → length (setsIn d mem n) ≡ n
-unfolding setsIn
-length-setsIn d mem n = length-tabulate n (setIn d mem)
+pub length-itemsIn : (len : ℕ) (mem : List ℕ) (n : ℕ) → length (itemsIn len mem n) ≡ n
+unfolding itemsIn
+length-itemsIn len mem n = length-tabulate n (itemIn len mem)
 
-pub getD-setsIn : (d : ℕ) (mem : List ℕ) (n i : ℕ) (e : PatternSet) → i < n → getD (setsIn d mem n) i e ≡ setIn d mem i
-unfolding setsIn
-getD-setsIn d mem n i e h = getD-tabulate n (setIn d mem) i e h
+pub getD-itemsIn : (len : ℕ) (mem : List ℕ) (n i : ℕ) (e : List Bool) → i < n → getD (itemsIn len mem n) i e ≡ itemIn len mem i
+unfolding itemsIn
+getD-itemsIn len mem n i e h = getD-tabulate n (itemIn len mem) i e h
 
--- the bytes of a set that is held
-pub held-bytes : (d : ℕ) (mem : List ℕ) (n i : ℕ) → Holds d mem n → i < n → n * setSize ≤ length mem
-    → take (i * setSize + setSize - i * setSize) (drop (i * setSize) mem) ≡ packed (setIn d mem i)
-held-bytes d mem n i g h l =
-    let size : length (take (i * setSize + setSize - i * setSize) (drop (i * setSize) mem)) ≡ setSize = part-length (i * setSize) setSize mem (omega arith) in
-    ext-getD 0 _ (packed (setIn d mem i)) (size ∙ sym (packed-length (setIn d mem i)))
-    (λ b k. let small : b < setSize = subst (λ n. b < n) size k in part-at (i * setSize) setSize mem b small ∙ g .slot i b h small)
+-- a packing: an item fills its place, and is read back from it
+pub record Packing (len : ℕ) (pack : List Bool → List ℕ) : Type 0 where
+  pub size : (x : List Bool) → length (pack x) ≡ setSize
+  pub back : (x : List Bool) → length x ≡ len → (mem : List ℕ) (i : ℕ)
+      → ((b : ℕ) → b < setSize → getD mem (i * setSize + b) 0 ≡ getD (pack x) b 0) → itemIn len mem i ≡ x
+
+-- the bits of its bytes are its entries
+pub packing-bits : (len : ℕ) (pack : List Bool → List ℕ) → len ≤ setSize * 8 → ((x : List Bool) → length (pack x) ≡ setSize)
+    → ((x : List Bool) → length x ≡ len → (p : ℕ) → p < len → bit (getD (pack x) (p / 8) 0) (p % 8) ≡ getD x p false) → Packing len pack
+unfolding itemIn
+packing-bits len pack few size bits =
+    record {
+      size = size;
+      back = λ x e mem i f.
+          ext-getD false (itemIn len mem i) x (length-itemIn len mem i ∙ sym e)
+          (λ p h. let l : p < len = subst (λ n. p < n) (length-itemIn len mem i) h in
+          getD-tabulate len _ p false l ∙ ap (λ y. bit y (p % 8)) (f (p / 8) (omega arith)) ∙ bits x e p l);
+    }
 
 both-say : {P : Type 0} (b c : Bool) → Says b P → Says c P → b ≡ c
 both-say true c p q = sym (q .1 (p .0 refl))
 both-say false true p q = p .1 (q .0 refl)
 both-say false false p q = refl
 
--- another memory with the same first m sets
-module _ (d : ℕ) (small : d < 8) (mem w : List ℕ) (m : ℕ) (holds : Holds d mem m) (same : (k : ℕ) → k < m * setSize → getD w k 0 ≡ getD mem k 0) where
-  set-kept : (i : ℕ) → i < m → setIn d w i ≡ setIn d mem i
-  set-kept i h =
-      setOf-packed d (setIn d mem i) small (length-setIn d mem i) w i
-      (λ b l. same (i * setSize + b) (omega arith) ∙ holds .slot i b h l)
+module _ (len : ℕ) (pack : List Bool → List ℕ) (packing : Packing len pack) where
+  -- items with the same bytes are the same
+  bytes-injective : (x y : List Bool) → length x ≡ len → length y ≡ len → ((b : ℕ) → b < setSize → getD (pack x) b 0 ≡ getD (pack y) b 0) → x ≡ y
+  bytes-injective x y e f q = sym (packing .back x e (pack x) 0 (λ b l. at b)) ∙ packing .back y f (pack x) 0 (λ b l. at b ∙ q b l)
+    where
+      at : (b : ℕ) → getD (pack x) (0 * setSize + b) 0 ≡ getD (pack x) b 0
+      at b = let z : 0 * setSize + b ≡ b = omega arith in ap (λ k. getD (pack x) k 0) z
 
-  pub sets-kept : setsIn d w m ≡ setsIn d mem m
-  unfolding setsIn
-  sets-kept = tabulate-ext m (setIn d w) (setIn d mem) set-kept
+  -- the bytes of an item that is held
+  pub held-bytes : (mem : List ℕ) (n i : ℕ) → HoldsItems len pack mem n → i < n → n * setSize ≤ length mem
+      → take (i * setSize + setSize - i * setSize) (drop (i * setSize) mem) ≡ pack (itemIn len mem i)
+  held-bytes mem n i g h l =
+      let size : length (take (i * setSize + setSize - i * setSize) (drop (i * setSize) mem)) ≡ setSize = part-length (i * setSize) setSize mem (omega arith) in
+      ext-getD 0 _ (pack (itemIn len mem i)) (size ∙ sym (packing .size (itemIn len mem i)))
+      (λ b k. let small : b < setSize = subst (λ n. b < n) size k in part-at (i * setSize) setSize mem b small ∙ g .slot i b h small)
 
-  slot-kept : (i b : ℕ) → i < m → b < setSize → getD w (i * setSize + b) 0 ≡ getD (packed (setIn d w i)) b 0
-  slot-kept i b h l = same (i * setSize + b) (omega arith) ∙ holds .slot i b h l ∙ ap (λ s. getD (packed s) b 0) (sym (set-kept i h))
+  -- another memory with the same first m items
+  module _ (mem w : List ℕ) (m : ℕ) (holds : HoldsItems len pack mem m) (same : (k : ℕ) → k < m * setSize → getD w k 0 ≡ getD mem k 0) where
+    item-kept : (i : ℕ) → i < m → itemIn len w i ≡ itemIn len mem i
+    item-kept i h =
+        packing .back (itemIn len mem i) (length-itemIn len mem i) w i
+        (λ b l. same (i * setSize + b) (omega arith) ∙ holds .slot i b h l)
 
-  pub holds-kept : Holds d w m
-  holds-kept = record { slot = slot-kept }
+    pub items-kept : itemsIn len w m ≡ itemsIn len mem m
+    unfolding itemsIn
+    items-kept = tabulate-ext m (itemIn len w) (itemIn len mem) item-kept
 
-  -- and the set x behind them
-  module _ (x : PatternSet) (size : length x ≡ 2 ^ suc d) (there : (b : ℕ) → b < setSize → getD w (m * setSize + b) 0 ≡ getD (packed x) b 0) where
-    set-there : setIn d w m ≡ x
-    set-there = setOf-packed d x small size w m there
+    slot-kept : (i b : ℕ) → i < m → b < setSize → getD w (i * setSize + b) 0 ≡ getD (pack (itemIn len w i)) b 0
+    slot-kept i b h l = same (i * setSize + b) (omega arith) ∙ holds .slot i b h l ∙ ap (λ s. getD (pack s) b 0) (sym (item-kept i h))
 
-    pub sets-more : setsIn d w (m + 1) ≡ setsIn d mem m ++ (x ∷ [])
-    unfolding setsIn
-    sets-more =
-        ap (λ n. setsIn d w n) (add-one m) ∙ tabulate-suc m (setIn d w)
-        ∙ ap (λ l. l ++ (setIn d w m ∷ [])) sets-kept ∙ ap (λ s. setsIn d mem m ++ (s ∷ [])) set-there
+    pub holds-kept : HoldsItems len pack w m
+    holds-kept = record { slot = slot-kept }
 
-    pub holds-more : Holds d w (m + 1)
-    holds-more = record { slot = λ i b h l. at i b l (last-or-before m i h) }
-      where
-        at : (i b : ℕ) → b < setSize → (i ≡ m) ⊎ (i < m) → getD w (i * setSize + b) 0 ≡ getD (packed (setIn d w i)) b 0
-        at i b l (inl e) = rw e (there b l ∙ ap (λ s. getD (packed s) b 0) (sym set-there))
-        at i b l (inr h) = slot-kept i b h l
+    -- and the item x behind them
+    module _ (x : List Bool) (size : length x ≡ len) (there : (b : ℕ) → b < setSize → getD w (m * setSize + b) 0 ≡ getD (pack x) b 0) where
+      item-there : itemIn len w m ≡ x
+      item-there = packing .back x size w m there
 
-    -- the places with the same bytes are those with the same set
-    same-slot : (i : ℕ) → i < m → sameSlot w m i ≡ sameSet x (getD (setsIn d mem m) i [])
-    unfolding sameSlot
-    same-slot i h =
-        both-say (sameSlot w m i) (sameSet x (getD (setsIn d mem m) i [])) (to, from) (sameSet-says x (getD (setsIn d mem m) i []))
-      where
-        f : ℕ → ℕ
-        f y = getD w (i * setSize + y) 0
+      pub items-more : itemsIn len w (m + 1) ≡ itemsIn len mem m ++ (x ∷ [])
+      unfolding itemsIn
+      items-more =
+          ap (λ n. itemsIn len w n) (add-one m) ∙ tabulate-suc m (itemIn len w)
+          ∙ ap (λ l. l ++ (itemIn len w m ∷ [])) items-kept ∙ ap (λ s. itemsIn len mem m ++ (s ∷ [])) item-there
 
-        g : ℕ → ℕ
-        g y = getD w (m * setSize + y) 0
+      pub holds-more : HoldsItems len pack w (m + 1)
+      holds-more = record { slot = λ i b h l. at i b l (last-or-before m i h) }
+        where
+          at : (i b : ℕ) → b < setSize → (i ≡ m) ⊎ (i < m) → getD w (i * setSize + b) 0 ≡ getD (pack (itemIn len w i)) b 0
+          at i b l (inl e) = rw e (there b l ∙ ap (λ s. getD (pack s) b 0) (sym item-there))
+          at i b l (inr h) = slot-kept i b h l
 
-        is : getD (setsIn d mem m) i [] ≡ setIn d w i
-        is = getD-setsIn d mem m i [] h ∙ sym (set-kept i h)
+      -- the places with the same bytes are those with the same item
+      same-slot : (i : ℕ) → i < m → sameSlot w m i ≡ sameSet x (getD (itemsIn len mem m) i [])
+      unfolding sameSlot
+      same-slot i h =
+          both-say (sameSlot w m i) (sameSet x (getD (itemsIn len mem m) i [])) (to, from) (sameSet-says x (getD (itemsIn len mem m) i []))
+        where
+          f : ℕ → ℕ
+          f y = getD w (i * setSize + y) 0
 
-        to : agree f g setSize ≡ true → x ≡ getD (setsIn d mem m) i []
-        to e =
-            bytes-injective d x (setIn d w i) small size (length-setIn d w i)
-            (λ b l. sym (there b l) ∙ sym (agree-at f g setSize b e l) ∙ slot-kept i b h l) ∙ sym is
+          g : ℕ → ℕ
+          g y = getD w (m * setSize + y) 0
 
-        from : x ≡ getD (setsIn d mem m) i [] → agree f g setSize ≡ true
-        from e = agree-all f g setSize (λ b l. slot-kept i b h l ∙ ap (λ s. getD (packed s) b 0) (sym (e ∙ is)) ∙ sym (there b l))
+          is : getD (itemsIn len mem m) i [] ≡ itemIn len w i
+          is = getD-itemsIn len mem m i [] h ∙ sym (item-kept i h)
 
-    -- the first place that is the same as the next one, m itself if there is none before
-    module _ (t : ℕ) (first : t ≡ firstThat (sameSlot w m) m) where
-      none-before : (j : ℕ) → j < t → j < m → sameSet x (getD (setsIn d mem m) j []) ≡ false
-      none-before j h l = sym (same-slot j l) ∙ first-least (sameSlot w m) m j (rw first at h)
+          to : agree f g setSize ≡ true → x ≡ getD (itemsIn len mem m) i []
+          to e =
+              bytes-injective x (itemIn len w i) size (length-itemIn len w i)
+              (λ b l. sym (there b l) ∙ sym (agree-at f g setSize b e l) ∙ slot-kept i b h l) ∙ sym is
 
-      pub place-old : t < m → (indexIn sameSet x (setsIn d mem m) ≡ t) × (isIn sameSet x (setsIn d mem m) ≡ true)
-      place-old h =
-          index-found sameSet x [] (setsIn d mem m) t (rw length-setsIn h)
-          (sym (same-slot t h) ∙ ap (sameSlot w m) first ∙ first-passes (sameSlot w m) m (rw first at h))
-          (λ j l. none-before j l (omega arith))
+          from : x ≡ getD (itemsIn len mem m) i [] → agree f g setSize ≡ true
+          from e = agree-all f g setSize (λ b l. slot-kept i b h l ∙ ap (λ s. getD (pack s) b 0) (sym (e ∙ is)) ∙ sym (there b l))
 
-      pub place-new : t ≡ m → isIn sameSet x (setsIn d mem m) ≡ false
-      place-new e =
-          index-none sameSet x [] (setsIn d mem m)
-          (λ j l. let k : j < m = rw length-setsIn at l in none-before j (omega arith) k)
+      -- the first place that is the same as the next one, m itself if there is none before
+      module _ (t : ℕ) (first : t ≡ firstThat (sameSlot w m) m) where
+        none-before : (j : ℕ) → j < t → j < m → sameSet x (getD (itemsIn len mem m) j []) ≡ false
+        none-before j h l = sym (same-slot j l) ∙ first-least (sameSlot w m) m j (rw first at h)
+
+        pub place-old : t < m → (indexIn sameSet x (itemsIn len mem m) ≡ t) × (isIn sameSet x (itemsIn len mem m) ≡ true)
+        place-old h =
+            index-found sameSet x [] (itemsIn len mem m) t (rw length-itemsIn h)
+            (sym (same-slot t h) ∙ ap (sameSlot w m) first ∙ first-passes (sameSlot w m) m (rw first at h))
+            (λ j l. none-before j l (omega arith))
+
+        pub place-new : t ≡ m → isIn sameSet x (itemsIn len mem m) ≡ false
+        place-new e =
+            index-none sameSet x [] (itemsIn len mem m)
+            (λ j l. let k : j < m = rw length-itemsIn at l in none-before j (omega arith) k)

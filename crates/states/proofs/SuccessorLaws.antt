@@ -18,7 +18,7 @@ use Rattle.states.proofs.ReachLaws.{isIn-says, closed-lists}
 use Rattle.states.proofs.ReachableSetLaws.{sameSet-says}
 
 -- what is in a list stands at its number
-index-right : {A : Type 0} (same : A → A → Bool) → ((x y : A) → Says (same x y) (x ≡ y)) → (x : A) (xs : List A) (e : A) → isIn same x xs ≡ true
+pub index-right : {A : Type 0} (same : A → A → Bool) → ((x y : A) → Says (same x y) (x ≡ y)) → (x : A) (xs : List A) (e : A) → isIn same x xs ≡ true
     → (indexIn same x xs < length xs) × (getD xs (indexIn same x xs) e ≡ x)
 unfolding isIn indexIn
 index-right same says x [] e t = absurd (false≢true t)

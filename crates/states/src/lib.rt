@@ -1,5 +1,6 @@
 // The states behind a problem: sets of obligation patterns, found by reading every letter in every state. Every function here
-// is proved, and the crate assumes nothing. `explore` serves the crate above, which shows that it meets what is asked.
+// is proved, and the crate assumes nothing. `explore`, `find`, `put_spread` and `same_slot` serve the crate above, which shows
+// that it meets what they ask.
 mod automaton;
 mod blocks;
 mod lanes;
@@ -13,3 +14,6 @@ mod values;
 
 pub use automaton::explore;
 pub use search::Explored;
+pub use sets::find;
+pub use sets::put_spread;
+pub use sets::same_slot;

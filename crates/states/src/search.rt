@@ -7,7 +7,8 @@ ghost use Rattle.states.specs.Limits.{stateLimit, letterLimit, setSize, 
 ghost use Rattle.states.specs.Lists.{firstThat, below, padded};
 ghost use Rattle.states.specs.ReachableSets.{reachableSets};
 ghost use Rattle.states.specs.Maps.{mapIn, Maps};
-ghost use Rattle.states.specs.Memory.{halfOf, Binary, nextBytes, setIn, setsIn, Holds, withSet, sameSlot, grown, rowOf, countOf, Expanded, Ran, exploredOf, setsOf, successorsOf};
+ghost use Rattle.states.specs.Slots.{withSet, sameSlot, exploredOf};
+ghost use Rattle.states.specs.Memory.{halfOf, Binary, nextBytes, setIn, setsIn, Holds, grown, rowOf, countOf, Expanded, Ran, setsOf, successorsOf};
 use crate::sets::find;
 use crate::sets::put_next;
 use crate::sets::put_spread;

@@ -5,7 +5,8 @@ ghost use lib.ListN.{length};
 ghost use Rattle.states.specs.Limits.{setSize, mapSize};
 ghost use Rattle.states.specs.Lists.{firstThat};
 ghost use Rattle.states.specs.PatternSet.{start};
-ghost use Rattle.states.specs.Memory.{packed, startByte, spread, Binary, nextByte, repeated, nextBytes, sameSlot};
+ghost use Rattle.states.specs.Slots.{sameSlot};
+ghost use Rattle.states.specs.Memory.{packed, startByte, spread, Binary, nextByte, repeated, nextBytes};
 use crate::sizes::SET;
 
 // Byte i of the start set over d operators.
@@ -99,7 +100,7 @@ pub fn put_next(present: &[u8], entries: &[u8], h: usize, place: &mut [u8])
 }
 
 // Whether places i and n hold the same bytes.
-fn same_slot(mem: &[u8], n: usize, i: usize) -> bool
+pub fn same_slot(mem: &[u8], n: usize, i: usize) -> bool
     requires { ⌜ n * setSize + setSize ≤ length (now mem) ⌝ }
     requires { ⌜ i * setSize + setSize ≤ length (now mem) ⌝ }
     ensures { λ r. ⌜ r ≡ sameSlot (now (mem .entry)) n i ⌝ }

@@ -3,7 +3,7 @@ use mathlib.Core.Path.{sym}
 use lib.Seq.{length-take-le}
 use Rattle.rules.proofs.FieldLaws.{tab-in, tab-below, no-tab, declare-word, rule-word, unknown-word}
 use Rattle.grammar.specs.Tree.{lists}
-use Rattle.grammar.specs.Bytes.{notTab, between}
+use Rattle.grammar.specs.Bytes.{between}
 use borrow.Author.Needs.{needs}
 use Rattle.rules.proofs.lines.read_line.Statement.{statement}
 use Rattle.rules.proofs.lines.read_line.Tie as tie

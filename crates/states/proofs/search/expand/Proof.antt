@@ -7,7 +7,8 @@ use mathlib.Core.Path.{_∙_}
 use mathlib.Core.Logic.{⊎-elim}
 use lib.ListN.{length}
 use borrow.Author.Needs.{needs}
-use Rattle.states.proofs.ExpandLaws.{place-small, Kept, kept-none, put-asked, kept-copy, kept-old, kept-new, over, answer-over, answer-done}
+use Rattle.states.proofs.ReadingLaws.{adding-all}
+use Rattle.states.proofs.ExpandLaws.{place-small, Kept, kept-none, put-asked, kept-copy, kept-old, kept-new, kept-over}
 use Rattle.states.proofs.search.expand.Statement.{statement}
 use Rattle.states.proofs.search.expand.Tie as tie
 
@@ -99,9 +100,8 @@ returns c =
     let s = c .before .before .before .before in
     let b = s .before .before .before .before in
     let l = b .before .before .before .loop in
-    answer-over _ _ _ _ _ _ _ _ _
-    (over _ _ _ _ _ _ _ _ _ _ _ (l .mem) (l .row) (l .inv) (b .before .before .loop-test .taken) _ _
-    (b .if1 .left) (s .put-set .ensures .1) (s .put-set .ensures .0) (c .before .if2 .taken) (c .if3 .taken))
+    kept-over _ _ _ _ _ _ _ _ _ _ _ (l .mem) (l .row) (l .inv) (b .before .before .loop-test .taken) _ _
+    (b .if1 .left) (s .put-set .ensures .1) (s .put-set .ensures .0) (c .before .if2 .taken) (c .if3 .taken) _ _
 
 add-m : tie.Need-add-m Inv-loop μ-loop
 add-m c = search needs
@@ -111,7 +111,7 @@ cast-row c =
     omega (
       arith,
       place-small _ _ _ (c .before .before .before .put-set .ensures .0)
-          (c .before .before .before .before .before .before .before .before .before .before .loop .inv .1),
+          (c .before .before .before .before .before .before .before .before .before .before .loop .inv .0 .1),
     )
 
 slice-write-row-2 : tie.Need-slice-write-row-2 Inv-loop μ-loop
@@ -144,9 +144,7 @@ same-length-4 : tie.Need-same-length-4 Inv-loop μ-loop
 same-length-4 c = search needs
 
 returns-2 : tie.Need-returns-2 Inv-loop μ-loop
-returns-2 c =
-    let l = c .before .loop in
-    answer-done _ _ _ _ _ _ _ _ _ _ _ (l .mem) (l .row) (l .inv) (c .loop-test .left)
+returns-2 c = adding-all _ _ _ _ _ (c .before .loop .inv .0) (c .loop-test .left)
 
 pub expand-spec : {M : Type 1} → statement M
 expand-spec =

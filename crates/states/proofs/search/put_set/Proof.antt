@@ -7,7 +7,7 @@ use lib.ListN.{length}
 use borrow.Author.Needs.{needs}
 use Rattle.states.specs.Limits.{setSize}
 use Rattle.states.specs.Lists.{firstThat}
-use Rattle.states.specs.Memory.{sameSlot}
+use Rattle.states.specs.Slots.{sameSlot}
 use Rattle.states.proofs.MidLaws.{part-length}
 use Rattle.states.proofs.SlotLaws.{set-back}
 use Rattle.states.proofs.search.put_set.Statement.{statement}

@@ -1,6 +1,6 @@
 -- `states::search::run` meets its contract. The invariant: the memory holds the sets found so far, and those read have their rows.
 -- Assumes nothing.
-use Prim.Native.Nat.{_+_, _-_, _*_}
+use Prim.Native.Nat.{suc, _+_, _-_, _*_, _^_}
 use native.Mathlib.Omega.{arith}
 use mathlib.Core.Path.{refl, sym, _∙_, subst, _≡_}
 use lib.ListN.{length}
@@ -8,15 +8,23 @@ use lib.Seq.{length-front}
 use borrow.Author.Needs.{needs}
 use borrow.Rule.Slice.PartMut.{same-len-mid}
 use Rattle.states.specs.Limits.{stateLimit, letterLimit, setSize}
+use Rattle.states.specs.Lists.{below}
+use Rattle.states.specs.PatternSet.{start, next}
+use Rattle.states.specs.ReachableSets.{reachableSets}
 use Rattle.states.specs.Maps.{Maps, mapIn}
+use Rattle.states.specs.Memory.{packed}
 use Rattle.states.proofs.ListLaws.{zeros-length}
+use Rattle.states.proofs.PatternSetLaws.{length-start}
+use Rattle.states.proofs.ReachableSetLaws.{sets-reachable}
+use Rattle.states.proofs.PackLaws.{packing}
 use Rattle.states.proofs.TurnLaws.{turn-begin, turn-many, turn-next, turn-answer, turn-left, Turn, turn-row}
 use Rattle.states.proofs.search.run.Statement.{statement}
 use Rattle.states.proofs.search.run.Tie as tie
 
 abbrev Inv-loop : tie.InvT-loop
 Inv-loop maps firsts d count mem₀ successors₀ n₀ i₀ mem successors n i =
-    (length mem ≡ (stateLimit + 1) * setSize) × (length successors ≡ stateLimit * letterLimit) × Turn d (mapIn maps firsts d) count mem successors n i
+    (length mem ≡ (stateLimit + 1) * setSize) × (length successors ≡ stateLimit * letterLimit)
+    × Turn (2 ^ suc d) packed (next d (mapIn maps firsts d)) (start d) stateLimit letterLimit count (reachableSets d (mapIn maps firsts d) (below count) stateLimit) mem successors n i
 
 abbrev μ-loop : tie.MeasureT-loop
 μ-loop maps firsts d count mem₀ successors₀ n₀ i₀ mem successors n i = stateLimit - i
@@ -41,8 +49,8 @@ loop-holds c =
     let made = c .before .before .put-start in (
       length-front (a .mem .now) (made .last .1 .0) 32 (made .kept .1 .0) ∙ p .0,
       zeros-length _ (stateLimit * letterLimit) (p .1),
-      turn-begin (a .d) _ (a .count) 32 (a .mem .now) (made .last .1 .0) (a .successors .now) (s .pre .0) (made .ensures) refl (omega (arith, p .0))
-          (stateLimit * letterLimit) (p .1),
+      turn-begin (packing (a .d) (s .pre .0)) (length-start (a .d)) (omega arith) (sets-reachable (a .d) _ (below (a .count)) stateLimit)
+          32 (a .mem .now) (made .last .1 .0) (a .successors .now) (made .ensures) refl (omega (arith, p .0)) (stateLimit * letterLimit) (p .1),
     )
 
 mul-at : tie.Need-mul-at Inv-loop μ-loop
@@ -74,7 +82,7 @@ expand-requires c κs =
     let l = c .before .before .before .loop in
     let t = l .inv .2 in
     let here = c .before .before .loop-test .taken in
-    let size = turn-row (a .d) _ (a .count) (l .mem) (l .successors) (l .n) (l .i) t here (p .1 .1 .0) (l .inv .1) .1 in
+    let size = turn-row t here (p .1 .1 .0) (l .inv .1) .1 in
     let maps = subst (λ k. Maps (a .d) k (a .maps .now) (a .firsts .now)) (sym size) (p .1 .1 .1 .0) in
     (s .pre .0, (p .0, (p .1 .0, (omega (arith, size, p .1 .1 .0), (maps, (here, (t .few, (l .inv .0, t .holds))))))))
 
@@ -105,8 +113,8 @@ returns c =
     let a = s .args in
     let t = l .inv .2 in
     let here = r .before .before .before .loop-test .taken in
-    let row = turn-row (a .d) _ (a .count) (l .mem) (l .successors) (l .n) (l .i) t here (s .pre .1 .1 .1 .0) (l .inv .1) in
-    turn-many (a .d) _ (a .count) (l .mem) (l .successors) (l .n) (l .i) t here _ (row .1) _ _ (sym (c .enum-told .given .1) ∙ r .expand .ensures .0)
+    let row = turn-row t here (s .pre .1 .1 .1 .0) (l .inv .1) in
+    turn-many t here _ (row .1) _ _ (sym (c .enum-told .given .1) ∙ r .expand .ensures .0)
 
 add-i : tie.Need-add-i Inv-loop μ-loop
 add-i c = search needs
@@ -123,13 +131,13 @@ loop-again c =
     let t = l .inv .2 in
     let here = r .before .before .before .loop-test .taken in
     let small = s .pre .1 .1 .1 .0 in
-    let row = turn-row (a .d) _ (a .count) (l .mem) (l .successors) (l .n) (l .i) t here small (l .inv .1) in
+    let row = turn-row t here small (l .inv .1) in
     let at = l .i * 512 in
     let new = r .expand .last .1 .1 .1 .1 .1 .1 .0 in
     let kept = r .expand .kept .1 .1 .1 .1 .1 in (
       kept .0 ∙ l .inv .0,
       same-len-mid at (at + a .count - at) (l .successors) new (kept .1 .0) ∙ l .inv .1,
-      turn-next (a .d) _ (a .count) (l .mem) (l .successors) (l .n) (l .i) t here _ (row .1) _ at (at + a .count - at) _ new
+      turn-next t here _ (row .1) _ at (at + a .count - at) _ new
           small refl (omega arith) (omega (arith, row .0)) (sym (c .before .m .given .1) ∙ r .expand .ensures .0) (r .expand .ensures .1),
     )
 
@@ -148,8 +156,8 @@ returns-2 c =
     let a = s .args in
     let t = l .inv .2 in
     let all = c .loop-test .left in (
-      turn-answer (a .d) _ (a .count) (l .mem) (l .successors) (l .n) (l .i) t all,
-      turn-left (a .d) _ (a .count) (l .mem) (l .successors) (l .n) (l .i) t all (s .pre .1 .1 .1 .0)
+      turn-answer t all,
+      turn-left t all (packing (s .args .d) (s .pre .0)) (omega arith) (s .pre .1 .1 .1 .0)
           (omega (arith, t .few, l .inv .0)) (omega (arith, t .few, l .inv .1)),
     )
 

@@ -5,11 +5,13 @@ use native.Mathlib.Omega.{arith}
 use mathlib.Core.Path.{refl, sym, ap, _∙_}
 use lib.ListN.{length, replicate}
 use borrow.Author.Needs.{needs}
-use Rattle.states.specs.Limits.{stateLimit}
+use Rattle.states.specs.Limits.{stateLimit, letterLimit}
 use Rattle.states.specs.Lists.{below}
+use Rattle.states.specs.PatternSet.{next}
 use Rattle.states.specs.ReachableSets.{reachableSets}
 use Rattle.states.specs.Maps.{mapIn}
-use Rattle.states.proofs.EndLaws.{answer-few, end-sets, end-rows, end-many}
+use Rattle.states.specs.Memory.{packed}
+use Rattle.states.proofs.EndLaws.{answer-few, end-items, end-rows, end-many}
 use Rattle.states.proofs.search.search.Statement.{statement}
 use Rattle.states.proofs.search.search.Tie as tie
 
@@ -92,8 +94,8 @@ returns c =
     let clear = c .before .before .clear2 in (
       q,
       (
-        end-sets (a .d) back letters all mem rows ran (n .0 .0) _ _ (clear .last .0) q room refl (clear .ensures) (sym (kept .0)),
-        end-rows (a .d) back letters all mem rows ran (n .0 .0) _ q (sym (kept .1 .0 ∙ k .clear .kept .0)),
+        end-items packed (next (a .d) back) letters letterLimit all mem rows ran (n .0 .0) _ _ (clear .last .0) q room refl (clear .ensures) (sym (kept .0)),
+        end-rows packed (next (a .d) back) letters letterLimit all mem rows ran (n .0 .0) _ q (sym (kept .1 .0 ∙ k .clear .kept .0)),
       ),
     )
 
@@ -117,8 +119,8 @@ returns-2 c =
     let two = c .before .before .clear4 in (
       q,
       (
-        end-many (a .d) back letters all q _ _ (one .last .0) (one .ensures) (kept .0) .0,
-        end-many (a .d) back letters all q _ _ (two .last .0) (two .ensures) (kept .1 .0 ∙ k .clear .kept .0) .1,
+        end-many packed (next (a .d) back) letters letterLimit all q _ _ (one .last .0) (one .ensures) (kept .0) .0,
+        end-many packed (next (a .d) back) letters letterLimit all q _ _ (two .last .0) (two .ensures) (kept .1 .0 ∙ k .clear .kept .0) .1,
       ),
     )
 

@@ -5,7 +5,7 @@ use native.Mathlib.Omega.{arith}
 use mathlib.Core.Path.{sym, _∙_, _≡_}
 use borrow.Author.Needs.{needs}
 use Rattle.states.specs.Lists.{firstThat}
-use Rattle.states.specs.Memory.{sameSlot}
+use Rattle.states.specs.Slots.{sameSlot}
 use Rattle.states.proofs.SearchLaws.{first-none, first-more, first-found, first-end}
 use Rattle.states.proofs.sets.find.Statement.{statement}
 use Rattle.states.proofs.sets.find.Tie as tie

@@ -1,0 +1,394 @@
+-- Beliefs in memory: what their bytes say, and what the functions on them do step by step.
+-- Assumes nothing.
+use Prim.Native.Nat.{ℕ, zero, suc, _+_, _*_, _/_, _%_, _^_, _≤_, _<_}
+use native.Mathlib.Nat.{add-assoc, one-mul, pow-suc, div-add-mod', mul-le-mul-right}
+use native.Mathlib.Numerals.{add-one}
+use native.Mathlib.Decide.{ℕ-discrete, decLt}
+use native.Mathlib.Omega.{arith}
+use mathlib.Core.Path.{_≡_, refl, sym, ap, ap₂, _∙_, subst}
+use mathlib.Core.Logic.{inl, inr}
+use mathlib.Core.Bool.{Bool, true, false, cond, not, _&&_, _||_, or-false, or-true, or-comm, or-assoc}
+use mathlib.Core.List.{List}
+use lib.Bits.{bitAnd, bitOr, and-mask, or-lt}
+use lib.Dec.{eqb, eqb·zero-suc, eqb·suc-zero, eqb·suc-suc}
+use lib.ListN.{length, getD, set, replicate, length-set, length-replicate, getD-replicate, List·getD-eq-default}
+use lib.Pow.{pow-lt, shl-exact}
+use lib.Seq.{ext-getD, getD-set-same, getD-set-other}
+use borrow.Author.Tests.{eqb-true, eq-eqb, ne-eqb}
+use Rattle.rules.specs.Bits.{bit, digit}
+use Rattle.rules.specs.Lists.{tabulate}
+use Rattle.rules.proofs.ListLaws.{length-tabulate, getD-tabulate}
+use Rattle.states.specs.Bits.{fromBits}
+use Rattle.states.specs.Limits.{stateLimit, letterLimit, setSize}
+use Rattle.states.specs.Memory.{spread}
+use Rattle.states.proofs.BitLaws.{fromBits-lt, low-lt, bit-low, bit-high, bit-zero, bits-ext}
+use Rattle.states.proofs.LaneLaws.{bit-or}
+use Rattle.states.proofs.PackLaws.{spread-at}
+use Rattle.states.proofs.TableLaws.{bit-table}
+use Rattle.states.proofs.SlotLaws.{Packing, packing-bits}
+use Rattle.game.specs.Bounded.{all, any}
+use Rattle.game.specs.Belief.{Belief, has}
+use Rattle.game.specs.Held.{packBelief, firstOf, successorIn, beliefAfter, allAccept, withState, withHidden, afterBytes, finalFrom, Successors}
+use Rattle.game.proofs.Bounded.{test, and-right, all-suc, any-suc, all-ext, all-fails, any-at}
+
+-- ---- bits
+
+-- a power of two has one bit
+bit-pow : (k j : ℕ) → bit (2 ^ k) j ≡ eqb k j
+bit-pow zero zero = refl
+bit-pow zero (suc j) = bit-high 1 j ∙ bit-zero j ∙ sym (eqb·zero-suc j)
+bit-pow (suc k) zero =
+    let e : 2 ^ suc k ≡ 2 ^ k * 2 = pow-suc 2 k in
+    let m : 2 ^ suc k % 2 ≡ 0 = omega arith in
+    bit-low (2 ^ suc k) ∙ ap (λ x. eqb x 1) m ∙ sym (eqb·suc-zero k)
+bit-pow (suc k) (suc j) =
+    let e : 2 ^ suc k ≡ 2 ^ k * 2 = pow-suc 2 k in
+    let m : 2 ^ suc k / 2 ≡ 2 ^ k = omega arith in
+    bit-high (2 ^ suc k) j ∙ ap (λ x. bit x j) m ∙ bit-pow k j ∙ sym (eqb·suc-suc k j)
+
+digit-is : (b : Bool) → eqb (digit b) 1 ≡ b
+digit-is true = refl
+digit-is false = refl
+
+-- the bytes are those of one set, and their bits are the answers of f
+pub record Bits (bytes : List ℕ) (f : ℕ → Bool) : Type 0 where
+  pub long : length bytes ≡ setSize
+  pub small : (i : ℕ) → i < setSize → getD bytes i 0 < 256
+  pub answers : (p : ℕ) → p < 256 → bit (getD bytes (p / 8) 0) (p % 8) ≡ f p
+
+-- the same test, said otherwise
+pub bits-same : {bytes : List ℕ} {f : ℕ → Bool} (g : ℕ → Bool) → Bits bytes f → ((p : ℕ) → p < 256 → f p ≡ g p) → Bits bytes g
+bits-same g a e = record { long = a .long; small = a .small; answers = λ p h. a .answers p h ∙ e p h }
+
+bits-at : {bytes : List ℕ} {f : ℕ → Bool} → Bits bytes f → (i j : ℕ) → i < setSize → j < 8 → bit (getD bytes i 0) j ≡ f (i * 8 + j)
+bits-at {bytes} {f} a i j h l =
+    let q : (i * 8 + j) / 8 ≡ i = omega arith in
+    let r : (i * 8 + j) % 8 ≡ j = omega arith in
+    sym (ap₂ (λ x y. bit (getD bytes x 0) y) q r) ∙ a .answers (i * 8 + j) (omega arith)
+
+-- bytes with the same bits are the same
+pub bits-unique : {xs ys : List ℕ} {f g : ℕ → Bool} → Bits xs f → Bits ys g → ((p : ℕ) → p < 256 → f p ≡ g p) → xs ≡ ys
+bits-unique {xs} {ys} {f} {g} a b e =
+    ext-getD 0 xs ys (a .long ∙ sym (b .long)) (λ i h. at i (subst (λ n. i < n) (a .long) h))
+  where
+    at : (i : ℕ) → i < setSize → getD xs i 0 ≡ getD ys i 0
+    at i h =
+        bits-ext 8 (getD xs i 0) (getD ys i 0) (a .small i h) (b .small i h)
+        (λ j l. bits-at a i j h l ∙ e (i * 8 + j) (omega arith) ∙ sym (bits-at b i j h l))
+
+-- ---- the bytes of a belief
+
+-- byte i
+unfoldable beliefByte : Belief → ℕ → ℕ
+beliefByte b i = fromBits (tabulate 8 (λ j. has b (i * 8 + j)))
+
+belief-is : (b : Belief) → packBelief b ≡ tabulate setSize (beliefByte b)
+unfolding packBelief beliefByte
+belief-is b = refl
+
+pub packBelief-length : (b : Belief) → length (packBelief b) ≡ setSize
+packBelief-length b = ap length (belief-is b) ∙ length-tabulate setSize (beliefByte b)
+
+belief-at : (b : Belief) (i : ℕ) → i < setSize → getD (packBelief b) i 0 ≡ beliefByte b i
+belief-at b i h = ap (λ l. getD l i 0) (belief-is b) ∙ getD-tabulate setSize (beliefByte b) i 0 h
+
+byte-lt : (b : Belief) (i : ℕ) → beliefByte b i < 256
+unfolding beliefByte
+byte-lt b i = fromBits-lt (tabulate 8 (λ j. has b (i * 8 + j)))
+
+bit-byte : (b : Belief) (i j : ℕ) → j < 8 → bit (beliefByte b i) j ≡ has b (i * 8 + j)
+unfolding beliefByte
+bit-byte b i j h = bit-table 8 (λ k. has b (i * 8 + k)) j h
+
+-- bit p tells whether state p is in the belief
+pub bit-packBelief : (b : Belief) (p : ℕ) → p < 256 → bit (getD (packBelief b) (p / 8) 0) (p % 8) ≡ has b p
+bit-packBelief b p h =
+    ap (λ x. bit x (p % 8)) (belief-at b (p / 8) (omega arith)) ∙ bit-byte b (p / 8) (p % 8) (omega arith)
+    ∙ ap (has b) (div-add-mod' p 8)
+
+pub belief-bits : (b : Belief) → Bits (packBelief b) (has b)
+belief-bits b = record {
+  long = packBelief-length b;
+  small = λ i h. subst (λ x. x < 256) (sym (belief-at b i h)) (byte-lt b i);
+  answers = bit-packBelief b;
+}
+
+-- memory that holds the bytes gives the belief back
+pub belief-back : (n : ℕ) (b : Belief) → n ≤ 256 → length b ≡ n → (mem : List ℕ) (i : ℕ)
+    → ((k : ℕ) → k < setSize → getD mem (i * setSize + k) 0 ≡ getD (packBelief b) k 0)
+    → tabulate n (λ p. bit (getD mem (i * setSize + p / 8) 0) (p % 8)) ≡ b
+belief-back n b h e mem i f =
+    ext-getD false (tabulate n g) b (length-tabulate n g ∙ sym e) (λ p l. at p (subst (λ m. p < m) (length-tabulate n g) l))
+  where
+    g : ℕ → Bool
+    g p = bit (getD mem (i * setSize + p / 8) 0) (p % 8)
+
+    at : (p : ℕ) → p < n → getD (tabulate n g) p false ≡ has b p
+    at p l =
+        getD-tabulate n g p false l ∙ ap (λ x. bit x (p % 8)) (f (p / 8) (omega arith)) ∙ bit-packBelief b p (omega arith)
+
+-- its states one by one
+pub spread-belief : (b : Belief) (s : ℕ) → s < 256 → getD (spread (packBelief b)) s 0 ≡ digit (has b s)
+spread-belief b s h = spread-at (packBelief b) s h ∙ ap digit (bit-packBelief b s h)
+
+present-belief : (b : Belief) (s : ℕ) → s < 256 → eqb (getD (spread (packBelief b)) s 0) 1 ≡ has b s
+present-belief b s h = ap (λ x. eqb x 1) (spread-belief b s h) ∙ digit-is (has b s)
+
+-- a belief of n states has no others
+has-out : (n : ℕ) (f : ℕ → Bool) (p : ℕ) → n ≤ p → has (tabulate n f) p ≡ false
+has-out n f p h = List·getD-eq-default (tabulate n f) false (subst (λ m. m ≤ p) (sym (length-tabulate n f)) h)
+
+-- so a belief that is a table has what the table's test says, if the test fails from n on
+has-table : (n : ℕ) (f : ℕ → Bool) (p : ℕ) → (n ≤ p → f p ≡ false) → has (tabulate n f) p ≡ f p
+has-table n f p out = go (decLt p n)
+  where
+    go : Dec (p < n) → has (tabulate n f) p ≡ f p
+    go (yes h) = getD-tabulate n f p false h
+    go (no g) = let h : n ≤ p = omega arith in has-out n f p h ∙ sym (out h)
+
+-- ---- bytes that states are added to
+
+-- no state
+pub bits-none : Bits (replicate setSize 0) (λ p. false)
+bits-none = record {
+  long = length-replicate {A = ℕ} setSize 0;
+  small = λ i h. subst (λ x. x < 256) (sym (zero-at i h)) (omega arith);
+  answers = λ p h. ap (λ x. bit x (p % 8)) (zero-at (p / 8) (omega arith)) ∙ bit-zero (p % 8);
+}
+  where
+    zero-at : (i : ℕ) → i < setSize → _≡_ {A = ℕ} (getD (replicate setSize 0) i 0) 0
+    zero-at i h = getD-replicate setSize i 0 0 h
+
+-- in one byte a number is known by its remainder
+same-byte : (t p : ℕ) → t / 8 ≡ p / 8 → eqb (t % 8) (p % 8) ≡ eqb t p
+same-byte t p e = go (ℕ-discrete t p)
+  where
+    go : Dec (t ≡ p) → eqb (t % 8) (p % 8) ≡ eqb t p
+    go (yes q) = eq-eqb (t % 8) (p % 8) (ap (λ x. x % 8) q) ∙ sym (eq-eqb t p q)
+    go (no n) = ne-eqb (t % 8) (p % 8) (λ q. n (sym (div-add-mod' t 8) ∙ ap₂ (λ x y. x * 8 + y) e q ∙ div-add-mod' p 8)) ∙ sym (ne-eqb t p n)
+
+-- with one more state
+pub bits-state : {bytes : List ℕ} {f : ℕ → Bool} → Bits bytes f → (t : ℕ) → t < 256 → Bits (withState bytes t) (λ p. f p || eqb t p)
+unfolding withState
+bits-state {bytes} {f} a t h = record {
+  long = length-set bytes (t / 8) new ∙ a .long;
+  small = λ i l. small-at i l (ℕ-discrete i (t / 8));
+  answers = λ p l. at p l (ℕ-discrete (p / 8) (t / 8));
+}
+  where
+    new : ℕ
+    new = bitOr (getD bytes (t / 8) 0) (2 ^ (t % 8))
+
+    byte : t / 8 < setSize
+    byte = omega arith
+
+    here : getD (set bytes (t / 8) new) (t / 8) 0 ≡ new
+    here = getD-set-same bytes (t / 8) new 0 (subst (λ n. t / 8 < n) (sym (a .long)) byte)
+
+    small-at : (i : ℕ) → i < setSize → Dec (i ≡ t / 8) → getD (set bytes (t / 8) new) i 0 < 256
+    small-at i l (yes e) =
+        subst (λ x. x < 256) (sym (ap (λ k. getD (set bytes (t / 8) new) k 0) e ∙ here))
+        (or-lt 8 (getD bytes (t / 8) 0) (2 ^ (t % 8)) (a .small (t / 8) byte) (pow-lt {i = t % 8} {j = 8} (omega arith)))
+    small-at i l (no n) = subst (λ x. x < 256) (sym (getD-set-other bytes (t / 8) i new 0 n)) (a .small i l)
+
+    at : (p : ℕ) → p < 256 → Dec (p / 8 ≡ t / 8) → bit (getD (set bytes (t / 8) new) (p / 8) 0) (p % 8) ≡ (f p || eqb t p)
+    at p l (yes e) =
+        ap (λ x. bit x (p % 8)) (ap (λ k. getD (set bytes (t / 8) new) k 0) e ∙ here)
+        ∙ bit-or (getD bytes (t / 8) 0) (2 ^ (t % 8)) (p % 8)
+        ∙ ap₂ _||_ (ap (λ k. bit (getD bytes k 0) (p % 8)) (sym e) ∙ a .answers p l) (bit-pow (t % 8) (p % 8) ∙ same-byte t p (sym e))
+    at p l (no n) =
+        ap (λ x. bit x (p % 8)) (getD-set-other bytes (t / 8) (p / 8) new 0 n) ∙ a .answers p l
+        ∙ sym (ap (λ c. f p || c) (ne-eqb t p (λ q. n (ap (λ x. x / 8) (sym q)))) ∙ or-false (f p))
+
+-- state s leads to p by pair q with one of the first h hidden values
+unfoldable leadsTo : List ℕ → ℕ → ℕ → ℕ → ℕ → ℕ → Bool
+leadsTo successors q pairs h s p = any h (λ k. eqb (successorIn successors s (q + k * pairs)) p)
+
+leads-none : (successors : List ℕ) (q pairs s p : ℕ) → leadsTo successors q pairs 0 s p ≡ false
+unfolding leadsTo
+leads-none successors q pairs s p = refl
+
+leads-more : (successors : List ℕ) (q pairs h s p : ℕ)
+    → leadsTo successors q pairs (suc h) s p ≡ (eqb (successorIn successors s (q + h * pairs)) p || leadsTo successors q pairs h s p)
+unfolding leadsTo
+leads-more successors q pairs h s p = any-suc h (λ k. eqb (successorIn successors s (q + k * pairs)) p)
+
+-- the states that the first h hidden values lead to
+bits-hidden : {bytes : List ℕ} {f : ℕ → Bool} → Bits bytes f → (successors : List ℕ) (s q pairs h : ℕ)
+    → ((k : ℕ) → k < h → successorIn successors s (q + k * pairs) < 256)
+    → Bits (withHidden successors s q pairs h bytes) (λ p. f p || leadsTo successors q pairs h s p)
+unfolding withHidden
+bits-hidden {f = f} a successors s q pairs zero small =
+    bits-same _ a (λ p l. sym (ap (λ c. f p || c) (leads-none successors q pairs s p) ∙ or-false (f p)))
+bits-hidden {f = f} a successors s q pairs (suc h) small =
+    bits-same _ (bits-state (bits-hidden a successors s q pairs h (λ k l. small k (omega arith))) (successorIn successors s (q + h * pairs)) (small h (omega arith)))
+    (λ p l. turn (f p) (leadsTo successors q pairs h s p) (eqb (successorIn successors s (q + h * pairs)) p)
+    ∙ ap (λ c. f p || c) (sym (leads-more successors q pairs h s p)))
+  where
+    turn : (x y z : Bool) → (x || y || z) ≡ (x || (z || y))
+    turn x y z = or-assoc x y z ∙ ap (λ c. x || c) (or-comm y z)
+
+-- ---- the belief after a pair
+
+choose-bits : (c : Bool) {xs ys : List ℕ} (f g : ℕ → Bool) → Bits xs (λ p. f p || g p) → Bits ys f → Bits (cond c xs ys) (λ p. c && g p || f p)
+choose-bits true f g a b = bits-same _ a (λ p l. or-comm (f p) (g p))
+choose-bits false f g a b = b
+
+-- some of the first m states of the belief leads to p
+unfoldable reaches : List ℕ → ℕ → ℕ → ℕ → Belief → ℕ → ℕ → Bool
+reaches successors pairs hiddens q b m p = any m (λ s. has b s && leadsTo successors q pairs hiddens s p)
+
+reaches-none : (successors : List ℕ) (pairs hiddens q : ℕ) (b : Belief) (p : ℕ) → reaches successors pairs hiddens q b 0 p ≡ false
+unfolding reaches
+reaches-none successors pairs hiddens q b p = refl
+
+reaches-more : (successors : List ℕ) (pairs hiddens q : ℕ) (b : Belief) (m p : ℕ)
+    → reaches successors pairs hiddens q b (suc m) p ≡ (has b m && leadsTo successors q pairs hiddens m p || reaches successors pairs hiddens q b m p)
+unfolding reaches
+reaches-more successors pairs hiddens q b m p = any-suc m (λ s. has b s && leadsTo successors q pairs hiddens s p)
+
+after-is : (successors : List ℕ) (n pairs hiddens q : ℕ) (b : Belief)
+    → beliefAfter successors n pairs hiddens b q ≡ tabulate n (reaches successors pairs hiddens q b n)
+unfolding beliefAfter reaches leadsTo
+after-is successors n pairs hiddens q b = refl
+
+-- a pair with one of the hidden values is a letter
+pub letter-lt : (q pairs h hiddens : ℕ) → q < pairs → h < hiddens → q + h * pairs < hiddens * pairs
+letter-lt q pairs h hiddens l k = let m : suc h * pairs ≤ hiddens * pairs = mul-le-mul-right pairs k in omega (arith, m)
+
+module _ (successors : List ℕ) (n pairs hiddens q : ℕ) (b : Belief) (n-le : n ≤ stateLimit) (closes : Successors successors n pairs hiddens) (q-lt : q < pairs) where
+  leads-inside : (s k : ℕ) → s < n → k < hiddens → successorIn successors s (q + k * pairs) < n
+  leads-inside s k h l = closes .inside s (q + k * pairs) h (letter-lt q pairs k hiddens q-lt l)
+
+  -- the bits that the first m states give
+  after-bits : (m : ℕ) → m ≤ n → Bits (afterBytes successors (spread (packBelief b)) q pairs hiddens m) (reaches successors pairs hiddens q b m)
+  unfolding afterBytes
+  after-bits zero h = bits-same _ bits-none (λ p l. sym (reaches-none successors pairs hiddens q b p))
+  after-bits (suc m) h =
+      let before = after-bits m (omega arith) in
+      bits-same _
+      (choose-bits (eqb (getD (spread (packBelief b)) m 0) 1) (reaches successors pairs hiddens q b m) (leadsTo successors q pairs hiddens m)
+      (bits-hidden before successors m q pairs hiddens (λ k l. omega (arith, leads-inside m k (omega arith) l))) before)
+      (λ p l. ap (λ c. c && leadsTo successors q pairs hiddens m p || reaches successors pairs hiddens q b m p) (present-belief b m (omega arith))
+      ∙ sym (reaches-more successors pairs hiddens q b m p))
+
+  -- nothing leads out of the n states
+  reaches-inside : (p : ℕ) → n ≤ p → reaches successors pairs hiddens q b n p ≡ false
+  unfolding reaches leadsTo
+  reaches-inside p h = elim (test (reaches successors pairs hiddens q b n p)) [
+    | inr e ↦ e
+    | inl t ↦
+        let (s, sb, y) = any-at n (λ s. has b s && leadsTo successors q pairs hiddens s p) t in
+        let (k, kb, e) = any-at hiddens (λ k. eqb (successorIn successors s (q + k * pairs)) p) (and-right (has b s) (leadsTo successors q pairs hiddens s p) y) in
+        absurd (omega (arith, leads-inside s k sb kb, eqb-true (successorIn successors s (q + k * pairs)) p e))
+  ]
+
+  -- what the states of a belief lead to is the belief after the pair
+  pub after-belief : afterBytes successors (spread (packBelief b)) q pairs hiddens n ≡ packBelief (beliefAfter successors n pairs hiddens b q)
+  after-belief =
+      bits-unique (after-bits n (omega arith)) (belief-bits (tabulate n (reaches successors pairs hiddens q b n)))
+      (λ p l. sym (has-table n (reaches successors pairs hiddens q b n) p (reaches-inside p)))
+      ∙ ap packBelief (sym (after-is successors n pairs hiddens q b))
+
+-- beliefs over n states fill their places, and are read back from them
+pub belief-packing : (n : ℕ) → n ≤ stateLimit → Packing n packBelief
+belief-packing n h = packing-bits n packBelief (omega arith) packBelief-length (λ x e p l. bit-packBelief x p (omega arith))
+
+-- ---- accepting
+
+-- what `is_final` answers on a belief's states is whether they all accept
+pub final-belief : (sets : List ℕ) (n : ℕ) (b : Belief) → n ≤ stateLimit → finalFrom sets (spread (packBelief b)) n ≡ allAccept sets n b
+unfolding finalFrom allAccept
+final-belief sets n b h =
+    all-ext n _ _ (λ s l. ap (λ c. not c || bit (getD sets (s * setSize) 0) 0) (present-belief b s (omega arith)))
+
+-- ---- what the functions do
+
+-- `put_first`
+first-set : set (replicate setSize 0) 0 1 ≡ withState (replicate setSize 0) 0
+unfolding withState
+first-set = refl
+
+first-has : (n p : ℕ) → 0 < n → has (firstOf n) p ≡ eqb 0 p
+unfolding firstOf
+first-has n zero h = has-table n (λ s. eqb s 0) 0 (λ l. absurd (omega arith))
+first-has n (suc p) h = has-table n (λ s. eqb s 0) (suc p) (λ l. eqb·suc-zero p) ∙ eqb·suc-zero p ∙ sym (eqb·zero-suc p)
+
+pub first-bytes : (n : ℕ) (w : List ℕ) (m : ℕ) → 0 < n → m ≡ setSize → w ≡ replicate m 0 → set w 0 1 ≡ packBelief (firstOf n)
+first-bytes n w m h e r =
+    ap (λ l. set l 0 1) (r ∙ ap (λ k. replicate k 0) e) ∙ first-set
+    ∙ bits-unique (bits-state bits-none 0 (omega arith)) (belief-bits (firstOf n)) (λ p l. sym (first-has n p h))
+
+-- `add_state`
+pub state-set : (bytes : List ℕ) (t : ℕ) → set bytes (t / 8) (bitOr (getD bytes (t / 8) 0) (1 * 2 ^ (t % 8) % 256)) ≡ withState bytes t
+unfolding withState
+state-set bytes t =
+    ap (λ x. set bytes (t / 8) (bitOr (getD bytes (t / 8) 0) x)) (shl-exact {a = 1} 1 (t % 8) 8 (omega arith) (omega arith) ∙ one-mul (2 ^ (t % 8)))
+
+-- `add_hidden`
+pub hidden-place : (s q pairs h hiddens : ℕ) → s < stateLimit → q < pairs → hiddens * pairs ≤ letterLimit → h < hiddens
+    → s * letterLimit + q + h * pairs < stateLimit * letterLimit
+hidden-place s q pairs h hiddens a l m k = omega (arith, letter-lt q pairs h hiddens l k)
+
+pub hidden-none : (successors : List ℕ) (s q pairs : ℕ) (bytes : List ℕ) → bytes ≡ withHidden successors s q pairs 0 bytes
+unfolding withHidden
+hidden-none successors s q pairs bytes = refl
+
+pub hidden-more : (successors : List ℕ) (s q pairs h : ℕ) (bytes w v : List ℕ) → w ≡ withHidden successors s q pairs h bytes
+    → v ≡ withState w (getD successors (s * letterLimit + q + h * pairs) 0) → v ≡ withHidden successors s q pairs (h + 1) bytes
+unfolding withHidden
+hidden-more successors s q pairs h bytes w v e r =
+    r ∙ ap₂ (λ l k. withState l (getD successors k 0)) e (add-assoc (s * letterLimit) q (h * pairs))
+    ∙ sym (ap (λ k. withHidden successors s q pairs k bytes) (add-one h))
+
+pub hidden-done : (successors : List ℕ) (s q pairs h hiddens : ℕ) (bytes w : List ℕ) → h ≡ hiddens → w ≡ withHidden successors s q pairs h bytes
+    → w ≡ withHidden successors s q pairs hiddens bytes
+hidden-done successors s q pairs h hiddens bytes w e r = r ∙ ap (λ k. withHidden successors s q pairs k bytes) e
+
+-- `is_final`
+-- state s is not present, or it accepts
+unfoldable accepting : List ℕ → List ℕ → ℕ → Bool
+accepting sets present s = not (eqb (getD present s 0) 1) || bit (getD sets (s * setSize) 0) 0
+
+final-is : (sets present : List ℕ) (n : ℕ) → finalFrom sets present n ≡ all n (accepting sets present)
+unfolding finalFrom accepting
+final-is sets present n = refl
+
+low-bit : (x : ℕ) → bit x 0 ≡ eqb (bitAnd x 1) 1
+low-bit x = bit-low x ∙ ap (λ y. eqb y 1) (sym (and-mask x 1))
+
+accepting-absent : (sets present : List ℕ) (s : ℕ) → (getD present s 0 ≡ 1 → ⊥) → accepting sets present s ≡ true
+unfolding accepting
+accepting-absent sets present s t = ap (λ c. not c || bit (getD sets (s * setSize) 0) 0) (ne-eqb (getD present s 0) 1 t)
+
+accepting-true : (sets present : List ℕ) (s : ℕ) → (bitAnd (getD sets (s * setSize) 0) 1 ≡ 0 → ⊥) → accepting sets present s ≡ true
+unfolding accepting
+accepting-true sets present s t =
+    let l : bitAnd (getD sets (s * setSize) 0) 1 < 2 = low-lt (getD sets (s * setSize) 0) in
+    ap (λ c. not (eqb (getD present s 0) 1) || c) (low-bit (getD sets (s * setSize) 0) ∙ eq-eqb (bitAnd (getD sets (s * setSize) 0) 1) 1 (omega (arith, l, t)))
+    ∙ or-true (not (eqb (getD present s 0) 1))
+
+accepting-false : (sets present : List ℕ) (s : ℕ) → getD present s 0 ≡ 1 → bitAnd (getD sets (s * setSize) 0) 1 ≡ 0 → accepting sets present s ≡ false
+unfolding accepting
+accepting-false sets present s t e =
+    ap₂ (λ c d. not c || d) (eq-eqb (getD present s 0) 1 t) (low-bit (getD sets (s * setSize) 0) ∙ ap (λ y. eqb y 1) e)
+
+final-more : (sets present : List ℕ) (s : ℕ) → finalFrom sets present s ≡ true → accepting sets present s ≡ true → finalFrom sets present (s + 1) ≡ true
+final-more sets present s f a =
+    ap (finalFrom sets present) (add-one s) ∙ final-is sets present (suc s) ∙ all-suc s (accepting sets present)
+    ∙ ap₂ _&&_ a (sym (final-is sets present s) ∙ f)
+
+pub final-none : (sets present : List ℕ) → finalFrom sets present 0 ≡ true
+unfolding finalFrom
+final-none sets present = refl
+
+pub final-absent : (sets present : List ℕ) (s : ℕ) → finalFrom sets present s ≡ true → (getD present s 0 ≡ 1 → ⊥) → finalFrom sets present (s + 1) ≡ true
+final-absent sets present s f t = final-more sets present s f (accepting-absent sets present s t)
+
+pub final-accepts : (sets present : List ℕ) (s : ℕ) → finalFrom sets present s ≡ true → (bitAnd (getD sets (s * setSize) 0) 1 ≡ 0 → ⊥)
+    → finalFrom sets present (s + 1) ≡ true
+final-accepts sets present s f t = final-more sets present s f (accepting-true sets present s t)
+
+pub final-fails : (sets present : List ℕ) (n s : ℕ) → s < n → getD present s 0 ≡ 1 → bitAnd (getD sets (s * setSize) 0) 1 ≡ 0
+    → finalFrom sets present n ≡ false
+final-fails sets present n s h t e = final-is sets present n ∙ all-fails n (accepting sets present) s h (accepting-false sets present s t e)

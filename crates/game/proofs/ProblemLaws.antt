@@ -1,0 +1,139 @@
+-- From the states that were explored to the answer for a problem.
+-- Assumes nothing.
+use Prim.Native.Nat.{ℕ, _*_, _%_, _^_, _≤_, _<_}
+use native.Mathlib.Nat.{pow-le-pow-right}
+use native.Mathlib.Omega.{arith}
+use mathlib.Core.Path.{_≡_, refl, sym, ap, ap₂, _∙_, subst, subst₂}
+use mathlib.Core.List.{List}
+use lib.Dec.{lit<}
+use lib.Pow.{pow-pos}
+use lib.ListN.{length}
+use Rattle.rules.specs.declared.problem.Sizes.{Sizes}
+use Rattle.rules.specs.Judge.{countsIn}
+use Rattle.rules.specs.Parts.{Part, partsOf}
+use Rattle.rules.specs.Problem.{Problem}
+use Rattle.rules.specs.Row.{storedParts}
+use Rattle.rules.specs.Semantics.{holds}
+use Rattle.rules.specs.Trace.{Counts, countsOf}
+use Rattle.states.specs.declared.search.Explored.the-variants.{States, TooMany}
+use Rattle.states.specs.Limits.{stateLimit, letterLimit}
+use Rattle.states.specs.Letters.{lettersOf}
+use Rattle.states.specs.Lists.{padded}
+use Rattle.states.specs.Maps.{Stored, Sized}
+use Rattle.states.specs.Memory.{setsOf, successorsOf}
+use Rattle.states.specs.Obligation.{operatorsOf, back}
+use Rattle.states.specs.PatternSet.{PatternSet, start, next}
+use Rattle.states.specs.Reach.{Listing, closed}
+use Rattle.states.specs.Slots.{exploredOf}
+use Rattle.states.specs.ReachableSets.{sameSet}
+use Rattle.states.specs.States.{statesOf}
+use Rattle.states.specs.Successors.{stepsOver}
+use Rattle.states.proofs.ReachableSetLaws.{sameSet-says, sets-reachable}
+use Rattle.states.proofs.AutomatonLaws.{letters-few}
+use Rattle.states.proofs.BitLaws.{shl-one}
+use Rattle.states.proofs.StateLaws.{states-closed}
+use Rattle.states.proofs.StoredLaws.{operators-stored}
+use Rattle.game.specs.Game.{Game}
+use Rattle.game.specs.Belief.{Automaton}
+use Rattle.game.specs.Solution.{gameOf, automatonOf, problemStates, beliefVerdict, Solution, tooManyStates, verdict, solutionFrom, solution}
+use Rattle.game.specs.Held.{Successors, Tables}
+use Rattle.game.specs.Kept.{Widths}
+use Rattle.game.proofs.RowEntry.{letter-count}
+use Rattle.game.proofs.Listing.{closed-begins}
+use Rattle.game.proofs.StatesLaws.{Follows}
+use Rattle.game.proofs.CountedLaws.{counted-some, counted-over}
+use Rattle.game.proofs.ExploredLaws.{gameWith, explored-successors, explored-follows, explored-accepts}
+
+module _ (ks ls rs : List ℕ) (s : Sizes) where
+  abbrev ps : List Part
+  ps = storedParts ks ls rs
+
+  abbrev c : Counts
+  c = countsOf s
+
+  abbrev l : Listing PatternSet
+  l = statesOf ps (lettersOf c) stateLimit
+
+  -- what is listed for the parts is listed for every problem that has them
+  module _ (p : Problem) (parts : ps ≡ partsOf (p .formula)) (signals : c ≡ countsIn (p .signals)) where
+    listed-same : problemStates p ≡ l
+    listed-same = ap₂ (λ q d. statesOf q (lettersOf d) stateLimit) (sym parts) (sym signals)
+
+    pub solved-many : TooMany ≡ exploredOf l → solution p ≡ tooManyStates
+    solved-many e = ap (solutionFrom p) (listed-same ∙ counted-over l e)
+
+  -- how many choices, observations and hidden values there are, as the code shifts them
+  abbrev choices : ℕ
+  choices = 1 * 2 ^ (s .outputs) % 18446744073709551616
+
+  abbrev observations : ℕ
+  observations = 1 * 2 ^ (s .observed) % 18446744073709551616
+
+  abbrev hiddens : ℕ
+  hiddens = 1 * 2 ^ (s .hidden) % 18446744073709551616
+
+  module _ (sized : Sized ks s) where
+    choices-are : choices ≡ 2 ^ (s .outputs)
+    choices-are = shl-one (s .outputs) (omega (arith, sized .outputs-few))
+
+    observations-are : observations ≡ 2 ^ (s .observed)
+    observations-are = shl-one (s .observed) (omega (arith, sized .observed-few))
+
+    hiddens-are : hiddens ≡ 2 ^ (s .hidden)
+    hiddens-are = shl-one (s .hidden) (omega (arith, sized .hidden-few))
+
+    pub widths-right : Widths choices observations hiddens
+    widths-right =
+        rw (choices-are, observations-are, hiddens-are)
+        (record {
+          some-choice = pow-pos (s .outputs);
+          few-choices = pow-le-pow-right (lit< tt) (sized .outputs-few);
+          some-observation = pow-pos (s .observed);
+          few-observations = pow-le-pow-right (lit< tt) (sized .observed-few);
+          few-letters = subst (λ m. m ≤ letterLimit) (letter-count c) (letters-few c (sized .signals-few));
+        })
+
+  module _ (stored : Stored ks ls rs) (sized : Sized ks s) (a b : ℕ) (sets successors : List ℕ) (sets-are : sets ≡ padded a (setsOf l)) (successors-are : successors ≡ padded b (successorsOf (s .operators) (back ps) (lettersOf c) l))
+      (n : ℕ) (got : States n ≡ exploredOf l) where
+    abbrev found : (xs : List PatternSet) × (l ≡ closed xs) × (length xs ≡ n)
+    found = counted-some l n got
+
+    abbrev xs : List PatternSet
+    xs = found .0
+
+    successors-of : successors ≡ padded b (successorsOf (operatorsOf ps) (back ps) (lettersOf c) l)
+    successors-of = successors-are ∙ ap (λ d. padded b (successorsOf d (back ps) (lettersOf c) l)) (sized .operators-are ∙ operators-stored ks ls rs stored)
+
+    pub states-successors : Successors successors n (choices * observations) hiddens
+    states-successors =
+        rw (choices-are sized, observations-are sized, hiddens-are sized, sym (found .2)) (explored-successors ps c (sized .signals-few) xs (found .1) b successors successors-of)
+
+    states-tables : (p : Problem) → ps ≡ partsOf (p .formula) → c ≡ countsIn (p .signals) → Tables (gameOf p) (automatonOf (partsOf (p .formula)) xs) sets successors n choices observations hiddens
+    states-tables p parts signals =
+        record {
+          choices-are = ap (λ (d : Counts). 2 ^ (d .outputs)) (sym signals) ∙ sym (choices-are sized);
+          observations-are = ap (λ (d : Counts). 2 ^ (d .observed)) (sym signals) ∙ sym (observations-are sized);
+          hiddens-are = ap (λ (d : Counts). 2 ^ (d .hidden)) (sym signals) ∙ sym (hiddens-are sized);
+          states-are = found .2;
+          first = refl;
+          follows = subst₂ (λ q d. Follows (gameWith d (holds (p .formula))) (automatonOf q xs) successors) parts signals
+              (explored-follows ps c (sized .signals-few) xs (found .1) b successors successors-of (holds (p .formula))) .follows;
+          accepting = explored-accepts ps c (sized .signals-few) xs (found .1) a sets sets-are;
+        }
+
+    pub states-few : n ≤ stateLimit
+    states-few = subst (λ m. m ≤ stateLimit) (found .2) (states-closed ps (lettersOf c) stateLimit xs (found .1) .1)
+
+    pub states-some : 0 < n
+    unfolding statesOf
+    states-some =
+        let (ys, e) = closed-begins sameSet sameSet-says (stepsOver (next (operatorsOf ps) (back ps)) (lettersOf c)) (start (operatorsOf ps)) stateLimit xs
+        (sym (sets-reachable (operatorsOf ps) (back ps) (lettersOf c) stateLimit) ∙ found .1)
+        in
+        omega (arith, sym (found .2) ∙ ap length e)
+
+    -- what holds of the verdict for all that the tables are those of holds of the solution
+    pub solved-some : (p : Problem) → ps ≡ partsOf (p .formula) → c ≡ countsIn (p .signals) → (Q : Solution → Type 0)
+        → ((G : Game) (M : Automaton) → Tables G M sets successors n choices observations hiddens → Q (verdict (beliefVerdict G M))) → Q (solution p)
+    solved-some p parts signals Q q =
+        subst (λ r. Q (solutionFrom p r)) (sym (listed-same p parts signals ∙ found .1)) (q (gameOf p) (automatonOf (partsOf (p .formula)) xs) (states-tables p parts signals))

@@ -1,0 +1,119 @@
+-- `game::solving::solve_parts` meets its contract, by those of `explore` and `solve_states`.
+-- Assumes nothing.
+use Rattle.game.specs.Claim.{solvedOf, cellsOf, written}
+use mathlib.Core.Path.{_≡_, sym, ap, _∙_}
+use native.Mathlib.Omega.{arith}
+use Rattle.game.proofs.ProblemLaws.{solved-many, widths-right, states-successors, states-few, states-some, solved-some}
+use Prim.Native.Nat.{ℕ}
+use lib.ListN.{length-replicate}
+use borrow.Author.Needs.{needs}
+use Rattle.game.proofs.solving.solve_parts.Statement.{statement}
+use Rattle.game.proofs.solving.solve_parts.Tie as tie
+
+slice-aggregate-explore : tie.Need-slice-aggregate-explore
+slice-aggregate-explore c = search needs
+
+explore-requires : tie.Need-explore-requires
+explore-requires c κs =
+    let p = c .before .before .before .before .before .before .before .pre in
+    (p .0, (p .1 .0, (p .1 .1 .0, length-replicate {A = ℕ} 65536 0)))
+
+enum-known-n : tie.Need-enum-known-n
+enum-known-n c = search needs
+
+slice-aggregate-solve-states : tie.Need-slice-aggregate-solve-states
+slice-aggregate-solve-states c = search needs
+
+shl-solve-states : tie.Need-shl-solve-states
+shl-solve-states c = search needs
+
+shl-solve-states-2 : tie.Need-shl-solve-states-2
+shl-solve-states-2 c = search needs
+
+shl-solve-states-3 : tie.Need-shl-solve-states-3
+shl-solve-states-3 c = search needs
+
+solve-states-requires : tie.Need-solve-states-requires
+solve-states-requires c κs =
+    let p = c .before .before .before .before .before .before .before .before .before .before .before .before .before .before .before .before .before .pre in
+    let a = c .before .before .before .before .before .before .before .before .before .before .before .before .before .before .before .before .before .args in
+    let explore = c .before .before .before .before .before .before .before .before .before .explore in
+    let n = c .before .before .before .before .n in (
+      omega (arith, explore .kept .1 .1 .1 .1 .0, p .1 .1 .0),
+      (
+        explore .kept .1 .1 .1 .1 .1 .0,
+        (
+          states-some (a .kinds .now) (a .lefts .now) (a .rights .now)
+              (a .sizes) (p .0) (p .1 .0) _ _ (explore .last .1 .1 .1 .1 .0) (explore .last .1 .1 .1 .1 .1 .0) (explore .ensures .1 .0) (explore .ensures .1 .1)
+              (n .given .0 .0) (sym (n .given .1) ∙ explore .ensures .0),
+          (
+            states-few (a .kinds .now) (a .lefts .now) (a .rights .now) (a .sizes) (p .0) (p .1 .0)
+                _ _ (explore .last .1 .1 .1 .1 .0) (explore .last .1 .1 .1 .1 .1 .0) (explore .ensures .1 .0) (explore .ensures .1 .1) (n .given .0 .0) (sym (n .given .1)
+                ∙ explore .ensures .0),
+            (
+              widths-right (a .kinds .now) (a .lefts .now) (a .rights .now) (a .sizes) (p .1 .0),
+              (
+                states-successors (a .kinds .now) (a .lefts .now) (a .rights .now) (a .sizes) (p .0) (p .1 .0) _ _ (explore .last .1 .1 .1 .1 .0) (explore .last .1 .1 .1 .1 .1 .0) (explore .ensures .1 .0) (explore .ensures .1 .1) (n .given .0 .0) (sym (n .given .1)
+                    ∙ explore .ensures .0),
+                p .1 .1 .1,
+              ),
+            ),
+          ),
+        ),
+      ),
+    )
+
+enum-told : tie.Need-enum-told
+enum-told c = search needs
+
+same-length : tie.Need-same-length
+same-length c = search needs
+
+same-length-2 : tie.Need-same-length-2
+same-length-2 c = search needs
+
+returns : tie.Need-returns
+returns c =
+    let a = c .before .before .before .before .before .before .before .before .before .before .before .before .before .before .before .before .before .before .before .before .args in
+    let p′ = c .before .before .before .before .before .before .before .before .before .before .before .before .before .before .before .before .before .before .before .before .pre in
+    let explore = c .before .before .before .before .before .before .before .before .before .before .before .before .explore in
+    let n = c .before .before .before .before .before .before .before .n in (
+      λ p e f. solved-some (a .kinds .now) (a .lefts .now) (a .rights .now) (a .sizes) (p′ .0) (p′ .1 .0) _ _ (explore .last .1 .1 .1 .1 .0) (explore .last .1 .1 .1 .1 .1 .0)
+          (explore .ensures .1 .0) (explore .ensures .1 .1) (n .given .0 .0) (sym (n .given .1) ∙ explore .ensures .0) p e f (λ x. c .before .before .solve-states .result ≡
+          solvedOf x) (λ G M t. c .before .before .solve-states .ensures .0 G M t),
+      λ p e f. solved-some (a .kinds .now) (a .lefts .now) (a .rights .now) (a .sizes)
+          (p′ .0) (p′ .1 .0) _ _ (explore .last .1 .1 .1 .1 .0) (explore .last .1 .1 .1 .1 .1 .0) (explore .ensures .1 .0) (explore .ensures .1 .1) (n .given .0 .0)
+          (sym (n .given .1) ∙ explore .ensures .0) p e f (λ x. c .before .before .solve-states .last .1 .1 .1 .1 .1 .1 .0 ≡ written (cellsOf x) (a .table .now))
+          (λ G M t. c .before .before .solve-states .ensures .1 G M t),
+    )
+
+same-length-3 : tie.Need-same-length-3
+same-length-3 c = search needs
+
+returns-2 : tie.Need-returns-2
+returns-2 c =
+    let a = c .before .before .before .before .before .before .before .before .before .before .before .before .before .args in
+    let explore = c .before .before .before .before .before .explore in (
+      λ p e f. sym (ap solvedOf (solved-many (a .kinds .now) (a .lefts .now) (a .rights .now) (a .sizes) p e f (sym (c .enum-told .given .1) ∙ explore .ensures .0))),
+      λ p e f. sym (ap (λ x. written (cellsOf x) (a .table .now)) (solved-many (a .kinds .now) (a .lefts .now) (a .rights .now) (a .sizes) p e f (sym (c .enum-told .given .1)
+          ∙ explore .ensures .0))),
+    )
+
+pub solve-parts-spec : {M : Type 1} → statement M
+solve-parts-spec =
+    tie.close
+    (tie.spec
+    slice-aggregate-explore
+    explore-requires
+    enum-known-n
+    slice-aggregate-solve-states
+    shl-solve-states
+    shl-solve-states-2
+    shl-solve-states-3
+    solve-states-requires
+    enum-told
+    same-length
+    same-length-2
+    returns
+    same-length-3
+    returns-2)

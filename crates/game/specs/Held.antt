@@ -1,0 +1,109 @@
+-- Beliefs in memory: 32 bytes each, bit s for state s. What a pair of a choice and an observation makes of a belief, from the table
+-- of the states' successors: row s has 512 entries, and letter number q + h * pairs is pair q with hidden value h.
+-- Assumes nothing.
+use Prim.Native.Nat.{ℕ, zero, suc, _+_, _*_, _/_, _%_, _^_, _<_}
+use mathlib.Core.Path.{_≡_}
+use mathlib.Core.Bool.{Bool, false, cond, not, _&&_, _||_}
+use mathlib.Core.List.{List, [], _∷_, _++_}
+use lib.Bits.{bitOr}
+use lib.Dec.{eqb}
+use lib.ListN.{getD, set, replicate}
+use Rattle.rules.specs.Bits.{bit, digit}
+use Rattle.rules.specs.Lists.{tabulate}
+use Rattle.states.specs.Bits.{fromBits}
+use Rattle.states.specs.Limits.{stateLimit, letterLimit, setSize}
+use Rattle.states.specs.Lists.{below}
+use Rattle.states.specs.Reach.{Listing, reachable}
+use Rattle.states.specs.ReachableSets.{sameSet}
+use Rattle.states.specs.Slots.{itemIn, sameSlot}
+use Rattle.states.specs.Successors.{stepsOver}
+use Rattle.game.specs.Bounded.{all, any}
+use Rattle.game.specs.Game.{Game}
+use Rattle.game.specs.Belief.{Automaton, Belief, has}
+
+-- a belief's bytes
+unfoldable pub packBelief : Belief → List ℕ
+packBelief b = tabulate setSize (λ i. fromBits (tabulate 8 (λ j. has b (i * 8 + j))))
+
+-- state 0 alone
+unfoldable pub firstOf : ℕ → Belief
+firstOf n = tabulate n (λ s. eqb s 0)
+
+-- the state that letter number a leads to from state s
+abbrev pub successorIn : List ℕ → ℕ → ℕ → ℕ
+successorIn successors s a = getD successors (s * letterLimit + a) 0
+
+-- of n states, those that some hidden value leads to by pair q from a state of the belief
+unfoldable pub beliefAfter : List ℕ → ℕ → ℕ → ℕ → Belief → ℕ → Belief
+beliefAfter successors n pairs hiddens b q =
+    tabulate n (λ t. any n (λ s. has b s && any hiddens (λ h. eqb (successorIn successors s (q + h * pairs)) t)))
+
+-- all beliefs that pairs reach, or `over` if there are more than the limit
+unfoldable pub countedBeliefs : List ℕ → ℕ → ℕ → ℕ → ℕ → Listing Belief
+countedBeliefs successors n pairs hiddens limit = reachable sameSet (stepsOver (beliefAfter successors n pairs hiddens) (below pairs)) (firstOf n) limit
+
+-- no two of the first m places hold the same bytes
+pub record Apart (mem : List ℕ) (m : ℕ) : Type 0 where
+  pub apart : (i j : ℕ) → i < j → j < m → sameSlot mem j i ≡ false
+
+-- every state of the belief accepts: it holds the all-zero pattern, the lowest bit of its 32 bytes in `sets`
+unfoldable pub allAccept : List ℕ → ℕ → Belief → Bool
+allAccept sets n b = all n (λ s. not (has b s) || bit (getD sets (s * setSize) 0) 0)
+
+-- ---- as the code does it
+
+-- the bytes with bit t set
+unfoldable pub withState : List ℕ → ℕ → List ℕ
+withState bytes t = set bytes (t / 8) (bitOr (getD bytes (t / 8) 0) (2 ^ (t % 8)))
+
+-- with the states that the first h hidden values lead to
+unfoldable pub withHidden : List ℕ → ℕ → ℕ → ℕ → ℕ → List ℕ → List ℕ
+withHidden successors s q pairs zero bytes = bytes
+withHidden successors s q pairs (suc h) bytes = withState (withHidden successors s q pairs h bytes) (successorIn successors s (q + h * pairs))
+
+-- from the first s states, where `present` has 1 for those that are believed
+unfoldable pub afterBytes : List ℕ → List ℕ → ℕ → ℕ → ℕ → ℕ → List ℕ
+afterBytes successors present q pairs hiddens zero = replicate setSize 0
+afterBytes successors present q pairs hiddens (suc s) =
+    let bytes = afterBytes successors present q pairs hiddens s in
+    cond (eqb (getD present s 0) 1) (withHidden successors s q pairs hiddens bytes) bytes
+
+-- the states that are present, of the first n, upward
+unfoldable pub membersOf : List ℕ → ℕ → List ℕ
+membersOf present zero = []
+membersOf present (suc s) =
+    let members = membersOf present s in
+    cond (eqb (getD present s 0) 1) (members ++ (s ∷ [])) members
+
+-- from the first c members
+unfoldable pub afterMembers : List ℕ → List ℕ → ℕ → ℕ → ℕ → ℕ → List ℕ
+afterMembers successors members q pairs hiddens zero = replicate setSize 0
+afterMembers successors members q pairs hiddens (suc c) =
+    withHidden successors (getD members c 0) q pairs hiddens (afterMembers successors members q pairs hiddens c)
+
+-- the first `count` members are states
+pub record Members (members : List ℕ) (count : ℕ) : Type 0 where
+  pub small : (i : ℕ) → i < count → getD members i 0 < stateLimit
+
+-- every state that is present accepts
+unfoldable pub finalFrom : List ℕ → List ℕ → ℕ → Bool
+finalFrom sets present n = all n (λ s. not (eqb (getD present s 0) 1) || bit (getD sets (s * setSize) 0) 0)
+
+-- the successors of n states are states
+pub record Successors (successors : List ℕ) (n pairs hiddens : ℕ) : Type 0 where
+  pub inside : (s a : ℕ) → s < n → a < hiddens * pairs → successorIn successors s a < n
+
+-- 1 for each of the first k beliefs in memory that is final
+unfoldable pub finalsOf : List ℕ → ℕ → List ℕ → ℕ → List ℕ
+finalsOf sets n mem k = tabulate k (λ i. digit (allAccept sets n (itemIn n mem i)))
+
+-- n states in memory are those of an automaton, under the letters of a game
+pub record Tables (G : Game) (M : Automaton) (sets successors : List ℕ) (n choices observations hiddens : ℕ) : Type 0 where
+  pub choices-are : G .choices ≡ choices
+  pub observations-are : G .observations ≡ observations
+  pub hiddens-are : G .hiddens ≡ hiddens
+  pub states-are : M .states ≡ n
+  pub first : M .initial ≡ 0
+  pub follows : (s q h : ℕ) → s < M .states → q < G .choices * G .observations → h < G .hiddens
+      → successorIn successors s (q + h * (G .choices * G .observations)) ≡ M .next s (G .letter (q % G .choices) (q / G .choices) h)
+  pub accepting : (s : ℕ) → s < M .states → bit (getD sets (s * setSize) 0) 0 ≡ M .accepts s

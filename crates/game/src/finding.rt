@@ -1,0 +1,53 @@
+// The place of a belief. The places found last are tried before all others.
+ghost use mathlib.Core.Path.{_≡_};
+ghost use Prim.Native.Nat.{_+_, _*_, _≤_, _<_};
+ghost use lib.ListN.{length};
+ghost use Rattle.states.specs.Limits.{setSize};
+ghost use Rattle.states.specs.Lists.{firstThat};
+ghost use Rattle.states.specs.Slots.{sameSlot};
+ghost use Rattle.game.specs.Limits.{beliefLimit, hintSize};
+ghost use Rattle.game.specs.Held.{Apart};
+use crate::sizes::BELIEF_LIMIT;
+use crate::sizes::HINTS;
+use crate::sizes::SET;
+use states::find;
+use states::same_slot;
+
+// Where the hint for place m is kept: a number made of its first bytes. Any number below 1,024 would do.
+fn hint_at(mem: &[u8], m: usize) -> usize
+    requires { ⌜ m ≤ beliefLimit ⌝ }
+    requires { ⌜ length (now mem) ≡ (beliefLimit + 1) * setSize ⌝ }
+    ensures { λ r. ⌜ r < hintSize ⌝ }
+{
+    let at = m * SET;
+    let mut x = 0;
+    let mut i = 0;
+    while i < 16 {
+        x = (x * 33 + mem[at + i] as usize) % HINTS;
+        i += 1;
+    }
+    x
+}
+
+// The first of the places before m that holds the same bytes; m if there is none. A hint, the place found last for bytes like
+// these, is tried first.
+pub fn find_hinted(mem: &[u8], m: usize, hints: &mut [u8]) -> usize
+    requires { ⌜ m ≤ beliefLimit ⌝ }
+    requires { ⌜ length (now mem) ≡ (beliefLimit + 1) * setSize ⌝ }
+    requires { ⌜ length (now hints) ≡ hintSize ⌝ }
+    requires { ⌜ Apart (now mem) m ⌝ }
+    ensures { λ r. ⌜ r ≡ firstThat (sameSlot (now (mem .entry)) m) m ⌝ }
+{
+    let h = hint_at(mem, m);
+    let g = hints[h] as usize;
+    if g < m {
+        if same_slot(mem, m, g) {
+            return g;
+        }
+    }
+    let t = find(mem, m);
+    if t < BELIEF_LIMIT {
+        hints[h] = t as u8;
+    }
+    t
+}
