@@ -5,7 +5,7 @@ use native.Mathlib.Nat.{not-suc-le-zero}
 use native.Mathlib.Decide.{ℕ-discrete, decLt}
 use native.Mathlib.Omega.{arith}
 use mathlib.Core.Path.{_≡_, refl, sym, ap, ap₂, _∙_, subst}
-use mathlib.Core.Logic.{_↔_, _⊎_, inl, inr}
+use mathlib.Core.Logic.{_⊎_, inl, inr}
 use mathlib.Core.Bool.{Bool, true, false, _&&_, _||_, true≢false, false≢true}
 pub use Rattle.rules.proofs.LimitLaws.{or-left, or-right}
 use Rattle.states.proofs.SearchLaws.{first-le, first-passes, first-least}
@@ -18,11 +18,6 @@ test false = inr refl
 
 pub clash : {A : Type 0} {b : Bool} → b ≡ true → b ≡ false → A
 clash t f = absurd (true≢false (sym t ∙ f))
-
-pub bool-iff : (a b : Bool) → (a ≡ true) ↔ (b ≡ true) → a ≡ b
-bool-iff true b e = sym (e .0 refl)
-bool-iff false true e = e .1 refl
-bool-iff false false e = refl
 
 pub and-left : (a b : Bool) → a && b ≡ true → a ≡ true
 and-left true b e = refl
@@ -85,15 +80,6 @@ all-not (suc n) ok e =
       | inr f ↦ (n, omega arith, f)
     ]
 
--- every number below n has the first property, or some has the second
-pub all-search : {P Q : ℕ → Type 0} (n : ℕ) → ((i : ℕ) → P i ⊎ Q i) → ((i : ℕ) → i < n → P i) ⊎ ((i : ℕ) × (i < n) × Q i)
-all-search zero f = inl (λ i h. absurd (not-suc-le-zero h))
-all-search (suc n) f =
-    elim (f n) [
-      | inl p ↦ elim (all-search n f) [ inl every ↦ inl (last-or n p every) | inr e ↦ inr (e .0, omega (arith, e .1), e .2) ]
-      | inr q ↦ inr (n, omega arith, q)
-    ]
-
 pub any-at : (n : ℕ) (ok : ℕ → Bool) → any n ok ≡ true → (i : ℕ) × (i < n) × (ok i ≡ true)
 any-at zero ok e = absurd (false≢true e)
 any-at (suc n) ok e =
@@ -131,11 +117,6 @@ least-of n ok i h t =
       | yes l ↦ (l, least-passes n ok l)
       | no k ↦ clash t (least-not n ok i (omega arith))
     ]
-
--- it is no more than any number that passes
-pub least-lowest : (n : ℕ) (ok : ℕ → Bool) (i : ℕ) → ok i ≡ true → least n ok ≤ i
-least-lowest n ok i t =
-    elim (decLt i (least n ok)) [ yes l ↦ clash t (least-not n ok i l) | no h ↦ omega arith ]
 
 -- a loop's answer is `least`: the first number that passed, or the bound after none did
 pub least-is : (n : ℕ) (ok : ℕ → Bool) (i : ℕ) → i < n → ok i ≡ true → ((j : ℕ) → j < i → ok j ≡ false) → least n ok ≡ i

@@ -109,9 +109,6 @@ module _ (successors twins : List ℕ) (n hiddens : ℕ) (mem₀ : List ℕ) (i 
     within : q < count
     within = subst (λ j. q < j) (z .0 .3) l
 
-    pub twin-le : getD twins q 0 ≤ q
-    twin-le = z .1 .same .before q within
-
     -- the beliefs are different
     apart : Apart mem m
     apart =

@@ -9,7 +9,7 @@ use mathlib.Core.List.{List, [], _++_}
 use lib.Dec.{eqb}
 use lib.ListN.{length, getD}
 use Rattle.rules.specs.Bits.{bit}
-use Rattle.states.specs.declared.search.Explored.the-variants.{States, TooMany}
+use Rattle.states.specs.declared.search.Explored.the-variants.{Found, TooMany}
 use Rattle.states.specs.Limits.{stateLimit, setSize}
 use Rattle.states.specs.Lists.{below}
 use Rattle.states.specs.Reach.{Listing, closed, over}
@@ -30,13 +30,13 @@ use Rattle.game.proofs.PositionLaws.{beliefs-few, beliefs-held, moves-i
 
 -- ---- what a count says
 
-not-many : {C : Type 0} (k : ℕ) → States k ≡ TooMany → C
+not-many : {C : Type 0} (k : ℕ) → Found k ≡ TooMany → C
 not-many k e = let z : _≡_ {A = ℕ} 0 1 = cc in absurd (omega arith)
 
-same-count : (j k : ℕ) → States j ≡ States k → j ≡ k
+same-count : (j k : ℕ) → Found j ≡ Found k → j ≡ k
 same-count j k e = cc
 
-pub counted-some : {K : Type 0} (l : Listing K) (k : ℕ) → States k ≡ exploredOf l → (xs : List K) × (l ≡ closed xs) × (length xs ≡ k)
+pub counted-some : {K : Type 0} (l : Listing K) (k : ℕ) → Found k ≡ exploredOf l → (xs : List K) × (l ≡ closed xs) × (length xs ≡ k)
 counted-some (closed xs) k e = (xs, refl, sym (same-count k (length xs) e))
 counted-some over k e = not-many k e
 
@@ -61,7 +61,7 @@ follows-in sets successors n choices observations hiddens =
 -- ---- all beliefs counted
 
 module _ (sets successors : List ℕ) (n choices observations hiddens : ℕ) (few-states : n ≤ stateLimit) (few-pairs : choices * observations ≤ pairLimit)
-    (mem moves : List ℕ) (k : ℕ) (got : States k ≡ exploredOf (countedBeliefs successors n (choices * observations) hiddens beliefLimit))
+    (mem moves : List ℕ) (k : ℕ) (got : Found k ≡ exploredOf (countedBeliefs successors n (choices * observations) hiddens beliefLimit))
     (ran : RanItems packBelief (beliefAfter successors n (choices * observations) hiddens) (below (choices * observations)) pairLimit
     (countedBeliefs successors n (choices * observations) hiddens beliefLimit) mem moves) where
   abbrev l : Listing Belief
@@ -119,7 +119,7 @@ module _ (G : Game) (M : Automaton) (sets successors : List ℕ) where
   abbrev Some : ℕ → ℕ → ℕ → ℕ → Type 0
   Some n choices observations hiddens =
       n ≤ stateLimit → choices * observations ≤ pairLimit → 0 < observations
-      → (mem moves : List ℕ) (k : ℕ) → States k ≡ exploredOf (countedBeliefs successors n (choices * observations) hiddens beliefLimit)
+      → (mem moves : List ℕ) (k : ℕ) → Found k ≡ exploredOf (countedBeliefs successors n (choices * observations) hiddens beliefLimit)
       → RanItems packBelief (beliefAfter successors n (choices * observations) hiddens) (below (choices * observations)) pairLimit
       (countedBeliefs successors n (choices * observations) hiddens beliefLimit) mem moves
       → (finals rest : List ℕ) → finals ≡ finalsOf sets n mem k ++ rest

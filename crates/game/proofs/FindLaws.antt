@@ -9,14 +9,14 @@ use mathlib.Core.Bool.{Bool, true, false}
 use mathlib.Core.List.{List, [], Memᴰ·cast, List·Memᴰ·not-nil}
 use lib.ListN.{length, getD}
 use Rattle.rules.proofs.Says.{Says}
-use Rattle.states.specs.declared.search.Explored.the-variants.{States}
+use Rattle.states.specs.declared.search.Explored.the-variants.{Found}
 use Rattle.states.specs.Limits.{stateLimit, setSize}
 use Rattle.states.specs.Lists.{Distinct, distinct-nil, distinct-cons, firstThat}
 use Rattle.states.specs.Reach.{addAll}
 use Rattle.states.specs.ReachableSets.{sameSet}
 use Rattle.states.specs.Slots.{itemIn, itemsIn, HoldsItems, withSet, sameSlot, countUpTo, ExpandedItems}
 use Rattle.states.specs.Successors.{grownOver}
-use Rattle.states.proofs.KeepLaws.{count-states}
+use Rattle.states.proofs.KeepLaws.{count-found}
 use Rattle.states.proofs.MemberLaws.{getD-in}
 use Rattle.states.proofs.SearchLaws.{agree-at, agree-all}
 use Rattle.states.proofs.ReachLaws.{added-all}
@@ -44,9 +44,9 @@ unfolding itemsIn
 distinct-one n mem = distinct-cons (λ m. List·Memᴰ·not-nil m) distinct-nil
 
 pub distinct-next : (n limit : ℕ) (f : List Bool → ℕ → List Bool) (steps : List ℕ) (xs : List (List Bool)) (s : List Bool) (m : ℕ) (row mem row′ : List ℕ) → Distinct xs
-    → States m ≡ countUpTo limit (grownOver sameSet f steps xs s) → ExpandedItems n packBelief limit (grownOver sameSet f steps xs s) row mem row′ → Distinct (itemsIn n mem m)
+    → Found m ≡ countUpTo limit (grownOver sameSet f steps xs s) → ExpandedItems n packBelief limit (grownOver sameSet f steps xs s) row mem row′ → Distinct (itemsIn n mem m)
 distinct-next n limit f steps xs s m row mem row′ d e z =
-    let (few, is) = count-states limit (grownOver sameSet f steps xs s) m e in
+    let (few, is) = count-found limit (grownOver sameSet f steps xs s) m e in
     subst (λ k. Distinct (itemsIn n mem k)) (sym is) (subst Distinct (sym (z .items-in few)) (distinct-grown f steps xs s d))
 
 -- entries of such a list differ

@@ -13,7 +13,7 @@ use Rattle.game.specs.Rank.{Arena}
 use Rattle.game.proofs.Bounded.{test, clash, or-right}
 use Rattle.game.proofs.Order.{Order}
 use Rattle.game.proofs.Ranks.{In, HasRank, within-suc, within-le, rank-of, unstopped, goes-on, next-rank}
-use Rattle.game.proofs.Spoil.{Trap}
+use Rattle.game.proofs.Traps.{Trap}
 
 -- how many elements pass a test
 abbrev pub count : {A : Type 0} → (A → Bool) → List A → ℕ

@@ -166,11 +166,10 @@ module _ (moves : List ℕ) (choices observations k c m : ℕ) (rows₀ : List �
   cells-room s n rows cells a = a .cells-are .long ∙ wanted-length
 
   module _ (s n : ℕ) (rows cells : List ℕ) (a : Adding s n rows cells) (h : s < sideLimit) where
-    -- there is no such observation
-    pub adding-none : observations ≤ s → (n′ : ℕ) (rows′ cells′ : List ℕ) → rows′ ≡ rows → cells′ ≡ set cells (1 + s) 0 → n′ ≡ n
-        → Adding (s + 1) n′ rows′ cells′
-    adding-none past n′ rows′ cells′ p q r =
-        let e : rowsTo s ≡ rowsTo (s + 1) = rows-end s past ∙ sym (rows-end (s + 1) (omega arith)) in
+    -- the rows stay as they are
+    adding-stays : (v : ℕ) → rowsTo s ≡ rowsTo (s + 1) → v ≡ nextCell moves choices observations k c rowsAll s
+        → (n′ : ℕ) (rows′ cells′ : List ℕ) → rows′ ≡ rows → cells′ ≡ set cells (1 + s) v → n′ ≡ n → Adding (s + 1) n′ rows′ cells′
+    adding-stays v e is n′ rows′ cells′ p q r =
         rw (p, q, r) (
         record {
           turn = omega arith;
@@ -179,9 +178,14 @@ module _ (moves : List ℕ) (choices observations k c m : ℕ) (rows₀ : List �
           count = a .count ∙ ap length e;
           front = a .front ∙ e;
           rest = a .rest;
-          cells-are = cells-more s 0 cells h (sym (cell-none s past)) (a .cells-are);
+          cells-are = cells-more s v cells h is (a .cells-are);
         }
         )
+
+    -- there is no such observation
+    pub adding-none : observations ≤ s → (n′ : ℕ) (rows′ cells′ : List ℕ) → rows′ ≡ rows → cells′ ≡ set cells (1 + s) 0 → n′ ≡ n
+        → Adding (s + 1) n′ rows′ cells′
+    adding-none past = adding-stays 0 (rows-end s past ∙ sym (rows-end (s + 1) (omega arith))) (sym (cell-none s past))
 
     -- observation s leads to position t, which is found at row j
     module _ (t j : ℕ) (inside : s < observations) (is-t : t ≡ getD moves (k * pairLimit + c + s * choices) 0) (found : j ≡ indexIn eqb t (take n rows)) where
@@ -203,20 +207,9 @@ module _ (moves : List ℕ) (choices observations k c m : ℕ) (rows₀ : List �
 
       pub adding-old : (j ≡ n → ⊥) → (n′ : ℕ) (rows′ cells′ : List ℕ) → rows′ ≡ rows → cells′ ≡ set cells (1 + s) j → n′ ≡ n
           → Adding (s + 1) n′ rows′ cells′
-      adding-old ne n′ rows′ cells′ p q r =
+      adding-old ne =
           let there : isIn eqb t (rowsTo s) ≡ true = index-in eqb t (rowsTo s) (λ e. ne (place ∙ e ∙ sym (a .count))) in
-          let e : rowsTo s ≡ rowsTo (s + 1) = sym (grows ∙ add-old eqb (rowsTo s) t there) in
-          rw (p, q, r) (
-          record {
-            turn = omega arith;
-            long = a .long;
-            few = a .few;
-            count = a .count ∙ ap length e;
-            front = a .front ∙ e;
-            rest = a .rest;
-            cells-are = cells-more s j cells h (cell-is (number-kept s t there ∙ sym place)) (a .cells-are);
-          }
-          )
+          adding-stays j (sym (grows ∙ add-old eqb (rowsTo s) t there)) (cell-is (number-kept s t there ∙ sym place))
 
       module _ (is-new : j ≡ n) where
         absent : isIn eqb t (rowsTo s) ≡ false

@@ -18,13 +18,12 @@ use borrow.Author.Tests.{eqb-true, eq-eqb, ne-eqb}
 use Rattle.rules.specs.Bits.{bit, digit}
 use Rattle.rules.specs.Lists.{tabulate}
 use Rattle.rules.proofs.ListLaws.{length-tabulate, getD-tabulate}
-use Rattle.states.specs.Bits.{fromBits}
 use Rattle.states.specs.Limits.{stateLimit, letterLimit, setSize}
 use Rattle.states.specs.Memory.{spread}
-use Rattle.states.proofs.BitLaws.{fromBits-lt, low-lt, bit-low, bit-high, bit-zero, bits-ext}
+use Rattle.states.proofs.BitLaws.{low-lt, bit-low, bit-high, bit-zero, bits-ext}
 use Rattle.states.proofs.LaneLaws.{bit-or}
 use Rattle.states.proofs.PackLaws.{spread-at}
-use Rattle.states.proofs.TableLaws.{bit-table}
+use Rattle.states.proofs.ByteLaws.{bytes-length, byte-at, byte-lt, bit-bytes}
 use Rattle.states.proofs.SlotLaws.{Packing, packing-bits}
 use Rattle.game.specs.Bounded.{all, any}
 use Rattle.game.specs.Belief.{Belief, has}
@@ -78,54 +77,23 @@ bits-unique {xs} {ys} {f} {g} a b e =
 
 -- ---- the bytes of a belief
 
--- byte i
-unfoldable beliefByte : Belief → ℕ → ℕ
-beliefByte b i = fromBits (tabulate 8 (λ j. has b (i * 8 + j)))
-
-belief-is : (b : Belief) → packBelief b ≡ tabulate setSize (beliefByte b)
-unfolding packBelief beliefByte
-belief-is b = refl
-
 pub packBelief-length : (b : Belief) → length (packBelief b) ≡ setSize
-packBelief-length b = ap length (belief-is b) ∙ length-tabulate setSize (beliefByte b)
-
-belief-at : (b : Belief) (i : ℕ) → i < setSize → getD (packBelief b) i 0 ≡ beliefByte b i
-belief-at b i h = ap (λ l. getD l i 0) (belief-is b) ∙ getD-tabulate setSize (beliefByte b) i 0 h
-
-byte-lt : (b : Belief) (i : ℕ) → beliefByte b i < 256
-unfolding beliefByte
-byte-lt b i = fromBits-lt (tabulate 8 (λ j. has b (i * 8 + j)))
-
-bit-byte : (b : Belief) (i j : ℕ) → j < 8 → bit (beliefByte b i) j ≡ has b (i * 8 + j)
-unfolding beliefByte
-bit-byte b i j h = bit-table 8 (λ k. has b (i * 8 + k)) j h
+unfolding packBelief
+packBelief-length b = bytes-length (has b)
 
 -- bit p tells whether state p is in the belief
 pub bit-packBelief : (b : Belief) (p : ℕ) → p < 256 → bit (getD (packBelief b) (p / 8) 0) (p % 8) ≡ has b p
-bit-packBelief b p h =
-    ap (λ x. bit x (p % 8)) (belief-at b (p / 8) (omega arith)) ∙ bit-byte b (p / 8) (p % 8) (omega arith)
-    ∙ ap (has b) (div-add-mod' p 8)
+unfolding packBelief
+bit-packBelief b p h = bit-bytes (has b) p h
 
 pub belief-bits : (b : Belief) → Bits (packBelief b) (has b)
-belief-bits b = record {
-  long = packBelief-length b;
-  small = λ i h. subst (λ x. x < 256) (sym (belief-at b i h)) (byte-lt b i);
-  answers = bit-packBelief b;
-}
-
--- memory that holds the bytes gives the belief back
-pub belief-back : (n : ℕ) (b : Belief) → n ≤ 256 → length b ≡ n → (mem : List ℕ) (i : ℕ)
-    → ((k : ℕ) → k < setSize → getD mem (i * setSize + k) 0 ≡ getD (packBelief b) k 0)
-    → tabulate n (λ p. bit (getD mem (i * setSize + p / 8) 0) (p % 8)) ≡ b
-belief-back n b h e mem i f =
-    ext-getD false (tabulate n g) b (length-tabulate n g ∙ sym e) (λ p l. at p (subst (λ m. p < m) (length-tabulate n g) l))
-  where
-    g : ℕ → Bool
-    g p = bit (getD mem (i * setSize + p / 8) 0) (p % 8)
-
-    at : (p : ℕ) → p < n → getD (tabulate n g) p false ≡ has b p
-    at p l =
-        getD-tabulate n g p false l ∙ ap (λ x. bit x (p % 8)) (f (p / 8) (omega arith)) ∙ bit-packBelief b p (omega arith)
+unfolding packBelief
+belief-bits b =
+    record {
+      long = bytes-length (has b);
+      small = λ i h. subst (λ x. x < 256) (sym (byte-at (has b) i h)) (byte-lt (has b) i);
+      answers = bit-bytes (has b);
+    }
 
 -- its states one by one
 pub spread-belief : (b : Belief) (s : ℕ) → s < 256 → getD (spread (packBelief b)) s 0 ≡ digit (has b s)

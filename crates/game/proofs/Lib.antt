@@ -8,7 +8,7 @@ pub mod RankText
 pub mod Plans
 pub mod Upper
 pub mod Lower
-pub mod Spoil
+pub mod Traps
 pub mod Finite
 pub mod PlanSolve
 pub mod Optimality

@@ -19,7 +19,7 @@ use Rattle.game.proofs.Ranks.{In, HasRank, goes-on, rank-searched}
 use Rattle.game.proofs.Plans.{Plan, respond, Goes, stuck, History, PlanSteps, planRun, letters, Hidden, Possible, WinsFor, know, Tracks, Legal, steps-unique}
 use Rattle.game.proofs.Upper.{follow, Descends}
 use Rattle.game.proofs.PlanSolve.{BestPlan, plan-least, plan-best}
-use Rattle.game.proofs.Spoil.{Trap, no-win}
+use Rattle.game.proofs.Traps.{Trap, no-win}
 use Rattle.game.proofs.Finite.{Closed, Lost, lost-trap, ranked-or-lost}
 
 -- a decision as a plan's: the same choice at every observation

@@ -15,7 +15,7 @@ use Rattle.rules.specs.Problem.{Problem}
 use Rattle.rules.specs.Row.{storedParts}
 use Rattle.rules.specs.Semantics.{holds}
 use Rattle.rules.specs.Trace.{Counts, countsOf}
-use Rattle.states.specs.declared.search.Explored.the-variants.{States, TooMany}
+use Rattle.states.specs.declared.search.Explored.the-variants.{Found, TooMany}
 use Rattle.states.specs.Limits.{stateLimit, letterLimit}
 use Rattle.states.specs.Letters.{lettersOf}
 use Rattle.states.specs.Lists.{padded}
@@ -94,7 +94,7 @@ module _ (ks ls rs : List ℕ) (s : Sizes) where
         })
 
   module _ (stored : Stored ks ls rs) (sized : Sized ks s) (a b : ℕ) (sets successors : List ℕ) (sets-are : sets ≡ padded a (setsOf l)) (successors-are : successors ≡ padded b (successorsOf (s .operators) (back ps) (lettersOf c) l))
-      (n : ℕ) (got : States n ≡ exploredOf l) where
+      (n : ℕ) (got : Found n ≡ exploredOf l) where
     abbrev found : (xs : List PatternSet) × (l ≡ closed xs) × (length xs ≡ n)
     found = counted-some l n got
 

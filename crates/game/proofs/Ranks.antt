@@ -2,7 +2,7 @@
 -- Assumes nothing.
 use Prim.Native.Nat.{ℕ, zero, suc, _≤_, _<_, zero-le, suc-le-suc}
 use native.Mathlib.Nat.{not-suc-le-zero, le-of-suc-le-suc, le-refl}
-use native.Mathlib.Decide.{decLt, decLe}
+use native.Mathlib.Decide.{decLe}
 use native.Mathlib.Omega.{arith}
 use mathlib.Core.Path.{_≡_}
 use mathlib.Core.Logic.{inl, inr}
@@ -42,17 +42,10 @@ module _ {choices observations : ℕ} (O : Order choices observations) (A : Aren
       let (b, o) = least-of (suc r) (λ q. In q k) r (le-refl (suc r)) t in
       (least (suc r) (λ q. In q k), le-of-suc-le-suc b, (o, least-not (suc r) (λ q. In q k)))
 
-  pub rank-unique : (k : A .K) (q r : ℕ) → HasRank k q → HasRank k r → q ≡ r
-  rank-unique k q r a b =
-      elim (decLt q r) [
-        | yes l ↦ clash (a .0) (b .1 q l)
-        | no n ↦ elim (decLt r q) [ yes l ↦ clash (b .0) (a .1 r l) | no m ↦ omega arith ]
-      ]
-
   pub rank-searched : (n r : ℕ) (k : A .K) → r < n → HasRank k r → rankBelow A (O .can) n k ≡ r
   rank-searched n r k h a = least-is n (λ q. In q k) r h (a .0) (a .1)
 
-  -- a rank over 0: no stop position, and the desk can go on to ranks below
+  -- a rank over 0: no final position, and the controller can go on to ranks below
   pub unstopped : (k : A .K) (r : ℕ) → HasRank k (suc r) → A .final k ≡ false
   unstopped k r a = a .1 0 (suc-le-suc zero-le)
 

@@ -10,20 +10,19 @@ use lib.Dec.{eqb}
 use lib.ListN.{getD, set, replicate}
 use Rattle.rules.specs.Bits.{bit, digit}
 use Rattle.rules.specs.Lists.{tabulate}
-use Rattle.states.specs.Bits.{fromBits}
 use Rattle.states.specs.Limits.{stateLimit, letterLimit, setSize}
 use Rattle.states.specs.Lists.{below}
 use Rattle.states.specs.Reach.{Listing, reachable}
 use Rattle.states.specs.ReachableSets.{sameSet}
-use Rattle.states.specs.Slots.{itemIn, sameSlot}
-use Rattle.states.specs.Successors.{stepsOver}
+use Rattle.states.specs.Slots.{bitBytes, itemIn, itemsIn, sameSlot}
+use Rattle.states.specs.Successors.{stepsOver, grownOver, rowOver}
 use Rattle.game.specs.Bounded.{all, any}
 use Rattle.game.specs.Game.{Game}
 use Rattle.game.specs.Belief.{Automaton, Belief, has}
 
 -- a belief's bytes
 unfoldable pub packBelief : Belief → List ℕ
-packBelief b = tabulate setSize (λ i. fromBits (tabulate 8 (λ j. has b (i * 8 + j))))
+packBelief b = bitBytes (has b)
 
 -- state 0 alone
 unfoldable pub firstOf : ℕ → Belief
@@ -37,6 +36,14 @@ successorIn successors s a = getD successors (s * letterLimit + a) 0
 unfoldable pub beliefAfter : List ℕ → ℕ → ℕ → ℕ → Belief → ℕ → Belief
 beliefAfter successors n pairs hiddens b q =
     tabulate n (λ t. any n (λ s. has b s && any hiddens (λ h. eqb (successorIn successors s (q + h * pairs)) t)))
+
+-- the k beliefs in memory, and behind them those that pairs lead to from belief i; and the numbers of these
+abbrev pub triedFrom : List ℕ → ℕ → ℕ → ℕ → List ℕ → ℕ → ℕ → List Belief
+triedFrom successors n pairs hiddens mem k i = grownOver sameSet (beliefAfter successors n pairs hiddens) (below pairs) (itemsIn n mem k) (itemIn n mem i)
+
+abbrev pub triedRow : List ℕ → ℕ → ℕ → ℕ → List ℕ → ℕ → ℕ → List ℕ
+triedRow successors n pairs hiddens mem k i =
+    rowOver sameSet (beliefAfter successors n pairs hiddens) (below pairs) (triedFrom successors n pairs hiddens mem k i) (itemIn n mem i)
 
 -- all beliefs that pairs reach, or `over` if there are more than the limit
 unfoldable pub countedBeliefs : List ℕ → ℕ → ℕ → ℕ → ℕ → Listing Belief

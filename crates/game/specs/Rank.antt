@@ -7,7 +7,8 @@ use mathlib.Core.List.{List, [], _∷_}
 use Rattle.game.specs.Bounded.{all, any, least}
 use Rattle.game.specs.Game.{Decision, choose, stop}
 
--- what the desk can know: the positions (as beliefs), the first of them, the next one after a choice and a observation, and where it may stop
+-- what the controller can know: positions, as beliefs are; the first of them, the next one after a choice and an observation, and
+-- where it may stop
 pub record Arena : Type 1 where
   pub K : Type 0
   pub start : K
@@ -18,9 +19,10 @@ pub record Arena : Type 1 where
 abbrev pub setFirst : ℕ → ℕ → (ℕ → ℕ → Bool) → Bool
 setFirst choices observations ok = any choices (λ c. all observations (λ s. ok c s))
 
--- `can ok` says that the desk can choose so that `ok choice observation` holds at every observation: `setFirst choices observations`, or another order's
+-- `can ok` says that the controller can choose so that `ok choice observation` holds at every observation: `setFirst choices
+-- observations`, or that of another order of a step
 module _ (A : Arena) (can : (ℕ → ℕ → Bool) → Bool) where
-  -- the rank is at most r: a stop position, or one from which the desk can see to it that the next rank is at most r - 1
+  -- the rank is at most r: a final position, or one from which the controller can see to it that the next rank is at most r - 1
   abbrev pub within : ℕ → A .K → Bool
   within zero k = A .final k
   within (suc r) k = A .final k || can (λ c s. within r (A .move k c s))
@@ -42,7 +44,7 @@ module _ (A : Arena) (choices observations : ℕ) where
   abbrev pub bestChoice : ℕ → A .K → ℕ
   bestChoice n k = choiceWithin (pred (rankBelow A (setFirst choices observations) n k)) k
 
-  -- the strategy that takes it at each position, and stops from a stop position on. The list of observations is the one since position k
+  -- the strategy that takes it at each position, and stops from a final position on; the observations are those since position k
   abbrev pub best : ℕ → A .K → List ℕ → Decision
   best n k [] = elim (A .final k) [ true ↦ stop | false ↦ choose (bestChoice n k) ]
   best n k (s ∷ h) = elim (A .final k) [ true ↦ stop | false ↦ best n (A .move k (bestChoice n k) s) h ]

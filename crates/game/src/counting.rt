@@ -6,12 +6,10 @@ ghost use Prim.Native.Nat.{_+_, _*_, _≤_, _<_};
 ghost use lib.ListN.{length, drop, replicate};
 ghost use Rattle.states.specs.Limits.{stateLimit, letterLimit, setSize};
 ghost use Rattle.states.specs.Lists.{firstThat, below, Distinct};
-ghost use Rattle.states.specs.Slots.{itemIn, itemsIn, HoldsItems, withSet, sameSlot, countUpTo, ExpandedItems, exploredOf, RanItems};
-ghost use Rattle.states.specs.Successors.{grownOver, rowOver};
-ghost use Rattle.states.specs.ReachableSets.{sameSet};
+ghost use Rattle.states.specs.Slots.{itemsIn, HoldsItems, withSet, sameSlot, countUpTo, ExpandedItems, exploredOf, RanItems};
 ghost use Rattle.game.specs.Limits.{beliefLimit, pairLimit, hintSize};
 ghost use Rattle.game.specs.Twins.{Twins};
-ghost use Rattle.game.specs.Held.{packBelief, beliefAfter, afterMembers, Members, Apart, Successors, countedBeliefs, finalsOf};
+ghost use Rattle.game.specs.Held.{packBelief, beliefAfter, triedFrom, triedRow, afterMembers, Members, Apart, Successors, countedBeliefs, finalsOf};
 use crate::believing::is_final;
 use crate::believing::put_after;
 use crate::believing::put_first;
@@ -89,13 +87,9 @@ fn expand_belief(
     requires { ⌜ HoldsItems n packBelief (now mem) k ⌝ }
     requires { ⌜ Distinct (itemsIn n (now mem) k) ⌝ }
     requires { ⌜ length (now hints) ≡ hintSize ⌝ }
-    ensures { λ r. ⌜ r ≡ countUpTo beliefLimit (grownOver sameSet (beliefAfter (now (successors .entry)) n (length (now (row .entry))) hiddens) (below (length (now (row .entry)))) (itemsIn n (now (mem .entry)) k) (itemIn n (now (mem .entry)) i)) ⌝ }
-    ensures { λ _. ⌜ ExpandedItems n packBelief beliefLimit
-        (grownOver sameSet (beliefAfter (now (successors .entry)) n (length (now (row .entry))) hiddens) (below (length (now (row .entry)))) (itemsIn n (now (mem .entry)) k) (itemIn n (now (mem .entry)) i))
-        (rowOver sameSet (beliefAfter (now (successors .entry)) n (length (now (row .entry))) hiddens) (below (length (now (row .entry))))
-        (grownOver sameSet (beliefAfter (now (successors .entry)) n (length (now (row .entry))) hiddens) (below (length (now (row .entry)))) (itemsIn n (now (mem .entry)) k) (itemIn n (now (mem .entry)) i))
-        (itemIn n (now (mem .entry)) i))
-        (now (mem .exit)) (now (row .exit)) ⌝ }
+    ensures { λ r. ⌜ r ≡ countUpTo beliefLimit (triedFrom (now (successors .entry)) n (length (now (row .entry))) hiddens (now (mem .entry)) k i) ⌝ }
+    ensures { λ _. ⌜ ExpandedItems n packBelief beliefLimit (triedFrom (now (successors .entry)) n (length (now (row .entry))) hiddens (now (mem .entry)) k i)
+        (triedRow (now (successors .entry)) n (length (now (row .entry))) hiddens (now (mem .entry)) k i) (now (mem .exit)) (now (row .exit)) ⌝ }
 {
     let mut present = [0u8; SET * 8];
     let mut members = [0u8; STATE_LIMIT];
@@ -131,7 +125,7 @@ fn expand_belief(
         }
         q += 1;
     }
-    Explored::States(m)
+    Explored::Found(m)
 }
 
 // All beliefs over n states, and for each the row of the beliefs that pairs lead to, into memory that is all zero for the rows.
@@ -174,7 +168,7 @@ pub fn count_beliefs(
             &mut hints,
             &mut moves[at..at + pairs],
         ) {
-            Explored::States(m) => {
+            Explored::Found(m) => {
                 k = m;
             }
             Explored::TooMany => {
@@ -183,7 +177,7 @@ pub fn count_beliefs(
         }
         i += 1;
     }
-    Explored::States(k)
+    Explored::Found(k)
 }
 
 // Writes for each of k beliefs whether it is final.

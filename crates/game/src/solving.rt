@@ -114,7 +114,7 @@ fn solve_states(
         &mut mem,
         &mut moves,
     ) {
-        Explored::States(k) => {
+        Explored::Found(k) => {
             mark_finals(sets, &mem, n, k, &mut finals);
             answer(&moves, &finals, k, choices, observations, table)
         }
@@ -145,7 +145,7 @@ fn solve_parts(
     let observed = sizes.observed;
     let hidden = sizes.hidden;
     match explore(kinds, lefts, rights, sizes, sets, &mut successors) {
-        Explored::States(n) => solve_states(
+        Explored::Found(n) => solve_states(
             sets,
             &successors,
             n,

@@ -8,7 +8,7 @@ use mathlib.Core.List.{List, _++_, append-nil}
 use lib.ListN.{length, replicate, take, drop, length-drop, drop-of-length-le}
 use lib.Seq.{take-all, length-take-le}
 use borrow.Rule.Slice.PartMut.{putMid}
-use Rattle.states.specs.declared.search.Explored.the-variants.{States, TooMany}
+use Rattle.states.specs.declared.search.Explored.the-variants.{Found, TooMany}
 use Rattle.states.specs.Limits.{setSize}
 use Rattle.states.specs.Lists.{padded}
 use Rattle.states.specs.Reach.{Listing, closed, over}
@@ -18,17 +18,17 @@ use Rattle.states.specs.Slots.{exploredOf, itemsOf, RanItems}
 use Rattle.states.proofs.ReachableSetLaws.{sets-closed}
 
 -- no more are answered than there may be
-pub listed-few : {K : Type 0} (l : Listing K) (limit n : ℕ) → ((xs : List K) → l ≡ closed xs → length xs ≤ limit) → States n ≡ exploredOf l → n ≤ limit
+pub listed-few : {K : Type 0} (l : Listing K) (limit n : ℕ) → ((xs : List K) → l ≡ closed xs → length xs ≤ limit) → Found n ≡ exploredOf l → n ≤ limit
 listed-few (closed xs) limit n few q = let z : n ≡ length xs = cc in omega (arith, few xs refl)
 listed-few over limit n few q = let z : _≡_ {A = ℕ} 0 1 = cc in absurd (omega arith)
 
-pub answer-few : (d : ℕ) (back : ℕ → ℕ → ℕ) (letters : List ℕ) (limit n : ℕ) → States n ≡ exploredOf (reachableSets d back letters limit) → n ≤ limit
+pub answer-few : (d : ℕ) (back : ℕ → ℕ → ℕ) (letters : List ℕ) (limit n : ℕ) → Found n ≡ exploredOf (reachableSets d back letters limit) → n ≤ limit
 answer-few d back letters limit n q = listed-few (reachableSets d back letters limit) limit n (λ xs e. sets-closed d back letters limit xs e .1) q
 
 module _ (pack : List Bool → List ℕ) (f : List Bool → ℕ → List Bool) (steps : List ℕ) (width : ℕ) (l : Listing (List Bool)) (mem rows : List ℕ)
     (ran : RanItems pack f steps width l mem rows) where
   -- behind the items all is cleared
-  pub end-items : (n k m : ℕ) (rest : List ℕ) → States n ≡ exploredOf l → n * setSize ≤ length mem → k ≡ length mem - n * setSize
+  pub end-items : (n k m : ℕ) (rest : List ℕ) → Found n ≡ exploredOf l → n * setSize ≤ length mem → k ≡ length mem - n * setSize
       → rest ≡ replicate (length (take k (drop (n * setSize) mem))) 0 → m ≡ length mem → putMid (n * setSize) k mem rest ≡ padded m (itemsOf pack l)
   end-items n k m rest q room is-k zeros is-m = at l ran q
     where
@@ -43,7 +43,7 @@ module _ (pack : List Bool → List ℕ) (f : List Bool → ℕ → List Bool) (
           ap (λ t. take (n * setSize) mem ++ t)
           (ap (λ t. rest ++ t) (drop-of-length-le (drop (n * setSize) mem) {i = k} (omega (arith, tail))) ∙ append-nil rest ∙ cleared)
 
-      at : (l : Listing (List Bool)) → RanItems pack f steps width l mem rows → States n ≡ exploredOf l → putMid (n * setSize) k mem rest ≡ padded m (itemsOf pack l)
+      at : (l : Listing (List Bool)) → RanItems pack f steps width l mem rows → Found n ≡ exploredOf l → putMid (n * setSize) k mem rest ≡ padded m (itemsOf pack l)
       at (closed xs) r p =
           let z : n ≡ length xs = cc in
           let front : take (n * setSize) mem ≡ itemsOf pack (closed xs) = ap (λ j. take (j * setSize) mem) z ∙ r .0 in
@@ -52,10 +52,10 @@ module _ (pack : List Bool → List ℕ) (f : List Bool → ℕ → List Bool) (
           whole ∙ ap₂ (λ x j. x ++ replicate j 0) front rest-size
       at over r p = let z : _≡_ {A = ℕ} 0 1 = cc in absurd (omega arith)
 
-  pub end-rows : (n m : ℕ) → States n ≡ exploredOf l → m ≡ length rows → rows ≡ padded m (rowsOver sameSet f steps width l)
+  pub end-rows : (n m : ℕ) → Found n ≡ exploredOf l → m ≡ length rows → rows ≡ padded m (rowsOver sameSet f steps width l)
   end-rows n m q is-m = at l ran q
     where
-      at : (l : Listing (List Bool)) → RanItems pack f steps width l mem rows → States n ≡ exploredOf l → rows ≡ padded m (rowsOver sameSet f steps width l)
+      at : (l : Listing (List Bool)) → RanItems pack f steps width l mem rows → Found n ≡ exploredOf l → rows ≡ padded m (rowsOver sameSet f steps width l)
       at (closed xs) r p = r .1 ∙ ap (λ j. padded j (rowsOver sameSet f steps width (closed xs))) (sym is-m)
       at over r p = let z : _≡_ {A = ℕ} 0 1 = cc in absurd (omega arith)
 

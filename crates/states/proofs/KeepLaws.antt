@@ -11,7 +11,7 @@ use lib.ListN.{length, getD, take}
 use lib.Seq.{ext-getD, length-take-le, getD-take}
 use borrow.Author.Tests.{ltb-true, ltb-false}
 use borrow.Rule.Slice.PartMut.{putMid}
-use Rattle.states.specs.declared.search.Explored.the-variants.{States, TooMany}
+use Rattle.states.specs.declared.search.Explored.the-variants.{Found, TooMany}
 use Rattle.states.specs.Limits.{setSize}
 use Rattle.states.specs.Slots.{itemsIn, HoldsItems, countUpTo}
 use Rattle.states.proofs.FlatLaws.{length-rows, getD-rows}
@@ -65,16 +65,16 @@ module _ (len : ℕ) (pack : List Bool → List ℕ) (packing : Packing len pack
 
 module _ {K : Type 0} (limit : ℕ) (xs : List K) where
   -- from the answer back to the count
-  pub count-states : (m : ℕ) → States m ≡ countUpTo limit xs → (length xs ≤ limit) × (m ≡ length xs)
-  count-states m q = at (ltb limit (length xs)) refl q
+  pub count-found : (m : ℕ) → Found m ≡ countUpTo limit xs → (length xs ≤ limit) × (m ≡ length xs)
+  count-found m q = at (ltb limit (length xs)) refl q
     where
-      at : (b : Bool) → ltb limit (length xs) ≡ b → States m ≡ cond b TooMany (States (length xs)) → (length xs ≤ limit) × (m ≡ length xs)
+      at : (b : Bool) → ltb limit (length xs) ≡ b → Found m ≡ cond b TooMany (Found (length xs)) → (length xs ≤ limit) × (m ≡ length xs)
       at true e q = let z : _≡_ {A = ℕ} 0 1 = cc in absurd (omega arith)
       at false e q = (ltb-false limit (length xs) e, cc)
 
   pub count-many : TooMany ≡ countUpTo limit xs → limit < length xs
   count-many q = at (ltb limit (length xs)) refl q
     where
-      at : (b : Bool) → ltb limit (length xs) ≡ b → TooMany ≡ cond b TooMany (States (length xs)) → limit < length xs
+      at : (b : Bool) → ltb limit (length xs) ≡ b → TooMany ≡ cond b TooMany (Found (length xs)) → limit < length xs
       at true e q = ltb-true limit (length xs) e
       at false e q = let z : _≡_ {A = ℕ} 0 1 = cc in absurd (omega arith)

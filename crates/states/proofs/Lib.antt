@@ -37,6 +37,7 @@ pub mod PlaneLaws
 pub mod MapLaws
 pub mod PrepareLaws
 -- items in memory, sets among them
+pub mod ByteLaws
 pub mod SlotLaws
 pub mod SetLaws
 pub mod HalfLaws

@@ -1,7 +1,7 @@
 -- Sets of patterns in 32 bytes each: a set over fewer than seven operators is repeated to fill them.
 -- Assumes nothing.
 use Prim.Native.Nat.{ℕ, suc, _+_, _*_, _/_, _%_, _^_, _<_, _≤_}
-use native.Mathlib.Nat.{div-add-mod', mod-lt, mod-eq-of-lt}
+use native.Mathlib.Nat.{mod-lt, mod-eq-of-lt}
 use native.Mathlib.Omega.{arith}
 use mathlib.Core.Path.{_≡_, refl, sym, ap, _∙_, subst}
 use mathlib.Core.Bool.{Bool, true, false}
@@ -16,10 +16,11 @@ use Rattle.rules.proofs.ListLaws.{length-tabulate, getD-tabulate}
 use Rattle.states.specs.Limits.{setSize}
 use Rattle.states.specs.Bits.{fromBits}
 use Rattle.states.specs.PatternSet.{PatternSet, member, start, next}
+use Rattle.states.specs.Slots.{byteAt, bitBytes}
 use Rattle.states.specs.Memory.{packed, startByte, spread, Binary, nextByte, nextBytes, halfOf}
 use Rattle.states.proofs.BitLaws.{bit-mod, digit-lt, digit-is}
 use Rattle.states.proofs.ListLaws.{tabulate-ext}
-use Rattle.states.proofs.TableLaws.{bit-table}
+use Rattle.states.proofs.ByteLaws.{bytes-length, bit-bytes}
 use Rattle.states.proofs.FillLaws.{table-all}
 use Rattle.states.proofs.PatternSetLaws.{length-setOf, member-setOf, length-start}
 use Rattle.states.proofs.SlotLaws.{Packing, packing-bits}
@@ -31,28 +32,13 @@ pattern-lt d p h l = let m : 2 ^ suc d ≤ 2 ^ 8 = pow-mono {i = suc d} {j = 8} 
 
 -- ---- the bytes of a set
 
--- byte i
-unfoldable byteOf : PatternSet → ℕ → ℕ
-byteOf s i = fromBits (tabulate 8 (λ j. member s ((i * 8 + j) % length s)))
-
-packed-is : (s : PatternSet) → packed s ≡ tabulate setSize (byteOf s)
-unfolding packed byteOf
-packed-is s = refl
-
 pub packed-length : (s : PatternSet) → length (packed s) ≡ setSize
-packed-length s = ap length (packed-is s) ∙ length-tabulate setSize (byteOf s)
-
-packed-at : (s : PatternSet) (b : ℕ) → b < setSize → getD (packed s) b 0 ≡ byteOf s b
-packed-at s b h = ap (λ l. getD l b 0) (packed-is s) ∙ getD-tabulate setSize (byteOf s) b 0 h
-
-bit-byte : (s : PatternSet) (i j : ℕ) → j < 8 → bit (byteOf s i) j ≡ member s ((i * 8 + j) % length s)
-unfolding byteOf
-bit-byte s i j h = bit-table 8 (λ k. member s ((i * 8 + k) % length s)) j h
+unfolding packed
+packed-length s = bytes-length _
 
 pub bit-packed : (s : PatternSet) (p : ℕ) → p < 256 → bit (getD (packed s) (p / 8) 0) (p % 8) ≡ member s (p % length s)
-bit-packed s p h =
-    ap (λ x. bit x (p % 8)) (packed-at s (p / 8) (omega arith)) ∙ bit-byte s (p / 8) (p % 8) (omega arith)
-    ∙ ap (λ q. member s (q % length s)) (div-add-mod' p 8)
+unfolding packed
+bit-packed s p h = bit-bytes _ p h
 
 -- bit p of the bytes of a set over d operators
 bit-pattern : (d : ℕ) (s : PatternSet) → d < 8 → length s ≡ 2 ^ suc d
@@ -67,16 +53,14 @@ packing d h = packing-bits (2 ^ suc d) packed (pow-mono {i = suc d} {j = 8} h) p
 
 -- ---- the start set
 
-start-byte-is : (d i : ℕ) → startByte d i ≡ byteOf (start d) i
-unfolding startByte byteOf start
-start-byte-is d i =
+start-packed : (d : ℕ) → tabulate setSize (startByte d) ≡ packed (start d)
+unfolding startByte packed bitBytes byteAt start
+start-packed d =
+    tabulate-ext setSize (startByte d) _ (λ i l.
     ap fromBits (tabulate-ext 8 (λ j. bit (i * 8 + j) d) (λ j. member (start d) ((i * 8 + j) % length (start d)))
     (λ j l. sym (ap (λ n. member (start d) ((i * 8 + j) % n)) (length-start d)
     ∙ member-setOf d (λ p. bit p d) ((i * 8 + j) % 2 ^ suc d) (mod-lt (i * 8 + j) (pow-pos (suc d)))
-    ∙ bit-mod (i * 8 + j) (suc d) d (omega arith))))
-
-start-packed : (d : ℕ) → tabulate setSize (startByte d) ≡ packed (start d)
-start-packed d = tabulate-ext setSize (startByte d) (byteOf (start d)) (λ i l. start-byte-is d i) ∙ sym (packed-is (start d))
+    ∙ bit-mod (i * 8 + j) (suc d) d (omega arith)))))
 
 pub start-done : (d : ℕ) (p w : List ℕ) (i : ℕ) → i ≡ setSize → length p ≡ setSize
     → w ≡ tabulate i (startByte d) ++ drop i p → w ≡ packed (start d)
@@ -125,13 +109,15 @@ module _ (d : ℕ) (s : PatternSet) (h : d < 8) (e : length s ≡ 2 ^ suc d) (ba
       ∙ sym (ap (λ n. member (next d back s a) ((b * 8 + j) % n)) (length-setOf d (λ x. member s (back a x)))
       ∙ member-setOf d (λ x. member s (back a x)) p (mod-lt (b * 8 + j) (pow-pos (suc d))))
 
-  next-byte-is : (b : ℕ) → nextByte (spread (packed s)) entries (b % halfOf d) ≡ byteOf (next d back s a) b
-  unfolding nextByte byteOf
+  next-byte-is : (b : ℕ) → nextByte (spread (packed s)) entries (b % halfOf d) ≡ byteAt (λ p. member (next d back s a) (p % length (next d back s a))) b
+  unfolding nextByte byteAt
   next-byte-is b = ap fromBits (tabulate-ext 8 _ _ (λ j l. next-bit b j l))
+
+  packed-is : packed (next d back s a) ≡ tabulate setSize (byteAt (λ p. member (next d back s a) (p % length (next d back s a))))
+  unfolding packed bitBytes
+  packed-is = refl
 
   -- what `put_next` writes from the bits of a set and a letter's map is the set after the letter
   pub next-packed : nextBytes (spread (packed s)) entries (halfOf d) ≡ packed (next d back s a)
   unfolding nextBytes
-  next-packed =
-      tabulate-ext setSize (λ b. nextByte (spread (packed s)) entries (b % halfOf d)) (byteOf (next d back s a)) (λ b l. next-byte-is b)
-      ∙ sym (packed-is (next d back s a))
+  next-packed = tabulate-ext setSize (λ b. nextByte (spread (packed s)) entries (b % halfOf d)) _ (λ b l. next-byte-is b) ∙ sym packed-is

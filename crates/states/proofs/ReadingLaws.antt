@@ -11,7 +11,7 @@ use lib.ListN.{length, getD, set, length-append, length-set}
 use lib.Seq.{getD-set-same, getD-set-other, ext-getD}
 use borrow.Author.Tests.{lt-ltb, le-ltb}
 use Rattle.states.specs.declared.search.Explored.{Explored}
-use Rattle.states.specs.declared.search.Explored.the-variants.{States, TooMany}
+use Rattle.states.specs.declared.search.Explored.the-variants.{Found, TooMany}
 use Rattle.states.specs.Limits.{setSize}
 use Rattle.states.specs.Lists.{firstThat, below}
 use Rattle.states.specs.Reach.{isIn, indexIn, addNew}
@@ -91,7 +91,7 @@ module _ (len : ℕ) (pack : List Bool → List ℕ) (f : List Bool → ℕ → 
 
   module _ {limit count size a m : ℕ} {mem row : List ℕ} (z : Adding limit count size a m mem row) where
     -- every step has been taken
-    pub adding-all : length row ≤ a → Answers limit count (States m) mem row
+    pub adding-all : length row ≤ a → Answers limit count (Found m) mem row
     adding-all l =
         let e : a ≡ count = omega (arith, z .0, z .3) in
         let r : Reading count m mem row = rw e at (z .4) in

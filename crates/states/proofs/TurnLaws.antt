@@ -8,7 +8,7 @@ use mathlib.Core.Bool.{Bool}
 use mathlib.Core.List.{List, []}
 use lib.ListN.{length, replicate, take, drop}
 use borrow.Rule.Slice.PartMut.{putMid}
-use Rattle.states.specs.declared.search.Explored.the-variants.{States, TooMany}
+use Rattle.states.specs.declared.search.Explored.the-variants.{Found, TooMany}
 use Rattle.states.specs.Limits.{setSize}
 use Rattle.states.specs.Lists.{below}
 use Rattle.states.specs.Reach.{Listing, closed, over, reachable}
@@ -19,7 +19,7 @@ use Rattle.states.proofs.FlatLaws.{row-ends}
 use Rattle.states.proofs.MidLaws.{part-length}
 use Rattle.states.proofs.ReachableSetLaws.{sameSet-says}
 use Rattle.states.proofs.SlotLaws.{length-itemsIn, getD-itemsIn, Packing}
-use Rattle.states.proofs.KeepLaws.{holds-bytes, first-items, first-holds, count-states, count-many}
+use Rattle.states.proofs.KeepLaws.{holds-bytes, first-items, first-holds, count-found, count-many}
 use Rattle.states.proofs.RunLaws.{searchFrom, search-begin, search-turn, search-end, search-over, Rows, rows-none, grown-length, rows-more, rows-all}
 
 -- `all` is the answer of the whole search; the memory holds n items, of which i have had their steps taken and have their rows
@@ -83,7 +83,7 @@ module _ {len : ℕ} {pack : List Bool → List ℕ} {f : List Bool → ℕ → 
             subst (λ l. (TooMany ≡ exploredOf l) × RanItems pack f (below count) width l mem′ rows′) (sym (turn-over (count-many limit after-turn q))) (refl, tt)
 
         pub turn-next : (m at k : ℕ) (mem′ row : List ℕ) → count ≤ width → at ≡ i * width → k ≡ count → at + k ≤ length rows
-            → States m ≡ countUpTo limit after-turn → ExpandedItems len pack limit after-turn (rowOver sameSet f (below c) after-turn (itemIn len mem i)) mem′ row
+            → Found m ≡ countUpTo limit after-turn → ExpandedItems len pack limit after-turn (rowOver sameSet f (below c) after-turn (itemIn len mem i)) mem′ row
             → Turn len pack f first limit width count all mem′ (putMid at k rows row) m (i + 1)
         turn-next m at k mem′ row small is-at is-k room q e =
             record {
@@ -98,7 +98,7 @@ module _ {len : ℕ} {pack : List Bool → List ℕ} {f : List Bool → ℕ → 
             }
           where
             size : (length after-turn ≤ limit) × (m ≡ length after-turn)
-            size = count-states limit after-turn m q
+            size = count-found limit after-turn m q
 
             items : itemsIn len mem′ m ≡ grownOver sameSet f (below count) (itemsIn len mem n) (itemIn len mem i)
             items =
@@ -125,8 +125,8 @@ module _ {len : ℕ} {pack : List Bool → List ℕ} {f : List Bool → ℕ → 
           t .goes
           ∙ search-end sameSet (stepsOver f (below count)) first limit (itemsIn len mem n) i within (omega (arith, t .read, none-left, length-itemsIn len mem n))
 
-      pub turn-answer : States n ≡ exploredOf all
-      turn-answer = ap States (sym (length-itemsIn len mem n)) ∙ ap exploredOf (sym turn-closed)
+      pub turn-answer : Found n ≡ exploredOf all
+      turn-answer = ap Found (sym (length-itemsIn len mem n)) ∙ ap exploredOf (sym turn-closed)
 
       pub turn-left : Packing len pack → 0 < width → count ≤ width → n * setSize ≤ length mem → n * width ≤ length rows
           → RanItems pack f (below count) width all mem rows

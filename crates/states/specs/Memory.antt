@@ -14,13 +14,13 @@ use Rattle.states.specs.PatternSet.{PatternSet, member, next}
 use Rattle.states.specs.Reach.{Listing}
 use Rattle.states.specs.ReachableSets.{sameSet}
 use Rattle.states.specs.Successors.{grownOver, rowOver, rowsOver}
-use Rattle.states.specs.Slots.{itemIn, itemsIn, HoldsItems, countUpTo, ExpandedItems, itemsOf, RanItems}
+use Rattle.states.specs.Slots.{bitBytes, itemIn, itemsIn, HoldsItems, countUpTo, ExpandedItems, itemsOf, RanItems}
 
 -- ---- one set
 
--- a set's table, repeated to fill its bytes: bit j of byte i is for pattern i * 8 + j
+-- a set's table, repeated to fill its bytes
 unfoldable pub packed : PatternSet → List ℕ
-packed s = tabulate setSize (λ i. fromBits (tabulate 8 (λ j. member s ((i * 8 + j) % length s))))
+packed s = bitBytes (λ p. member s (p % length s))
 
 -- byte i of the start set: the patterns with bit d
 unfoldable pub startByte : ℕ → ℕ → ℕ

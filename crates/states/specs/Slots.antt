@@ -10,12 +10,20 @@ use lib.ListN.{length, getD, take, drop}
 use Rattle.rules.specs.Bits.{bit}
 use Rattle.rules.specs.Lists.{tabulate}
 use Rattle.states.specs.declared.search.Explored.{Explored}
-use Rattle.states.specs.declared.search.Explored.the-variants.{States, TooMany}
+use Rattle.states.specs.declared.search.Explored.the-variants.{Found, TooMany}
+use Rattle.states.specs.Bits.{fromBits}
 use Rattle.states.specs.Limits.{setSize}
 use Rattle.states.specs.Lists.{agree, padded}
 use Rattle.states.specs.Reach.{Listing, closed, over}
 use Rattle.states.specs.ReachableSets.{sameSet}
 use Rattle.states.specs.Successors.{rowsOver}
+
+-- the bytes whose bits are the answers of f: bit j of byte i is answer i * 8 + j
+unfoldable pub byteAt : (ℕ → Bool) → ℕ → ℕ
+byteAt f i = fromBits (tabulate 8 (λ j. f (i * 8 + j)))
+
+unfoldable pub bitBytes : (ℕ → Bool) → List ℕ
+bitBytes f = tabulate setSize (byteAt f)
 
 -- item i of some memory
 unfoldable pub itemIn : ℕ → List ℕ → ℕ → List Bool
@@ -40,7 +48,7 @@ sameSlot mem n i = agree (λ y. getD mem (i * setSize + y) 0) (λ y. getD mem (n
 
 -- how many items there are then
 abbrev pub countUpTo : {K : Type 0} → ℕ → List K → Explored
-countUpTo limit xs = cond (ltb limit (length xs)) TooMany (States (length xs))
+countUpTo limit xs = cond (ltb limit (length xs)) TooMany (Found (length xs))
 
 -- the memory holds the items xs, and the row is as given; after too many both are open, and the whole search clears them
 pub record ExpandedItems (len : ℕ) (pack : List Bool → List ℕ) (limit : ℕ) (xs : List (List Bool)) (row mem row′ : List ℕ) : Type 0 where
@@ -51,7 +59,7 @@ pub record ExpandedItems (len : ℕ) (pack : List Bool → List ℕ) (limit : �
 -- ---- what the whole search answers and leaves
 
 abbrev pub exploredOf : {K : Type 0} → Listing K → Explored
-exploredOf (closed xs) = States (length xs)
+exploredOf (closed xs) = Found (length xs)
 exploredOf over = TooMany
 
 -- the items one after another; nothing if there are too many

@@ -19,9 +19,9 @@ use crate::sizes::SET;
 use crate::sizes::STATE_LIMIT;
 use rules::clear;
 
-// How many states there are, or that they are too many.
+// How many things a search found, or that they are too many.
 pub enum Explored {
-    States(usize),
+    Found(usize),
     TooMany,
 }
 
@@ -100,7 +100,7 @@ fn expand(
         }
         a += 1;
     }
-    Explored::States(m)
+    Explored::Found(m)
 }
 
 // Reads every letter in every set, from the start on, into memory that is all zero for the rows. After too many sets both
@@ -130,7 +130,7 @@ fn run(
     while i < n {
         let at = i * LETTER_LIMIT;
         match expand(maps, firsts, d, i, n, mem, &mut successors[at..at + count]) {
-            Explored::States(m) => {
+            Explored::Found(m) => {
                 n = m;
             }
             Explored::TooMany => {
@@ -139,7 +139,7 @@ fn run(
         }
         i += 1;
     }
-    Explored::States(n)
+    Explored::Found(n)
 }
 
 // All sets that the letters below `count` reach, and the number of the set that each leads to from each.
@@ -165,10 +165,10 @@ pub fn search(
 {
     clear(successors);
     match run(maps, firsts, d, count, mem, successors) {
-        Explored::States(n) => {
+        Explored::Found(n) => {
             let at = n * SET;
             clear(&mut mem[at..]);
-            Explored::States(n)
+            Explored::Found(n)
         }
         Explored::TooMany => {
             clear(mem);

@@ -1,31 +1,18 @@
--- What defeats a plan: in a trap, positions that do not stop and that some observation leads back into whatever is chosen, there are observations
--- against every plan after which, at each step, some hidden values make the run false. So no plan wins from a trap.
+-- What defeats a plan: a trap, positions that are not final and that some observation leads back into whatever is chosen. Against
+-- every plan there is a play that stays in the trap, so no plan wins from there.
 -- Assumes nothing.
 use Prim.Native.Nat.{ℕ, zero, suc, _≤_, _<_, zero-le, suc-le-suc}
 use native.Mathlib.Nat.{le-of-suc-le-suc}
 use native.Mathlib.Omega.{arith}
 use mathlib.Core.Path.{_≡_, refl, sym, ap, _∙_, subst}
-use mathlib.Core.Logic.{_⊎_, inl, inr}
-use mathlib.Core.Bool.{Bool, true, false}
+use mathlib.Core.Bool.{false}
 use mathlib.Core.Option.{Option, none, some}
-use mathlib.Core.List.{List, [], _∷_}
+use mathlib.Core.List.{List, []}
 use Rattle.game.specs.Game.{Game, Play, seen}
 use Rattle.game.specs.Rank.{Arena}
-use Rattle.game.proofs.Bounded.{test, clash, all-search}
+use Rattle.game.proofs.Bounded.{clash}
 use Rattle.game.proofs.Order.{Order}
-use Rattle.game.proofs.Plans.{_∷ˢ_, rest, Plan, after, respond, Goes, stuck, History, PlanSteps, planRun, history, letters, Hidden, Possible, WinsFor, hiding, know, Tracks, Legal, legal-after, steps-unique, run-letters}
-
-module _ (G : Game) where
-  -- either all hidden values pass the test with a history, or some fail it
-  pub hidden-search : 0 < G .hiddens → (h : History) (ok : List ℕ → Bool)
-      → ((x : ℕ → ℕ) → Hidden G x → ok (letters G h x) ≡ true) ⊎ ((x : ℕ → ℕ) × Hidden G x × (ok (letters G h x) ≡ false))
-  hidden-search some-hidden [] ok =
-      elim (test (ok [])) [ inl t ↦ inl (λ x b. t) | inr f ↦ inr (λ i. 0, λ i. some-hidden, f) ]
-  hidden-search some-hidden (m ∷ h) ok =
-      elim (all-search (G .hiddens) (λ x. hidden-search some-hidden h (λ w. ok (G .letter (m .0) (m .1) x ∷ w)))) [
-        | inl every ↦ inl (λ x b. every (x 0) (b 0) (rest x) (λ i. b (suc i)))
-        | inr e ↦ inr (e .0 ∷ˢ e .2 .0, elim [ zero ↦ e .1 | suc i ↦ e .2 .1 i ], e .2 .2)
-      ]
+use Rattle.game.proofs.Plans.{rest, Plan, after, respond, Goes, stuck, PlanSteps, planRun, history, Possible, WinsFor, hiding, know, Tracks, Legal, legal-after, steps-unique, run-letters}
 
 module _ (G : Game) (O : Order (G .choices) (G .observations)) where
   -- the choices and observations so far are possible ones
@@ -40,17 +27,9 @@ module _ (G : Game) (O : Order (G .choices) (G .observations)) where
         possible n (after σ s) (legal-after G O σ s sb l) (rest p) (λ m h. o (suc m) (suc-le-suc h)),
       )
 
-  module _ (A : Arena) (some-hidden : 0 < G .hiddens) (σ : Plan) (l : Legal G O σ) (p : Play G) (n : ℕ) (o : (m : ℕ) → m < n → Goes (σ (seen p m)))
+  module _ (A : Arena) (σ : Plan) (l : Legal G O σ) (p : Play G) (n : ℕ) (o : (m : ℕ) → m < n → Goes (σ (seen p m)))
       (k : A .K) (Φ : List ℕ → Type 0) (T : Tracks G A k Φ) (unsure : A .final (know G A k (history G σ p n)) ≡ false) where
-    -- where the position does not stop, some hidden values, with what was chosen and read, miss the goal
-    pub missed : (ok : List ℕ → Bool) → ((w : List ℕ) → ok w ≡ true → Φ w) → (x : ℕ → ℕ) × Hidden G x × (ok (letters G (history G σ p n) x) ≡ false)
-    missed ok up =
-        elim (hidden-search G some-hidden (history G σ p n) ok) [
-          | inl every ↦ clash (T (history G σ p n) (possible n σ l p o) .1 (λ x b. up (letters G (history G σ p n) x) (every x b))) unsure
-          | inr e ↦ e
-        ]
-
-    -- so a plan that wins does not stop there
+    -- where the position is not final, a plan that wins does not stop
     pub not-stopped : WinsFor G Φ σ → PlanSteps G σ p n → ⊥
     not-stopped win st =
         clash
@@ -87,13 +66,6 @@ module _ (G : Game) (O : Order (G .choices) (G .observations)) (A : Arena) where
         subst (λ (a : ℕ → ℕ). P (A .move k (a s) s)) (sym r) (subst (λ (u : ℕ). P (A .move k (g u) u)) (sym is) (trap .stays k t g (l [] tt g e))) in
         trapped n (A .move k (respond (σ []) s) s) t′ (after σ s) (legal-after G O σ s ((p 0) .observation-below) l) (rest p)
         (λ i q. f (suc i) (elim [ zero ↦ λ h. (g, e) | suc m ↦ λ h. q m (le-of-suc-le-suc h) ])) (λ m h. o (suc m) (suc-le-suc h))
-
-    -- after each step some hidden values, with what was chosen and read, miss the goal
-    pub spoiled : 0 < G .hiddens → (ok : List ℕ → Bool) (Φ : List ℕ → Type 0) → ((w : List ℕ) → ok w ≡ true → Φ w)
-        → (k : A .K) → P k → Tracks G A k Φ → (σ : Plan) → Legal G O σ → (p : Play G) → Foils k σ p
-        → (n : ℕ) → ((m : ℕ) → m < n → Goes (σ (seen p m))) → (x : ℕ → ℕ) × Hidden G x × (ok (letters G (history G σ p n) x) ≡ false)
-    spoiled some-hidden ok Φ up k t T σ l p f n o =
-        missed G O A some-hidden σ l p n o k Φ T (trap .unstopped _ (trapped n k t σ l p f o)) ok up
 
     module _ (some-observation : 0 < G .observations) (some-hidden : 0 < G .hiddens) where
       -- there is such a play against every plan: at each step the observation, and the position that it leads to
@@ -133,4 +105,4 @@ module _ (G : Game) (O : Order (G .choices) (G .observations)) (A : Arena) where
       no-win k t Φ T σ l win =
           let p = against σ l k t in
           let (n, st, φ) = win p in
-          not-stopped G O A some-hidden σ l p n (st .1) k Φ T (trap .unstopped _ (trapped n k t σ l p (against-foils σ l k t) (st .1))) win st
+          not-stopped G O A σ l p n (st .1) k Φ T (trap .unstopped _ (trapped n k t σ l p (against-foils σ l k t) (st .1))) win st
