@@ -27,8 +27,8 @@ use Rattle.game.specs.Limits.{beliefLimit, hintSize}
 use Rattle.game.specs.Belief.{Belief}
 use Rattle.game.specs.Held.{packBelief, firstOf, beliefAfter, membersOf, afterMembers, Members, Apart, allAccept, finalFrom, Successors, countedBeliefs, finalsOf}
 use Rattle.game.specs.Twins.{Twins}
-use Rattle.game.proofs.HeldLaws.{belief-packing, after-belief, final-belief}
-use Rattle.game.proofs.MemberLaws.{members-are, after-members}
+use Rattle.game.proofs.HeldLaws.{belief-packing, final-belief}
+use Rattle.game.proofs.MemberLaws.{members-are, after-belief}
 use Rattle.game.proofs.TwinLaws.{twin-after}
 use Rattle.game.proofs.FindLaws.{apart-items, distinct-grown}
 
@@ -138,7 +138,7 @@ module _ (successors twins : List ℕ) (n hiddens : ℕ) (mem₀ : List ℕ) (i 
     target-bytes =
         let g = z .1 in
         ap₂ (λ v j. afterMembers successors v q j hiddens c) (g .listed) (z .2) ∙ ap (afterMembers successors (listing ++ g .rest) q count hiddens) (g .counted)
-        ∙ after-members successors (spread (packBelief x)) q count hiddens n (g .rest) ∙ after-belief successors n count hiddens q x (g .small) (g .right) within
+        ∙ after-belief successors n count hiddens q x (g .small) (g .right) within (g .rest)
 
     -- a pair with an earlier one that leads to the same states
     pub kept-copy : getD twins q 0 < q → (m′ : ℕ) (mem′ hints′ row′ : List ℕ) → mem′ ≡ mem → length hints′ ≡ hintSize → row′ ≡ set row q (getD row (getD twins q 0) 0) → m′ ≡ m

@@ -6,15 +6,14 @@ use native.Mathlib.Numerals.{add-one}
 use native.Mathlib.Decide.{ℕ-discrete, decLt}
 use native.Mathlib.Omega.{arith}
 use mathlib.Core.Path.{_≡_, refl, sym, ap, ap₂, _∙_, subst}
-use mathlib.Core.Logic.{inl, inr}
-use mathlib.Core.Bool.{Bool, true, false, cond, not, _&&_, _||_, or-false, or-true, or-comm, or-assoc}
+use mathlib.Core.Bool.{Bool, true, false, not, _&&_, _||_, or-false, or-true, or-comm, or-assoc}
 use mathlib.Core.List.{List}
 use lib.Bits.{bitAnd, bitOr, and-mask, or-lt}
 use lib.Dec.{eqb, eqb·zero-suc, eqb·suc-zero, eqb·suc-suc}
 use lib.ListN.{length, getD, set, replicate, length-set, length-replicate, getD-replicate, List·getD-eq-default}
 use lib.Pow.{pow-lt, shl-exact}
 use lib.Seq.{ext-getD, getD-set-same, getD-set-other}
-use borrow.Author.Tests.{eqb-true, eq-eqb, ne-eqb}
+use borrow.Author.Tests.{eq-eqb, ne-eqb}
 use Rattle.rules.specs.Bits.{bit, digit}
 use Rattle.rules.specs.Lists.{tabulate}
 use Rattle.rules.proofs.ListLaws.{length-tabulate, getD-tabulate}
@@ -27,8 +26,8 @@ use Rattle.states.proofs.ByteLaws.{bytes-length, byte-at, byte-lt, bit-bytes}
 use Rattle.states.proofs.SlotLaws.{Packing, packing-bits}
 use Rattle.game.specs.Bounded.{all, any}
 use Rattle.game.specs.Belief.{Belief, has}
-use Rattle.game.specs.Held.{packBelief, firstOf, successorIn, beliefAfter, allAccept, withState, withHidden, afterBytes, finalFrom, Successors}
-use Rattle.game.proofs.Bounded.{test, and-right, all-suc, any-suc, all-ext, all-fails, any-at}
+use Rattle.game.specs.Held.{packBelief, firstOf, successorIn, allAccept, withState, withHidden, finalFrom}
+use Rattle.game.proofs.Bounded.{all-suc, any-suc, all-ext, all-fails}
 
 -- ---- bits
 
@@ -99,7 +98,7 @@ belief-bits b =
 pub spread-belief : (b : Belief) (s : ℕ) → s < 256 → getD (spread (packBelief b)) s 0 ≡ digit (has b s)
 spread-belief b s h = spread-at (packBelief b) s h ∙ ap digit (bit-packBelief b s h)
 
-present-belief : (b : Belief) (s : ℕ) → s < 256 → eqb (getD (spread (packBelief b)) s 0) 1 ≡ has b s
+pub present-belief : (b : Belief) (s : ℕ) → s < 256 → eqb (getD (spread (packBelief b)) s 0) 1 ≡ has b s
 present-belief b s h = ap (λ x. eqb x 1) (spread-belief b s h) ∙ digit-is (has b s)
 
 -- a belief of n states has no others
@@ -107,7 +106,7 @@ has-out : (n : ℕ) (f : ℕ → Bool) (p : ℕ) → n ≤ p → has (tabulate n
 has-out n f p h = List·getD-eq-default (tabulate n f) false (subst (λ m. m ≤ p) (sym (length-tabulate n f)) h)
 
 -- so a belief that is a table has what the table's test says, if the test fails from n on
-has-table : (n : ℕ) (f : ℕ → Bool) (p : ℕ) → (n ≤ p → f p ≡ false) → has (tabulate n f) p ≡ f p
+pub has-table : (n : ℕ) (f : ℕ → Bool) (p : ℕ) → (n ≤ p → f p ≡ false) → has (tabulate n f) p ≡ f p
 has-table n f p out = go (decLt p n)
   where
     go : Dec (p < n) → has (tabulate n f) p ≡ f p
@@ -169,7 +168,7 @@ bits-state {bytes} {f} a t h = record {
         ∙ sym (ap (λ c. f p || c) (ne-eqb t p (λ q. n (ap (λ x. x / 8) (sym q)))) ∙ or-false (f p))
 
 -- state s leads to p by pair q with one of the first h hidden values
-unfoldable leadsTo : List ℕ → ℕ → ℕ → ℕ → ℕ → ℕ → Bool
+unfoldable pub leadsTo : List ℕ → ℕ → ℕ → ℕ → ℕ → ℕ → Bool
 leadsTo successors q pairs h s p = any h (λ k. eqb (successorIn successors s (q + k * pairs)) p)
 
 leads-none : (successors : List ℕ) (q pairs s p : ℕ) → leadsTo successors q pairs 0 s p ≡ false
@@ -182,7 +181,7 @@ unfolding leadsTo
 leads-more successors q pairs h s p = any-suc h (λ k. eqb (successorIn successors s (q + k * pairs)) p)
 
 -- the states that the first h hidden values lead to
-bits-hidden : {bytes : List ℕ} {f : ℕ → Bool} → Bits bytes f → (successors : List ℕ) (s q pairs h : ℕ)
+pub bits-hidden : {bytes : List ℕ} {f : ℕ → Bool} → Bits bytes f → (successors : List ℕ) (s q pairs h : ℕ)
     → ((k : ℕ) → k < h → successorIn successors s (q + k * pairs) < 256)
     → Bits (withHidden successors s q pairs h bytes) (λ p. f p || leadsTo successors q pairs h s p)
 unfolding withHidden
@@ -196,67 +195,9 @@ bits-hidden {f = f} a successors s q pairs (suc h) small =
     turn : (x y z : Bool) → (x || y || z) ≡ (x || (z || y))
     turn x y z = or-assoc x y z ∙ ap (λ c. x || c) (or-comm y z)
 
--- ---- the belief after a pair
-
-choose-bits : (c : Bool) {xs ys : List ℕ} (f g : ℕ → Bool) → Bits xs (λ p. f p || g p) → Bits ys f → Bits (cond c xs ys) (λ p. c && g p || f p)
-choose-bits true f g a b = bits-same _ a (λ p l. or-comm (f p) (g p))
-choose-bits false f g a b = b
-
--- some of the first m states of the belief leads to p
-unfoldable reaches : List ℕ → ℕ → ℕ → ℕ → Belief → ℕ → ℕ → Bool
-reaches successors pairs hiddens q b m p = any m (λ s. has b s && leadsTo successors q pairs hiddens s p)
-
-reaches-none : (successors : List ℕ) (pairs hiddens q : ℕ) (b : Belief) (p : ℕ) → reaches successors pairs hiddens q b 0 p ≡ false
-unfolding reaches
-reaches-none successors pairs hiddens q b p = refl
-
-reaches-more : (successors : List ℕ) (pairs hiddens q : ℕ) (b : Belief) (m p : ℕ)
-    → reaches successors pairs hiddens q b (suc m) p ≡ (has b m && leadsTo successors q pairs hiddens m p || reaches successors pairs hiddens q b m p)
-unfolding reaches
-reaches-more successors pairs hiddens q b m p = any-suc m (λ s. has b s && leadsTo successors q pairs hiddens s p)
-
-after-is : (successors : List ℕ) (n pairs hiddens q : ℕ) (b : Belief)
-    → beliefAfter successors n pairs hiddens b q ≡ tabulate n (reaches successors pairs hiddens q b n)
-unfolding beliefAfter reaches leadsTo
-after-is successors n pairs hiddens q b = refl
-
 -- a pair with one of the hidden values is a letter
 pub letter-lt : (q pairs h hiddens : ℕ) → q < pairs → h < hiddens → q + h * pairs < hiddens * pairs
 letter-lt q pairs h hiddens l k = let m : suc h * pairs ≤ hiddens * pairs = mul-le-mul-right pairs k in omega (arith, m)
-
-module _ (successors : List ℕ) (n pairs hiddens q : ℕ) (b : Belief) (n-le : n ≤ stateLimit) (closes : Successors successors n pairs hiddens) (q-lt : q < pairs) where
-  leads-inside : (s k : ℕ) → s < n → k < hiddens → successorIn successors s (q + k * pairs) < n
-  leads-inside s k h l = closes .inside s (q + k * pairs) h (letter-lt q pairs k hiddens q-lt l)
-
-  -- the bits that the first m states give
-  after-bits : (m : ℕ) → m ≤ n → Bits (afterBytes successors (spread (packBelief b)) q pairs hiddens m) (reaches successors pairs hiddens q b m)
-  unfolding afterBytes
-  after-bits zero h = bits-same _ bits-none (λ p l. sym (reaches-none successors pairs hiddens q b p))
-  after-bits (suc m) h =
-      let before = after-bits m (omega arith) in
-      bits-same _
-      (choose-bits (eqb (getD (spread (packBelief b)) m 0) 1) (reaches successors pairs hiddens q b m) (leadsTo successors q pairs hiddens m)
-      (bits-hidden before successors m q pairs hiddens (λ k l. omega (arith, leads-inside m k (omega arith) l))) before)
-      (λ p l. ap (λ c. c && leadsTo successors q pairs hiddens m p || reaches successors pairs hiddens q b m p) (present-belief b m (omega arith))
-      ∙ sym (reaches-more successors pairs hiddens q b m p))
-
-  -- nothing leads out of the n states
-  reaches-inside : (p : ℕ) → n ≤ p → reaches successors pairs hiddens q b n p ≡ false
-  unfolding reaches leadsTo
-  reaches-inside p h = elim (test (reaches successors pairs hiddens q b n p)) [
-    | inr e ↦ e
-    | inl t ↦
-        let (s, sb, y) = any-at n (λ s. has b s && leadsTo successors q pairs hiddens s p) t in
-        let (k, kb, e) = any-at hiddens (λ k. eqb (successorIn successors s (q + k * pairs)) p) (and-right (has b s) (leadsTo successors q pairs hiddens s p) y) in
-        absurd (omega (arith, leads-inside s k sb kb, eqb-true (successorIn successors s (q + k * pairs)) p e))
-  ]
-
-  -- what the states of a belief lead to is the belief after the pair
-  pub after-belief : afterBytes successors (spread (packBelief b)) q pairs hiddens n ≡ packBelief (beliefAfter successors n pairs hiddens b q)
-  after-belief =
-      bits-unique (after-bits n (omega arith)) (belief-bits (tabulate n (reaches successors pairs hiddens q b n)))
-      (λ p l. sym (has-table n (reaches successors pairs hiddens q b n) p (reaches-inside p)))
-      ∙ ap packBelief (sym (after-is successors n pairs hiddens q b))
 
 -- beliefs over n states fill their places, and are read back from them
 pub belief-packing : (n : ℕ) → n ≤ stateLimit → Packing n packBelief

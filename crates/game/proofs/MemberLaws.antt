@@ -1,21 +1,26 @@
 -- The members of a belief in memory: the states that are present, one after another.
 -- Assumes nothing.
-use Prim.Native.Nat.{ℕ, zero, suc, _+_, _≤_, _<_}
+use Prim.Native.Nat.{ℕ, zero, suc, _+_, _*_, _≤_, _<_}
 use native.Mathlib.Numerals.{add-one}
 use native.Mathlib.Decide.{decLt}
 use native.Mathlib.Omega.{arith}
 use mathlib.Core.Path.{_≡_, refl, sym, ap, ap₂, _∙_, subst}
 use mathlib.Core.Logic.{inl, inr}
-use mathlib.Core.Bool.{true, false}
+use mathlib.Core.Bool.{Bool, true, false, _&&_, _||_, or-comm}
 use mathlib.Core.List.{List, [], _∷_, _++_}
 use lib.Dec.{eqb}
 use lib.ListN.{length, getD, set, drop, replicate, length-append}
 use lib.Seq.{append-snoc, getD-append-seam}
-use borrow.Author.Tests.{eq-eqb, ne-eqb}
+use borrow.Author.Tests.{eqb-true, eq-eqb, ne-eqb}
+use Rattle.rules.specs.Lists.{tabulate}
 use Rattle.states.specs.Limits.{stateLimit, setSize}
+use Rattle.states.specs.Memory.{spread}
 use Rattle.states.proofs.FillLaws.{put-next, front-length}
-use Rattle.game.specs.Held.{withHidden, afterBytes, membersOf, afterMembers, Members}
-use Rattle.game.proofs.Bounded.{test}
+use Rattle.game.specs.Bounded.{any}
+use Rattle.game.specs.Belief.{Belief, has}
+use Rattle.game.specs.Held.{packBelief, successorIn, beliefAfter, withHidden, membersOf, afterMembers, Members, Successors}
+use Rattle.game.proofs.Bounded.{test, and-right, any-suc, any-at}
+use Rattle.game.proofs.HeldLaws.{Bits, bits-same, bits-unique, bits-none, bits-hidden, belief-bits, present-belief, has-table, leadsTo, letter-lt}
 
 -- ---- one state more
 
@@ -82,37 +87,90 @@ after-next : (successors members : List ℕ) (q pairs hiddens c : ℕ)
 unfolding afterMembers
 after-next successors members q pairs hiddens c = refl
 
-bytes-start : (successors present : List ℕ) (q pairs hiddens : ℕ) → afterBytes successors present q pairs hiddens 0 ≡ replicate setSize 0
-unfolding afterBytes
-bytes-start successors present q pairs hiddens = refl
-
-bytes-with : (successors present : List ℕ) (q pairs hiddens s : ℕ) → eqb (getD present s 0) 1 ≡ true
-    → afterBytes successors present q pairs hiddens (suc s) ≡ withHidden successors s q pairs hiddens (afterBytes successors present q pairs hiddens s)
-unfolding afterBytes
-bytes-with successors present q pairs hiddens s t = rw t refl
-
-bytes-without : (successors present : List ℕ) (q pairs hiddens s : ℕ) → eqb (getD present s 0) 1 ≡ false
-    → afterBytes successors present q pairs hiddens (suc s) ≡ afterBytes successors present q pairs hiddens s
-unfolding afterBytes
-bytes-without successors present q pairs hiddens s f = rw f refl
-
--- the members give what the states that are present give
-pub after-members : (successors present : List ℕ) (q pairs hiddens n : ℕ) (rest : List ℕ)
-    → afterMembers successors (membersOf present n ++ rest) q pairs hiddens (length (membersOf present n)) ≡ afterBytes successors present q pairs hiddens n
-after-members successors present q pairs hiddens zero rest =
+after-no-member : (successors present : List ℕ) (q pairs hiddens : ℕ) (rest : List ℕ)
+    → afterMembers successors (membersOf present 0 ++ rest) q pairs hiddens (length (membersOf present 0)) ≡ replicate setSize 0
+after-no-member successors present q pairs hiddens rest =
     ap (λ c. afterMembers successors (membersOf present 0 ++ rest) q pairs hiddens c) (ap length (members-none present))
-    ∙ after-start successors (membersOf present 0 ++ rest) q pairs hiddens ∙ sym (bytes-start successors present q pairs hiddens)
-after-members successors present q pairs hiddens (suc s) rest = elim (test (eqb (getD present s 0) 1)) [
-  | inl t ↦
-      ap₂ (λ l c. afterMembers successors l q pairs hiddens c) (list-with present s rest t) (count-with present s t)
-      ∙ after-next successors (membersOf present s ++ s ∷ rest) q pairs hiddens (length (membersOf present s))
-      ∙ ap₂ (λ k bytes. withHidden successors k q pairs hiddens bytes) (getD-append-seam (membersOf present s) s rest 0)
-      (after-members successors present q pairs hiddens s (s ∷ rest))
-      ∙ sym (bytes-with successors present q pairs hiddens s t)
-  | inr f ↦
-      ap (λ l. afterMembers successors (l ++ rest) q pairs hiddens (length l)) (members-without present s f)
-      ∙ after-members successors present q pairs hiddens s rest ∙ sym (bytes-without successors present q pairs hiddens s f)
-]
+    ∙ after-start successors (membersOf present 0 ++ rest) q pairs hiddens
+
+after-member : (successors present : List ℕ) (q pairs hiddens s : ℕ) (rest : List ℕ) → eqb (getD present s 0) 1 ≡ true
+    → afterMembers successors (membersOf present (suc s) ++ rest) q pairs hiddens (length (membersOf present (suc s)))
+    ≡ withHidden successors s q pairs hiddens (afterMembers successors (membersOf present s ++ s ∷ rest) q pairs hiddens (length (membersOf present s)))
+after-member successors present q pairs hiddens s rest t =
+    ap₂ (λ l c. afterMembers successors l q pairs hiddens c) (list-with present s rest t) (count-with present s t)
+    ∙ after-next successors (membersOf present s ++ s ∷ rest) q pairs hiddens (length (membersOf present s))
+    ∙ ap (λ k. withHidden successors k q pairs hiddens (afterMembers successors (membersOf present s ++ s ∷ rest) q pairs hiddens (length (membersOf present s))))
+    (getD-append-seam (membersOf present s) s rest 0)
+
+-- some of the first m states of the belief leads to p
+unfoldable reaches : List ℕ → ℕ → ℕ → ℕ → Belief → ℕ → ℕ → Bool
+reaches successors pairs hiddens q b m p = any m (λ s. has b s && leadsTo successors q pairs hiddens s p)
+
+reaches-none : (successors : List ℕ) (pairs hiddens q : ℕ) (b : Belief) (p : ℕ) → reaches successors pairs hiddens q b 0 p ≡ false
+unfolding reaches
+reaches-none successors pairs hiddens q b p = refl
+
+reaches-more : (successors : List ℕ) (pairs hiddens q : ℕ) (b : Belief) (m p : ℕ)
+    → reaches successors pairs hiddens q b (suc m) p ≡ (has b m && leadsTo successors q pairs hiddens m p || reaches successors pairs hiddens q b m p)
+unfolding reaches
+reaches-more successors pairs hiddens q b m p = any-suc m (λ s. has b s && leadsTo successors q pairs hiddens s p)
+
+after-is : (successors : List ℕ) (n pairs hiddens q : ℕ) (b : Belief)
+    → beliefAfter successors n pairs hiddens b q ≡ tabulate n (reaches successors pairs hiddens q b n)
+unfolding beliefAfter reaches leadsTo
+after-is successors n pairs hiddens q b = refl
+
+module _ (successors : List ℕ) (n pairs hiddens q : ℕ) (b : Belief) (n-le : n ≤ stateLimit) (closes : Successors successors n pairs hiddens) (q-lt : q < pairs) where
+  leads-inside : (s k : ℕ) → s < n → k < hiddens → successorIn successors s (q + k * pairs) < n
+  leads-inside s k h l = closes .inside s (q + k * pairs) h (letter-lt q pairs k hiddens q-lt l)
+
+  -- what the members among the first m states lead to
+  after : ℕ → List ℕ → List ℕ
+  after m rest = afterMembers successors (membersOf (spread (packBelief b)) m ++ rest) q pairs hiddens (length (membersOf (spread (packBelief b)) m))
+
+  -- its bits
+  after-bits : (m : ℕ) → m ≤ n → (rest : List ℕ) → Bits (after m rest) (reaches successors pairs hiddens q b m)
+  unfolding after
+  after-bits zero h rest =
+      subst (λ l. Bits l (reaches successors pairs hiddens q b 0)) (sym (after-no-member successors (spread (packBelief b)) q pairs hiddens rest))
+      (bits-same _ bits-none (λ p l. sym (reaches-none successors pairs hiddens q b p)))
+  after-bits (suc m) h rest = elim (test (eqb (getD (spread (packBelief b)) m 0) 1)) [
+    | inl t ↦
+        subst (λ l. Bits l (reaches successors pairs hiddens q b (suc m))) (sym (after-member successors (spread (packBelief b)) q pairs hiddens m rest t))
+        (bits-same _ (bits-hidden (after-bits m (omega arith) (m ∷ rest)) successors m q pairs hiddens (λ k l. omega (arith, leads-inside m k (omega arith) l)))
+        (λ p l. or-comm (reaches successors pairs hiddens q b m p) (leadsTo successors q pairs hiddens m p) ∙ more m h p t))
+    | inr f ↦
+        subst (λ l. Bits l (reaches successors pairs hiddens q b (suc m)))
+        (sym (ap (λ v. afterMembers successors (v ++ rest) q pairs hiddens (length v)) (members-without (spread (packBelief b)) m f)))
+        (bits-same _ (after-bits m (omega arith) rest) (λ p l. more m h p f))
+  ]
+    where
+      more : (m : ℕ) → suc m ≤ n → (p : ℕ) {c : Bool} → eqb (getD (spread (packBelief b)) m 0) 1 ≡ c
+          → (c && leadsTo successors q pairs hiddens m p || reaches successors pairs hiddens q b m p) ≡ reaches successors pairs hiddens q b (suc m) p
+      more m h p e =
+          ap (λ c. c && leadsTo successors q pairs hiddens m p || reaches successors pairs hiddens q b m p) (sym e ∙ present-belief b m (omega arith))
+          ∙ sym (reaches-more successors pairs hiddens q b m p)
+
+  -- nothing leads out of the n states
+  reaches-inside : (p : ℕ) → n ≤ p → reaches successors pairs hiddens q b n p ≡ false
+  unfolding reaches leadsTo
+  reaches-inside p h = elim (test (reaches successors pairs hiddens q b n p)) [
+    | inr e ↦ e
+    | inl t ↦
+        let (s, sb, y) = any-at n (λ s. has b s && leadsTo successors q pairs hiddens s p) t in
+        let (k, kb, e) = any-at hiddens (λ k. eqb (successorIn successors s (q + k * pairs)) p) (and-right (has b s) (leadsTo successors q pairs hiddens s p) y) in
+        absurd (omega (arith, leads-inside s k sb kb, eqb-true (successorIn successors s (q + k * pairs)) p e))
+  ]
+
+  -- what the members of a belief lead to is the belief after the pair
+  pub after-belief : (rest : List ℕ)
+      → afterMembers successors (membersOf (spread (packBelief b)) n ++ rest) q pairs hiddens (length (membersOf (spread (packBelief b)) n))
+      ≡ packBelief (beliefAfter successors n pairs hiddens b q)
+  unfolding after
+  after-belief rest =
+      bits-unique (after-bits n (omega arith) rest) (belief-bits (tabulate n (reaches successors pairs hiddens q b n)))
+      (λ p l. sym (has-table n (reaches successors pairs hiddens q b n) p (reaches-inside p)))
+      ∙ ap packBelief (sym (after-is successors n pairs hiddens q b))
 
 -- ---- what the functions do
 

@@ -4,13 +4,12 @@ use Prim.Native.Nat.{ℕ, zero, suc, _≤_, _<_, zero-le}
 use native.Mathlib.Nat.{le-refl}
 use native.Mathlib.Omega.{arith}
 use mathlib.Core.Path.{_≡_, subst}
-use mathlib.Core.Logic.{_↔_}
-use mathlib.Core.List.{List, [], _∷_, _++_}
+use mathlib.Core.List.{List}
 use Rattle.game.specs.Game.{Game, Play}
 use Rattle.game.specs.Rank.{Arena}
 use Rattle.game.proofs.Order.{Order}
 use Rattle.game.proofs.Ranks.{HasRank}
-use Rattle.game.proofs.Plans.{_∷ˢ_, rest, Plan, PlanSteps, planRun, WinsFor, History, letters, Hidden, Possible, afterStep, know, Tracks, tracks-step, Legal, idle, steps-unique}
+use Rattle.game.proofs.Plans.{Plan, PlanSteps, planRun, WinsFor, Tracks, Legal, idle, steps-unique}
 use Rattle.game.proofs.Lower.{lower}
 use Rattle.game.proofs.Upper.{follow, Descends, follow-legal, upper}
 
@@ -43,18 +42,3 @@ module _ (G : Game) (O : Order (G .choices) (G .observations)) (A : Arena) (some
           let e = steps-unique G (follow A answer k) p m j st st′ in
           let e′ : m ≡ r = omega arith in
           (p, subst (PlanSteps G (follow A answer k) p) e′ st)
-
--- a goal after a history: it is met whatever was hidden on the way
-abbrev pub afterHistory : (G : Game) → (List ℕ → Type 0) → History → List ℕ → Type 0
-afterHistory G Φ h w = (x : ℕ → ℕ) → Hidden G x → Φ (letters G h x ++ w)
-
-module _ (G : Game) (A : Arena) where
-  tracks-iff : (k : A .K) (Φ Ψ : List ℕ → Type 0) → ((w : List ℕ) → Φ w ↔ Ψ w) → Tracks G A k Φ → Tracks G A k Ψ
-  tracks-iff k Φ Ψ e T h v = (λ t x b. e (letters G h x) .0 (T h v .0 t x b), λ f. T h v .1 (λ x b. e (letters G h x) .1 (f x b)))
-
-  pub tracks-history : 0 < G .hiddens → (h : History) → Possible G h → (k : A .K) (Φ : List ℕ → Type 0) → Tracks G A k Φ → Tracks G A (know G A k h) (afterHistory G Φ h)
-  tracks-history some-hidden [] v k Φ T = tracks-iff k Φ (afterHistory G Φ []) (λ w. (λ φ x b. φ, λ f. f (λ i. 0) (λ i. some-hidden))) T
-  tracks-history some-hidden (m ∷ h) v k Φ T =
-      tracks-iff (know G A (A .move k (m .0) (m .1)) h) (afterHistory G (afterStep G Φ (m .0) (m .1)) h) (afterHistory G Φ (m ∷ h))
-      (λ w. (λ f x b. f (rest x) (λ i. b (suc i)) (x 0) (b 0), λ f x b x₀ b₀. f (x₀ ∷ˢ x) (elim [ zero ↦ b₀ | suc i ↦ b i ])))
-      (tracks-history some-hidden h (v .2) (A .move k (m .0) (m .1)) (afterStep G Φ (m .0) (m .1)) (tracks-step G A k Φ (m .0) (m .1) (v .0) (v .1) T))

@@ -68,21 +68,14 @@ unfoldable pub withHidden : List ℕ → ℕ → ℕ → ℕ → ℕ → List �
 withHidden successors s q pairs zero bytes = bytes
 withHidden successors s q pairs (suc h) bytes = withState (withHidden successors s q pairs h bytes) (successorIn successors s (q + h * pairs))
 
--- from the first s states, where `present` has 1 for those that are believed
-unfoldable pub afterBytes : List ℕ → List ℕ → ℕ → ℕ → ℕ → ℕ → List ℕ
-afterBytes successors present q pairs hiddens zero = replicate setSize 0
-afterBytes successors present q pairs hiddens (suc s) =
-    let bytes = afterBytes successors present q pairs hiddens s in
-    cond (eqb (getD present s 0) 1) (withHidden successors s q pairs hiddens bytes) bytes
-
--- the states that are present, of the first n, upward
+-- the states that are present (their entry is 1), of the first n, upward
 unfoldable pub membersOf : List ℕ → ℕ → List ℕ
 membersOf present zero = []
 membersOf present (suc s) =
     let members = membersOf present s in
     cond (eqb (getD present s 0) 1) (members ++ (s ∷ [])) members
 
--- from the first c members
+-- the bytes of the belief after pair q, from the first c members
 unfoldable pub afterMembers : List ℕ → List ℕ → ℕ → ℕ → ℕ → ℕ → List ℕ
 afterMembers successors members q pairs hiddens zero = replicate setSize 0
 afterMembers successors members q pairs hiddens (suc c) =

@@ -129,6 +129,7 @@ fn expand_belief(
 }
 
 // All beliefs over n states, and for each the row of the beliefs that pairs lead to, into memory that is all zero for the rows.
+// After too many beliefs both memories may hold anything.
 pub fn count_beliefs(
     successors: &[u8],
     n: usize,

@@ -30,7 +30,7 @@ fn hint_at(mem: &[u8], m: usize) -> usize
 }
 
 // The first of the places before m that holds the same bytes; m if there is none. A hint, the place found last for bytes like
-// these, is tried first.
+// these, is tried first. What the hints are afterwards is open: no answer depends on them.
 pub fn find_hinted(mem: &[u8], m: usize, hints: &mut [u8]) -> usize
     requires { ⌜ m ≤ beliefLimit ⌝ }
     requires { ⌜ length (now mem) ≡ (beliefLimit + 1) * setSize ⌝ }

@@ -50,7 +50,7 @@ sameSlot mem n i = agree (λ y. getD mem (i * setSize + y) 0) (λ y. getD mem (n
 abbrev pub countUpTo : {K : Type 0} → ℕ → List K → Explored
 countUpTo limit xs = cond (ltb limit (length xs)) TooMany (Found (length xs))
 
--- the memory holds the items xs, and the row is as given; after too many both are open, and the whole search clears them
+-- the memory holds the items xs, and the row is as given; after too many both are open, and a caller clears or drops them
 pub record ExpandedItems (len : ℕ) (pack : List Bool → List ℕ) (limit : ℕ) (xs : List (List Bool)) (row mem row′ : List ℕ) : Type 0 where
   pub items-in : length xs ≤ limit → itemsIn len mem (length xs) ≡ xs
   pub holds : length xs ≤ limit → HoldsItems len pack mem (length xs)
@@ -67,7 +67,7 @@ abbrev pub itemsOf : {K : Type 0} → (K → List ℕ) → Listing K → List �
 itemsOf pack (closed xs) = flatMap pack xs
 itemsOf pack over = []
 
--- the memory begins with the items, and the rows are as they should be; after too many both are open, and the whole search clears them
+-- the memory begins with the items, and the rows are as they should be; after too many both are open, and a caller clears or drops them
 abbrev pub RanItems : (List Bool → List ℕ) → (List Bool → ℕ → List Bool) → List ℕ → ℕ → Listing (List Bool) → List ℕ → List ℕ → Type 0
 RanItems pack f steps width (closed xs) mem rows =
     (take (length xs * setSize) mem ≡ flatMap pack xs) × (rows ≡ padded (length rows) (rowsOver sameSet f steps width (closed xs)))

@@ -1,7 +1,7 @@
 // The states of a problem's formula.
 ghost use mathlib.Core.Path.{_≡_};
 ghost use Prim.Native.Nat.{_+_, _*_, _≤_, _<_};
-ghost use lib.ListN.{length};
+ghost use lib.ListN.{length, replicate};
 ghost use Rattle.rules.specs.Parts.{temporals};
 ghost use Rattle.rules.specs.Row.{storedParts};
 ghost use Rattle.rules.specs.Trace.{countsOf};
@@ -71,7 +71,8 @@ fn prepare(
     n
 }
 
-// All states, and the number of the state that each letter leads to from each; nothing but the answer where they are too many.
+// All states, and the number of the state that each letter leads to from each, into memory that is all zero for the latter;
+// nothing but the answer where they are too many.
 pub fn explore(
     kinds: &[u8],
     lefts: &[u8],
@@ -83,7 +84,7 @@ pub fn explore(
     requires { ⌜ Stored (now kinds) (now lefts) (now rights) ⌝ }
     requires { ⌜ Sized (now kinds) sizes ⌝ }
     requires { ⌜ length (now mem) ≡ (stateLimit + 1) * setSize ⌝ }
-    requires { ⌜ length (now successors) ≡ stateLimit * letterLimit ⌝ }
+    requires { ⌜ now successors ≡ replicate (stateLimit * letterLimit) 0 ⌝ }
     ensures { λ r. ⌜ r ≡ exploredOf (statesOf (storedParts (now (kinds .entry)) (now (lefts .entry)) (now (rights .entry))) (lettersOf (countsOf sizes)) stateLimit) ⌝ }
     ensures { λ _. ⌜ now (mem .exit) ≡ padded (length (now (mem .entry)))
         (setsOf (statesOf (storedParts (now (kinds .entry)) (now (lefts .entry)) (now (rights .entry))) (lettersOf (countsOf sizes)) stateLimit)) ⌝ }

@@ -142,7 +142,8 @@ fn run(
     Explored::Found(n)
 }
 
-// All sets that the letters below `count` reach, and the number of the set that each leads to from each.
+// All sets that the letters below `count` reach, and the number of the set that each leads to from each, into memory that is all
+// zero for the latter.
 pub fn search(
     maps: &[u8],
     firsts: &[u16],
@@ -157,13 +158,12 @@ pub fn search(
     requires { ⌜ count ≤ letterLimit ⌝ }
     requires { ⌜ Maps d count (now maps) (now firsts) ⌝ }
     requires { ⌜ length (now mem) ≡ (stateLimit + 1) * setSize ⌝ }
-    requires { ⌜ length (now successors) ≡ stateLimit * letterLimit ⌝ }
+    requires { ⌜ now successors ≡ replicate (stateLimit * letterLimit) 0 ⌝ }
     ensures { λ r. ⌜ r ≡ exploredOf (reachableSets d (mapIn (now (maps .entry)) (now (firsts .entry)) d) (below count) stateLimit) ⌝ }
     ensures { λ _. ⌜ now (mem .exit) ≡ padded (length (now (mem .entry))) (setsOf (reachableSets d (mapIn (now (maps .entry)) (now (firsts .entry)) d) (below count) stateLimit)) ⌝ }
     ensures { λ _. ⌜ now (successors .exit) ≡ padded (length (now (successors .entry)))
         (successorsOf d (mapIn (now (maps .entry)) (now (firsts .entry)) d) (below count) (reachableSets d (mapIn (now (maps .entry)) (now (firsts .entry)) d) (below count) stateLimit)) ⌝ }
 {
-    clear(successors);
     match run(maps, firsts, d, count, mem, successors) {
         Explored::Found(n) => {
             let at = n * SET;

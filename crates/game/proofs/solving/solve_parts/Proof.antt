@@ -1,11 +1,9 @@
 -- `game::solving::solve_parts` meets its contract, by those of `explore` and `solve_states`.
 -- Assumes nothing.
 use Rattle.game.specs.Claim.{solvedOf, cellsOf, written}
-use mathlib.Core.Path.{_≡_, sym, ap, _∙_}
+use mathlib.Core.Path.{_≡_, refl, sym, ap, _∙_}
 use native.Mathlib.Omega.{arith}
 use Rattle.game.proofs.ProblemLaws.{solved-many, widths-right, states-successors, states-few, states-some, solved-some}
-use Prim.Native.Nat.{ℕ}
-use lib.ListN.{length-replicate}
 use borrow.Author.Needs.{needs}
 use Rattle.game.proofs.solving.solve_parts.Statement.{statement}
 use Rattle.game.proofs.solving.solve_parts.Tie as tie
@@ -16,7 +14,7 @@ slice-aggregate-explore c = search needs
 explore-requires : tie.Need-explore-requires
 explore-requires c κs =
     let p = c .before .before .before .before .before .before .before .pre in
-    (p .0, (p .1 .0, (p .1 .1 .0, length-replicate {A = ℕ} 65536 0)))
+    (p .0, (p .1 .0, (p .1 .1 .0, refl)))
 
 enum-known-n : tie.Need-enum-known-n
 enum-known-n c = search needs
