@@ -6,6 +6,7 @@ use crate::number;
 use crate::refused;
 use crate::say;
 use game::Solved;
+use game::TABLE_SIZE;
 
 // Whether every cell from a place on is c.
 fn cells_are(cells: &[u16], from: usize, c: u16) -> bool {
@@ -116,7 +117,7 @@ fn too_many(work: &mut [u8], table: &mut [u16]) {
 }
 
 pub fn answers(work: &mut [u8]) {
-    let mut table = [0u16; 4352];
+    let mut table = [0u16; TABLE_SIZE];
     winnable(work, &mut table);
     more_winnable(work, &mut table);
     unwinnable(work, &mut table);

@@ -1,12 +1,14 @@
-// The cases of document 01 that a program runs: each is judged through the public call of `rules`, or solved through that of
-// `game`, and what it answers is written on a line. The work memory is looked at after each call.
+// The cases of document 01 that a program runs: each is judged through the public call of `rules`, solved through that of `game`, or
+// printed and run through those of `cabinet`, and what it answers is written on a line. Lent memory is looked at after each call.
 ghost use Prim.Native.Nat.{_≤_};
 ghost use lib.ListN.{length};
 use libc::STDOUT_FILENO;
 use rules::Refusal;
 use rules::Verdict;
+use rules::WORK_SIZE;
 
 mod answers;
+mod tables;
 
 fn say(text: &[u8]) {
     io::write_all(STDOUT_FILENO, text);
@@ -283,10 +285,11 @@ fn limits(work: &mut [u8]) {
 }
 
 fn main() {
-    let mut work = [0u8; 65536];
+    let mut work = [0u8; WORK_SIZE];
     meanings(&mut work);
     refusals(&mut work);
     more_refusals(&mut work);
     limits(&mut work);
     answers::answers(&mut work);
+    tables::tables(&mut work);
 }

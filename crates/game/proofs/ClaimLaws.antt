@@ -10,7 +10,9 @@ use lib.Dec.{eqb, ltb}
 use lib.ListN.{length, drop}
 use lib.Seq.{take-at}
 use Rattle.rules.specs.Parts.{partsOf}
-use Rattle.rules.specs.Problem.{Problem, accepted, readProblem}
+use Rattle.rules.specs.declared.refusal.Refusal.{Refusal}
+use Rattle.rules.specs.declared.refusal.Refusal.the-variants as refusal
+use Rattle.rules.specs.Problem.{Problem, Outcome, accepted, refused, readProblem}
 use Rattle.rules.proofs.Denotation.{read-iff-denotes}
 use Rattle.rules.proofs.LimitLaws.{read-within}
 use Rattle.states.specs.Limits.{stateLimit}
@@ -20,14 +22,15 @@ use Rattle.states.specs.ReachableSets.{sameSet}
 use Rattle.states.proofs.ReachLaws.{over-iff}
 use Rattle.states.proofs.ReachableSetLaws.{sameSet-says}
 use Rattle.states.proofs.StateLaws.{states-over}
+use Rattle.game.specs.declared.solving.Solved.the-variants.{Table, Refused}
 use Rattle.game.specs.Limits.{beliefLimit, rowSize}
 use Rattle.game.specs.Game.{Game, Optimal}
 use Rattle.game.specs.Rank.{Arena}
 use Rattle.game.specs.Belief.{beliefs, firstBelief}
-use Rattle.game.specs.Table.{tableStrategy}
+use Rattle.game.specs.Table.{tableStrategy, Laid}
 use Rattle.game.specs.Answer.{moves, positions, Verdict, solved, unrealizable, tooMany, startRank, numbered, answerFrom, Right}
 use Rattle.game.specs.Solution.{gameOf, automatonOf, problemStates, beliefVerdict, verdict, solutionFrom, solution}
-use Rattle.game.specs.Claim.{solvedOf, cellsOf, written, ManyStates, ManyBeliefs, Claim}
+use Rattle.game.specs.Claim.{solvedOf, solvedFrom, cellsOf, cellsFrom, written, ManyStates, ManyBeliefs, Claim}
 use Rattle.game.proofs.Judging.{belief-right}
 
 -- positions that are counted give another verdict
@@ -41,6 +44,9 @@ not-many : (b : Bool) (n r : ℕ) (cells : List ℕ) → cond b (solved n r cell
 not-many true n r cells q = solved-not-many n r cells q
 not-many false n r cells q = unrealizable-not-many q
 
+refused-no-table : (x : Refusal) (n r : ℕ) → Refused x ≡ Table n r → ⊥
+refused-no-table x n r q = let z : _≡_ {A = ℕ} 0 1 = cc in absurd (omega arith)
+
 -- listed things are not given up
 closed-not-over : {B : Type 0} (xs : List B) → closed xs ≡ over → ⊥
 closed-not-over xs q = let z : _≡_ {A = ℕ} 0 1 = cc in absurd (omega arith)
@@ -50,14 +56,17 @@ same-list xs ys e = cc
 
 module _ (source : List ℕ) (p : Problem) (read : readProblem source ≡ accepted p) (table : List ℕ) where
   -- a verdict that is right makes the claim
-  claim-verdict : (v : Verdict) → Right (gameOf p) v → (¬ ManyStates p) → ((v ≡ tooMany) ↔ ManyBeliefs p) → Claim source (solvedOf (verdict v)) (written (cellsOf (verdict v)) table)
-  claim-verdict (solved n r cells) (o, b, l) few m = (
-    p,
-    read-iff-denotes source p .0 read,
-    (few, λ z. solved-not-many n r cells (m .1 z)),
-    subst (λ t. Optimal (gameOf p) (tableStrategy t) r) (sym (take-at cells (drop (length cells) table) (n * rowSize) l)) o,
-    b,
-  )
+  claim-verdict : (v : Verdict) → Right beliefLimit (gameOf p) v → (¬ ManyStates p) → ((v ≡ tooMany) ↔ ManyBeliefs p) → Claim source (solvedOf (verdict v)) (written (cellsOf (verdict v)) table)
+  claim-verdict (solved n r cells) (o, b, w, l) few m =
+      let front = sym (take-at cells (drop (length cells) table) (n * rowSize) (l .long)) in (
+        p,
+        read-iff-denotes source p .0 read,
+        (few, λ z. solved-not-many n r cells (m .1 z)),
+        subst (λ t. Optimal (gameOf p) (tableStrategy t) r) front o,
+        b,
+        w,
+        subst (Laid (gameOf p .choices) (gameOf p .observations) n) front l,
+      )
   claim-verdict unrealizable u few m = (p, read-iff-denotes source p .0 read, (few, λ z. unrealizable-not-many (m .1 z)), u)
   claim-verdict tooMany u few m = (p, read-iff-denotes source p .0 read, m .0 refl)
 
@@ -101,3 +110,21 @@ module _ (source : List ℕ) (p : Problem) (read : readProblem source ≡ accept
       at (closed xs) e =
           claim-verdict (beliefVerdict (gameOf p) (automatonOf (partsOf (p .formula)) xs)) (belief-right p (read-within source p read .few) xs e) (few-states xs e) (many xs e, many-told xs e)
       at over e = (p, read-iff-denotes source p .0 read, states-over (partsOf (p .formula)) _ stateLimit .0 e)
+
+-- a table has as many cells as its row count says
+cells-of : (limit : ℕ) (G : Game) (v : Verdict) (n r : ℕ) → Right limit G v → solvedOf (verdict v) ≡ Table n r → length (cellsOf (verdict v)) ≡ n * rowSize
+cells-of limit G (solved m q cells) n r (o, b, w, l) e = let z : m ≡ n = cc in l .long ∙ ap (λ k. k * rowSize) z
+cells-of limit G unrealizable n r u e = absurd (refused-no-table refusal.Unrealizable n r e)
+cells-of limit G tooMany n r u e = absurd (refused-no-table refusal.TooManyBeliefs n r e)
+
+pub cells-count : (source : List ℕ) (n r : ℕ) → solvedFrom (readProblem source) ≡ Table n r → length (cellsFrom (readProblem source)) ≡ n * rowSize
+cells-count source n r = at (readProblem source) refl
+  where
+    from : (p : Problem) → readProblem source ≡ accepted p → (l : Listing PatternSet) → problemStates p ≡ l
+        → solvedOf (solutionFrom p l) ≡ Table n r → length (cellsOf (solutionFrom p l)) ≡ n * rowSize
+    from p read (closed xs) e = cells-of beliefLimit (gameOf p) (beliefVerdict (gameOf p) (automatonOf (partsOf (p .formula)) xs)) n r (belief-right p (read-within source p read .few) xs e)
+    from p read over e = λ q. absurd (refused-no-table refusal.TooManyStates n r q)
+
+    at : (o : Outcome) → readProblem source ≡ o → solvedFrom o ≡ Table n r → length (cellsFrom o) ≡ n * rowSize
+    at (accepted p) read = from p read (problemStates p) refl
+    at (refused x) read = λ q. absurd (refused-no-table x n r q)

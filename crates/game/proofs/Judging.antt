@@ -29,6 +29,7 @@ use Rattle.states.proofs.ReachableSetLaws.{sameSet-says}
 use Rattle.states.proofs.Acceptance.{accepts-iff-holds, start-state-rejects}
 use Rattle.states.proofs.SuccessorLaws.{successor-right}
 use Rattle.states.proofs.LetterLaws.{letters-exact}
+use Rattle.game.specs.Limits.{beliefLimit}
 use Rattle.game.specs.Game.{Game}
 use Rattle.game.specs.Belief.{Automaton, stateFrom, beliefs}
 use Rattle.game.specs.Answer.{Right}
@@ -123,7 +124,7 @@ module _ (p : Problem) (few : Few (p .signals)) where
     beliefs-know = belief-knows G M some-hidden states-judge
 
     -- the verdict from the beliefs is right
-    pub belief-right : Right G (beliefVerdict G M)
+    pub belief-right : Right beliefLimit G (beliefVerdict G M)
     belief-right =
         answer-right G (pow-pos (p .signals .observed)) some-hidden
         (lt-of-le-of-lt (pow-mono {i = p .signals .outputs} {j = 4} (few .outputs)) (omega arith)) (pow-mono {i = p .signals .observed} {j = 4} (few .observed))

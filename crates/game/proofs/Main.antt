@@ -35,7 +35,7 @@ demand-3 = CallLaws.meant
 -- worst case its own, or no strategy wins
 pub any-game : (G : Game) → 0 < G .observations → 0 < G .hiddens → G .choices < stopCell → G .observations ≤ sideLimit
     → (A : Arena) → Knows G A → (same : A .K → A .K → Bool) → ((a b : A .K) → Says (same a b) (a ≡ b)) → (limit : ℕ)
-    → Right G (answerFrom A same (G .choices) (G .observations) (positions A same (G .choices) (G .observations) limit))
+    → Right limit G (answerFrom A same (G .choices) (G .observations) (positions A same (G .choices) (G .observations) limit))
 any-game = Answer.answer-right
 
 -- a problem's beliefs know: one is final exactly where every hidden history makes the trace true

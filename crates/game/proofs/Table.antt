@@ -1,23 +1,25 @@
 -- A table read as a strategy is the strategy whose rows it holds.
 -- Assumes nothing.
-use Prim.Native.Nat.{ℕ, suc, _+_, _*_, _≤_, _<_}
+use Prim.Native.Nat.{ℕ, suc, _+_, _≤_, _<_}
 use native.Mathlib.Omega.{arith}
 use mathlib.Core.Path.{_≡_, sym, ap, _∙_, subst}
 use mathlib.Core.Logic.{inl, inr}
 use mathlib.Core.Bool.{Bool, true, false, cond}
 use mathlib.Core.List.{List, [], _∷_, flatMap}
 use lib.Dec.{eqb, ltb}
-use lib.ListN.{length, getD, replicate}
-use borrow.Author.Tests.{lt-ltb, eqb-true}
+use lib.ListN.{length, getD, replicate, getD-replicate}
+use borrow.Author.Tests.{lt-ltb, le-ltb, eqb-true}
 use Rattle.rules.specs.Lists.{tabulate}
 use Rattle.rules.proofs.ListLaws.{getD-tabulate}
 use Rattle.rules.proofs.Says.{Says}
+use Rattle.states.specs.Lists.{_∈_}
 use Rattle.states.specs.Reach.{closed, indexIn, reachable}
 use Rattle.states.proofs.FlatLaws.{length-rows, getD-rows}
+use Rattle.states.proofs.MemberLaws.{getD-in}
 use Rattle.game.specs.Limits.{sideLimit, rowSize, stopCell}
 use Rattle.game.specs.Game.{choose, AllBelow}
 use Rattle.game.specs.Rank.{Arena, bestChoice, best}
-use Rattle.game.specs.Table.{cell, isStop, readFrom, tableStrategy, listOf, followers, rows, rowOf, tableCells}
+use Rattle.game.specs.Table.{cell, isStop, readFrom, tableStrategy, Laid, listOf, followers, rowOf, tableCells}
 use Rattle.game.proofs.Bounded.{test, least-le}
 use Rattle.game.proofs.Rows.{some-row, first-row, next-place}
 
@@ -25,9 +27,6 @@ use Rattle.game.proofs.Rows.{some-row, first-row, next-place}
 module _ (A : Arena) (same : A .K → A .K → Bool) (choices observations n : ℕ) where
   pub row-width : (ks : List (A .K)) (k : A .K) → length (rowOf A same choices observations n ks k) ≡ rowSize
   row-width ks k = elim (test (A .final k)) [ inl t ↦ rw (t, rowOf) | inr f ↦ rw (f, rowOf) ]
-
-  pub cells-length : length (tableCells A same choices observations n) ≡ length (rows A same choices observations n) * rowSize
-  cells-length = let l = rows A same choices observations n in length-rows rowSize (rowOf A same choices observations n l) (row-width l) l
 
 module _ (A : Arena) (same : A .K → A .K → Bool) (says : (a b : A .K) → Says (same a b) (a ≡ b)) (choices observations n : ℕ)
     (few-choices : choices < stopCell) (few-observations : observations ≤ sideLimit)
@@ -71,16 +70,27 @@ module _ (A : Arena) (same : A .K → A .K → Bool) (says : (a b : A .K) → Sa
         | inr g ↦ g
       ]
 
-  next-cell : (i : ℕ) → i < length ks → A .final (at i) ≡ false → (s : ℕ) → s < observations
-      → cell table i (1 + s) ≡ indexIn same (A .move (at i) (choice (at i)) s) ks
-  next-cell i h f s b =
+  stop-cell : (i : ℕ) → i < length ks → A .final (at i) ≡ true → (s : ℕ) → s < sideLimit → cell table i (1 + s) ≡ 0
+  stop-cell i h t s b =
+      let z : 1 + s ≡ suc s = omega arith in
+      cell-is i (1 + s) h (omega arith) ∙ ap (λ (r : List ℕ). getD r (1 + s) 0) (row-stop (at i) t)
+      ∙ ap (λ (j : ℕ). getD (stopCell ∷ replicate sideLimit 0) j 0) z ∙ getD-replicate sideLimit s 0 0 b
+
+  -- the row of the next position for an observation, 0 for what is none
+  goes-cell : (i : ℕ) → i < length ks → A .final (at i) ≡ false → (s : ℕ) → s < sideLimit
+      → cell table i (1 + s) ≡ cond (ltb s observations) (indexIn same (A .move (at i) (choice (at i)) s) ks) 0
+  goes-cell i h f s b =
       let next : ℕ → ℕ = λ s. cond (ltb s observations) (indexIn same (A .move (at i) (choice (at i)) s) ks) 0 in
       let z : 1 + s ≡ suc s = omega arith in
-      let e : cell table i (1 + s) ≡ getD (choice (at i) ∷ tabulate sideLimit next) (suc s) 0 =
       cell-is i (1 + s) h (omega arith) ∙ ap (λ (r : List ℕ). getD r (1 + s) 0) (row-goes (at i) f)
-      ∙ ap (λ (j : ℕ). getD (choice (at i) ∷ tabulate sideLimit next) j 0) z in
-      let t = lt-ltb s observations b in
-      e ∙ getD-tabulate sideLimit next s 0 (omega arith) ∙ rw t
+      ∙ ap (λ (j : ℕ). getD (choice (at i) ∷ tabulate sideLimit next) j 0) z ∙ getD-tabulate sideLimit next s 0 b
+
+  next-cell : (i : ℕ) → i < length ks → A .final (at i) ≡ false → (s : ℕ) → s < observations
+      → cell table i (1 + s) ≡ indexIn same (A .move (at i) (choice (at i)) s) ks
+  next-cell i h f s b = let t = lt-ltb s observations b in goes-cell i h f s (omega arith) ∙ rw t
+
+  unused-cell : (i : ℕ) → i < length ks → A .final (at i) ≡ false → (s : ℕ) → observations ≤ s → s < sideLimit → cell table i (1 + s) ≡ 0
+  unused-cell i h f s o b = let t = le-ltb s observations o in goes-cell i h f s b ∙ rw t
 
   -- the row that an observation leads to is that of the next position
   next-row : (i : ℕ) → i < length ks → A .final (at i) ≡ false → (s : ℕ) → s < observations
@@ -88,6 +98,19 @@ module _ (A : Arena) (same : A .K → A .K → Bool) (says : (a b : A .K) → Sa
   next-row i h f s b =
       subst (λ (j : ℕ). (j < length ks) × (getD ks j (A .start) ≡ A .move (at i) (choice (at i)) s)) (sym (next-cell i h f s b))
       (next-place A same says (λ k s. choice k) observations n ks listed i h f s b)
+
+  -- the rows are laid out as they should, where they take choices
+  pub table-laid : ((k : A .K) → k ∈ ks → A .final k ≡ false → choice k < choices) → Laid choices observations (length ks) table
+  table-laid chosen =
+      record {
+        long = length-rows rowSize row (row-width A same choices observations n ks) ks;
+        row = λ i h.
+            elim (test (A .final (at i))) [
+              | inl t ↦ inl (stop-row i h t, stop-cell i h t)
+              | inr f ↦
+                  inr (subst (λ (c : ℕ). c < choices) (sym (choice-cell i h f)) (chosen (at i) (getD-in ks i (A .start) h) f), λ s b. next-row i h f s b .0, unused-cell i h f)
+            ];
+      }
 
   table-reads : (h : List ℕ) → AllBelow observations h → (i : ℕ) → i < length ks → readFrom table i h ≡ best A choices observations n (at i) h
   table-reads [] v i b =

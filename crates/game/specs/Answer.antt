@@ -1,17 +1,15 @@
 -- What is answered for a game, from the positions of an arena: the table and its worst case, or why there is none.
 -- Assumes nothing.
-use Prim.Native.Nat.{ℕ, _*_, _/_, _%_, _<_}
-use mathlib.Core.Path.{_≡_}
+use Prim.Native.Nat.{ℕ, _*_, _/_, _%_, _≤_, _<_}
 use mathlib.Core.Bool.{Bool, cond}
 use mathlib.Core.List.{List}
 use lib.Dec.{eqb, ltb}
 use lib.ListN.{length, getD}
 use Rattle.rules.specs.Lists.{tabulate}
 use Rattle.states.specs.Reach.{Listing, closed, over, indexIn, reachable}
-use Rattle.game.specs.Limits.{rowSize}
 use Rattle.game.specs.Game.{Game, Optimal, Unrealizable}
 use Rattle.game.specs.Rank.{Arena, setFirst, rankBelow}
-use Rattle.game.specs.Table.{rows, tableCells, tableStrategy}
+use Rattle.game.specs.Table.{tableStrategy, Laid, rows, tableCells}
 
 module _ (A : Arena) (same : A .K → A .K → Bool) (choices observations : ℕ) where
   -- the positions that all choices and observations lead to: pair q is choice q % choices and observation q / choices
@@ -53,9 +51,9 @@ abbrev pub answerFrom : (A : Arena) (same : A .K → A .K → Bool) (choices obs
 answerFrom A same choices observations (closed all) = verdictOf (numbered A same all) eqb choices observations (length all)
 answerFrom A same choices observations over = tooMany
 
--- what an answer promises: the table is an optimal strategy and the worst case its own, below the row count, and the table has as many
--- rows; or no strategy wins
-abbrev pub Right : Game → Verdict → Type 0
-Right G (solved n r t) = Optimal G (tableStrategy t) r × (r < n) × (length t ≡ n * rowSize)
-Right G unrealizable = Unrealizable G
-Right G tooMany = Unit {0}
+-- what an answer promises: the table is an optimal strategy and the worst case its own, below the row count, which is within the limit of
+-- positions, and the table's rows are laid out so; or no strategy wins
+abbrev pub Right : ℕ → Game → Verdict → Type 0
+Right limit G (solved n r t) = Optimal G (tableStrategy t) r × (r < n) × (n ≤ limit) × Laid (G .choices) (G .observations) n t
+Right limit G unrealizable = Unrealizable G
+Right limit G tooMany = Unit {0}

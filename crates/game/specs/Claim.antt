@@ -1,6 +1,6 @@
 -- What the whole call answers, what it leaves in lent memory, and what its answer means: demand 3, from a source's bytes to whole plays.
 -- Assumes nothing.
-use Prim.Native.Nat.{ℕ, suc, _*_, _<_}
+use Prim.Native.Nat.{ℕ, suc, _*_, _≤_, _<_}
 use mathlib.Core.Path.{_≡_}
 use mathlib.Core.Bool.{Bool, cond, _||_}
 use mathlib.Core.List.{List, _++_}
@@ -24,7 +24,7 @@ use Rattle.game.specs.declared.solving.Solved.the-variants.{Table, Refus
 use Rattle.game.specs.Limits.{beliefLimit, rowSize, tableSize}
 use Rattle.game.specs.Game.{Optimal, Unrealizable}
 use Rattle.game.specs.Belief.{beliefs, firstBelief}
-use Rattle.game.specs.Table.{tableStrategy}
+use Rattle.game.specs.Table.{tableStrategy, Laid}
 use Rattle.game.specs.Answer.{solved, unrealizable, tooMany, moves}
 use Rattle.game.specs.Solution.{gameOf, automatonOf, problemStates, Solution, tooManyStates, verdict, solution}
 
@@ -93,11 +93,14 @@ Small p = (¬ ManyStates p) × (¬ ManyBeliefs p)
 abbrev pub NoProblem : List ℕ → Type 0
 NoProblem source = (p : Problem) → ¬ Denotes source p
 
--- A table of n rows with worst case r: read as a strategy it wins, its worst case is r, and no winning strategy has a smaller one.
+-- A table of n rows with worst case r: read as a strategy it wins, its worst case is r, and no winning strategy has a smaller one; its
+-- rows are laid out as document 01 says.
 -- Unrealizable: no strategy wins. The formula is the one that the source denotes by the written grammar. Each refusal is given only
 -- where it is due, so each is given exactly there; the last four never are.
 abbrev pub Claim : List ℕ → Solved → List ℕ → Type 0
-Claim source (Table n r) table = (p : Problem) × Denotes source p × Small p × Optimal (gameOf p) (tableStrategy (take (n * rowSize) table)) r × (r < n)
+Claim source (Table n r) table =
+    (p : Problem) × Denotes source p × Small p × Optimal (gameOf p) (tableStrategy (take (n * rowSize) table)) r × (r < n) × (n ≤ beliefLimit)
+    × Laid (gameOf p .choices) (gameOf p .observations) n (take (n * rowSize) table)
 Claim source (Refused refusal.Unrealizable) table = (p : Problem) × Denotes source p × Small p × Unrealizable (gameOf p)
 Claim source (Refused refusal.TooManyStates) table = (p : Problem) × Denotes source p × ManyStates p
 Claim source (Refused refusal.TooManyBeliefs) table = (p : Problem) × Denotes source p × ManyBeliefs p

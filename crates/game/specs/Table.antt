@@ -1,10 +1,12 @@
 -- Tables: the cells of a solved game, and a table read as a strategy, as "The game" of document 01 has them.
 -- Assumes nothing.
-use Prim.Native.Nat.{ℕ, _+_, _*_}
+use Prim.Native.Nat.{ℕ, _+_, _*_, _≤_, _<_}
+use mathlib.Core.Path.{_≡_}
+use mathlib.Core.Logic.{_⊎_}
 use mathlib.Core.Bool.{Bool, true, false, cond}
 use mathlib.Core.List.{List, [], _∷_, flatMap}
 use lib.Dec.{eqb, ltb}
-use lib.ListN.{getD, replicate}
+use lib.ListN.{length, getD, replicate}
 use Rattle.rules.specs.Lists.{tabulate}
 use Rattle.states.specs.Reach.{Listing, closed, over, indexIn, reachable}
 use Rattle.game.specs.Limits.{sideLimit, rowSize, stopCell}
@@ -26,6 +28,16 @@ readFrom t row (s ∷ h) = elim (isStop t row) [ true ↦ stop | false ↦ readF
 -- row 0 is the start
 abbrev pub tableStrategy : List ℕ → Strategy
 tableStrategy t = readFrom t 0
+
+-- how row i of n is laid out: a stop row has no next rows; another has a choice, and a next row for each observation. Unused cells are 0
+abbrev pub LaidRow : (choices observations n : ℕ) → List ℕ → ℕ → Type 0
+LaidRow choices observations n t i =
+    ((isStop t i ≡ true) × ((s : ℕ) → s < sideLimit → cell t i (1 + s) ≡ 0))
+    ⊎ ((cell t i 0 < choices) × ((s : ℕ) → s < observations → cell t i (1 + s) < n) × ((s : ℕ) → observations ≤ s → s < sideLimit → cell t i (1 + s) ≡ 0))
+
+pub record Laid (choices observations n : ℕ) (t : List ℕ) : Type 0 where
+  pub long : length t ≡ n * rowSize
+  pub row : (i : ℕ) → i < n → LaidRow choices observations n t i
 
 -- what is listed; nothing if it is too much
 abbrev pub listOf : {K : Type 0} → Listing K → List K

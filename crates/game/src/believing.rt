@@ -5,9 +5,9 @@ ghost use Prim.Native.Nat.{_*_, _≤_, _<_};
 ghost use lib.ListN.{length, drop};
 ghost use Rattle.states.specs.Limits.{stateLimit, letterLimit, setSize};
 ghost use Rattle.game.specs.Held.{packBelief, firstOf, withState, withHidden, membersOf, afterMembers, Members, finalFrom};
-use crate::sizes::LETTER_LIMIT;
-use crate::sizes::SET;
 use rules::clear;
+use states::LETTER_LIMIT;
+use states::SET;
 
 // Writes the belief that has state 0 alone.
 pub fn put_first(place: &mut [u8], n: usize)

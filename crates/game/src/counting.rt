@@ -18,10 +18,10 @@ use crate::finding::find_hinted;
 use crate::sizes::BELIEF_LIMIT;
 use crate::sizes::HINTS;
 use crate::sizes::PAIR_LIMIT;
-use crate::sizes::SET;
-use crate::sizes::STATE_LIMIT;
 use crate::twins::put_twins;
 use states::Explored;
+use states::SET;
+use states::STATE_LIMIT;
 use states::put_spread;
 
 // Writes the belief after pair q, from its first `count` members, into place m, and answers the first place with the same bytes.

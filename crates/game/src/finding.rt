@@ -9,7 +9,7 @@ ghost use Rattle.game.specs.Limits.{beliefLimit, hintSize};
 ghost use Rattle.game.specs.Held.{Apart};
 use crate::sizes::BELIEF_LIMIT;
 use crate::sizes::HINTS;
-use crate::sizes::SET;
+use states::SET;
 use states::find;
 use states::same_slot;
 

@@ -10,5 +10,10 @@ mod solving;
 mod twins;
 mod writing;
 
+pub use sizes::BELIEF_LIMIT;
+pub use sizes::ROW;
+pub use sizes::SIDE_LIMIT;
+pub use sizes::STOP;
+pub use sizes::TABLE_SIZE;
 pub use solving::Solved;
 pub use solving::solve;

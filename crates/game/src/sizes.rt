@@ -1,4 +1,6 @@
-// The sizes of document 01 that concern the game, and those of the memory that it is kept in.
+// The sizes of document 01 that concern the game, and those of the memory that it is kept in. A belief is kept as a state's set is.
+use states::SET;
+use states::STATE_LIMIT;
 
 // The most beliefs.
 pub const BELIEF_LIMIT: usize = 256;
@@ -9,15 +11,6 @@ pub const SIDE_LIMIT: usize = 16;
 // The most pairs of a choice and an observation.
 pub const PAIR_LIMIT: usize = SIDE_LIMIT * SIDE_LIMIT;
 
-// The most states.
-pub const STATE_LIMIT: usize = 128;
-
-// Bytes of a belief, and of a state's set.
-pub const SET: usize = 32;
-
-// The most letters.
-pub const LETTER_LIMIT: usize = 512;
-
 // Cells of a row, and the first cell of one where the table stops.
 pub const ROW: usize = SIDE_LIMIT + 1;
 
@@ -26,9 +19,7 @@ pub const STOP: u16 = 65535;
 // A number that is no rank.
 pub const NO_RANK: u16 = 65535;
 
-// The least bytes of work memory, and the least cells of a table.
-pub const WORK_SIZE: usize = 65536;
-
+// The least cells of a table.
 pub const TABLE_SIZE: usize = BELIEF_LIMIT * ROW;
 
 // Bytes of work memory that hold the states' sets, with room for one more than the most.

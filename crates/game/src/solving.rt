@@ -23,20 +23,21 @@ use crate::counting::mark_finals;
 use crate::ranking::rank_all;
 use crate::sizes::BELIEF_LIMIT;
 use crate::sizes::BELIEFS_SIZE;
-use crate::sizes::LETTER_LIMIT;
 use crate::sizes::NO_RANK;
 use crate::sizes::PAIR_LIMIT;
 use crate::sizes::SETS_SIZE;
-use crate::sizes::STATE_LIMIT;
 use crate::sizes::TABLE_SIZE;
-use crate::sizes::WORK_SIZE;
 use crate::writing::put_table;
+use rules::PART_LIMIT;
 use rules::Reading;
 use rules::Refusal;
 use rules::Sizes;
+use rules::WORK_SIZE;
 use rules::clear;
 use rules::read;
 use states::Explored;
+use states::LETTER_LIMIT;
+use states::STATE_LIMIT;
 use states::explore;
 
 // A table with its row count and worst case, or one refusal.
@@ -165,9 +166,9 @@ fn solve_source(source: &[u8], sets: &mut [u8], table: &mut [u16]) -> Solved
     ensures { λ r. ⌜ r ≡ solvedFrom (readProblem (now (source .entry))) ⌝ }
     ensures { λ _. ⌜ now (table .exit) ≡ written (cellsFrom (readProblem (now (source .entry)))) (now (table .entry)) ⌝ }
 {
-    let mut kinds = [0u8; 96];
-    let mut lefts = [0u8; 96];
-    let mut rights = [0u8; 96];
+    let mut kinds = [0u8; PART_LIMIT];
+    let mut lefts = [0u8; PART_LIMIT];
+    let mut rights = [0u8; PART_LIMIT];
     match read(source, &mut kinds, &mut lefts, &mut rights) {
         Reading::Refused(r) => Solved::Refused(r),
         Reading::Accepted(s) => {

@@ -7,7 +7,7 @@ ghost use Rattle.rules.specs.Lists.{tabulate};
 ghost use Rattle.states.specs.Limits.{stateLimit, letterLimit};
 ghost use Rattle.game.specs.Limits.{pairLimit};
 ghost use Rattle.game.specs.Twins.{sameFrom, samePairs, firstTwin};
-use crate::sizes::LETTER_LIMIT;
+use states::LETTER_LIMIT;
 
 // Whether pairs a and b lead to the same states from state s.
 fn same_from(successors: &[u8], s: usize, a: usize, b: usize, pairs: usize, hiddens: usize) -> bool

@@ -16,6 +16,7 @@ use crate::memory::clear;
 use crate::problem::Reading;
 use crate::problem::Sizes;
 use crate::refusal::Refusal;
+use crate::state::PART_LIMIT;
 
 // The verdict on a trace, or a refusal.
 pub enum Verdict {
@@ -54,7 +55,7 @@ fn bad_step(s: Sizes, trace: &[u16]) -> usize
 // The most steps of a trace, and the least bytes of work memory.
 const TRACE_LIMIT: usize = 1000;
 
-const WORK_SIZE: usize = 65536;
+pub const WORK_SIZE: usize = 65536;
 
 // The verdict on a trace by a formula's parts.
 pub fn judge_trace(
@@ -90,9 +91,9 @@ fn judge_source(source: &[u8], trace: &[u16], row: &mut [u8]) -> Verdict
     requires { ⌜ 256 ≤ length (now row) ⌝ }
     ensures { λ r. ⌜ r ≡ judgedBy (readProblem (now (source .entry))) (now (trace .entry)) ⌝ }
 {
-    let mut kinds = [0u8; 96];
-    let mut lefts = [0u8; 96];
-    let mut rights = [0u8; 96];
+    let mut kinds = [0u8; PART_LIMIT];
+    let mut lefts = [0u8; PART_LIMIT];
+    let mut rights = [0u8; PART_LIMIT];
     match read(source, &mut kinds, &mut lefts, &mut rights) {
         Reading::Refused(r) => Verdict::Refused(r),
         Reading::Accepted(s) => {

@@ -89,7 +89,7 @@ fn read_lines(source: &[u8], ks: &mut [u8], ls: &mut [u8], rs: &mut [u8]) -> Rea
 }
 
 // The most bytes of a problem's text.
-const SOURCE_LIMIT: usize = 4096;
+pub const SOURCE_LIMIT: usize = 4096;
 
 // Reads a problem. After a refusal the lists may hold anything.
 fn read_source(source: &[u8], ks: &mut [u8], ls: &mut [u8], rs: &mut [u8]) -> Reading

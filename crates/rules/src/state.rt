@@ -22,7 +22,7 @@ use grammar::token_at;
 // The most bytes of a formula's text, and the most parts and temporal operators of a problem.
 const TEXT_LIMIT: usize = 240;
 
-const PART_LIMIT: usize = 96;
+pub const PART_LIMIT: usize = 96;
 
 const OPERATOR_LIMIT: usize = 7;
 

@@ -17,3 +17,6 @@ pub use search::Explored;
 pub use sets::find;
 pub use sets::put_spread;
 pub use sets::same_slot;
+pub use sizes::LETTER_LIMIT;
+pub use sizes::SET;
+pub use sizes::STATE_LIMIT;

@@ -1,0 +1,185 @@
+-- What is written for a problem's text, from what the calls below answer.
+-- Assumes nothing.
+use Prim.Native.Nat.{ℕ, _+_, _*_, _≤_}
+use native.Mathlib.Omega.{arith}
+use mathlib.Core.Path.{_≡_, refl, sym, ap, ap₂, _∙_, subst}
+use mathlib.Core.Logic.{inl, inr}
+use mathlib.Core.Bool.{true, false}
+use mathlib.Core.List.{List}
+use lib.Dec.{ltb}
+use lib.ListN.{length, take, drop, length-take, length-append}
+use lib.Seq.{take-take, take-at}
+use borrow.Author.Tests.{ltb-false}
+use Rattle.rules.specs.declared.problem.Sizes.{Sizes}
+use Rattle.rules.specs.declared.problem.Reading.{Reading}
+use Rattle.rules.specs.declared.problem.Reading.the-variants as reading
+use Rattle.rules.specs.declared.refusal.Refusal.{Refusal}
+use Rattle.rules.specs.declared.refusal.Refusal.the-variants.{ShortMemory}
+use Rattle.rules.specs.Memory.{readingOf}
+use Rattle.rules.specs.Problem.{Problem, Outcome, accepted, refused, readProblem}
+use Rattle.rules.proofs.Denotation.{read-iff-denotes}
+use Rattle.rules.proofs.LimitLaws.{or-left, or-right}
+use Rattle.game.specs.declared.solving.Solved.{Solved}
+use Rattle.game.specs.declared.solving.Solved.the-variants as solved
+use Rattle.game.specs.Limits.{beliefLimit, rowSize}
+use Rattle.game.specs.Claim.{isShort, solvedFrom, solvedBy, cellsFrom, written, tableAfter, workAfter, Claim}
+use Rattle.game.specs.Game.{Optimal}
+use Rattle.game.specs.Table.{tableStrategy, Laid}
+use Rattle.game.specs.Solution.{gameOf}
+use Rattle.game.proofs.Bounded.{test, clash, or-cases}
+use Rattle.game.proofs.ClaimLaws.{cells-count}
+use Rattle.cabinet.specs.declared.printing.Printed.{Printed}
+use Rattle.cabinet.specs.declared.printing.Printed.the-variants.{Text, Refused}
+use Rattle.cabinet.specs.Limits.{textSize}
+use Rattle.cabinet.specs.WellFormed.{isPrintable}
+use Rattle.cabinet.specs.Text.{tableText}
+use Rattle.cabinet.specs.Print.{putAt, printedBy, textAfter}
+use Rattle.cabinet.specs.Response.{refusalText, observedIn, response, isTight, respondedBy, responseAfter, respondedTable, respondedWork}
+use Rattle.cabinet.proofs.PrintLaws.{put-front}
+use Rattle.cabinet.proofs.ClaimedLaws.{printing}
+
+not-both : {C : Type 0} (x : Refusal) (s : Sizes) → reading.Accepted s ≡ reading.Refused x → C
+not-both x s e = let z : _≡_ {A = ℕ} 0 1 = cc in absurd (omega arith)
+
+same-sizes : (s u : Sizes) → reading.Accepted s ≡ reading.Accepted u → s ≡ u
+same-sizes s u e = cc
+
+-- the observed signals of a reading are those of the problem
+pub observed-accepted : (o : Outcome) (r : Reading) (s : Sizes) → r ≡ readingOf o → r ≡ reading.Accepted s → s .observed ≡ observedIn o
+unfolding observedIn
+observed-accepted (accepted p) r s e h = ap (λ u. u .observed) (same-sizes s _ (sym h ∙ e))
+observed-accepted (refused x) r s e h = not-both x s (sym h ∙ e)
+
+pub observed-refused : (o : Outcome) (r : Reading) (x : Refusal) → r ≡ readingOf o → r ≡ reading.Refused x → 0 ≡ observedIn o
+unfolding observedIn
+observed-refused (accepted p) r x e h = not-both x _ (sym e ∙ h)
+observed-refused (refused y) r x e h = refl
+
+-- the whole call: its answer, and what it leaves in text, table and work memory
+abbrev Responded : (source work table text : List ℕ) → Printed → (text′ table′ work′ : List ℕ) → Type 0
+Responded source work table text r text′ table′ work′ =
+    (r ≡ respondedBy (length work) (length table) (length text) source) × (text′ ≡ responseAfter (length work) (length table) source text)
+    × (table′ ≡ respondedTable (length work) (length text) source table) × (work′ ≡ respondedWork (length table) (length text) work)
+
+-- memory that is too short
+pub tight-right : (source work table text : List ℕ) → isTight (length work) (length table) (length text) ≡ true
+    → Responded source work table text (Refused ShortMemory) text table work
+unfolding respondedBy responseAfter respondedTable respondedWork tableAfter workAfter
+tight-right source work table text e =
+    elim (test (ltb (length text) textSize)) [
+      | inl t ↦ rw (e, t) (refl, refl, refl, refl)
+      | inr f ↦
+          let short : isShort (length work) (length table) ≡ true =
+          elim (or-cases (isShort (length work) (length table)) (ltb (length text) textSize) e) [ inl s ↦ s | inr t ↦ clash t f ] in
+          rw (e, f, short) (refl, refl, refl, refl)
+    ]
+
+-- what is written, by cases
+module _ (source : List ℕ) where
+  response-refused : (x : Refusal) → solvedFrom (readProblem source) ≡ solved.Refused x → response source ≡ refusalText x
+  unfolding response
+  response-refused x h = rw h
+
+  response-table : (n r : ℕ) → solvedFrom (readProblem source) ≡ solved.Table n r
+      → response source ≡ tableText (cellsFrom (readProblem source)) n r (observedIn (readProblem source))
+  unfolding response
+  response-table n r h = rw h
+
+  observed-of : (p : Problem) → readProblem source ≡ accepted p → observedIn (readProblem source) ≡ p .signals .observed
+  unfolding observedIn
+  observed-of p h = rw h
+
+-- memory that is long enough
+pub text-long : (work table text : ℕ) → isTight work table text ≡ false → textSize ≤ text
+text-long work table text e = ltb-false text textSize (or-right (isShort work table) (ltb text textSize) e)
+
+module _ (source work table text : List ℕ) (e : isTight (length work) (length table) (length text) ≡ false)
+    (s : Solved) (table′ work′ : List ℕ) (answer : s ≡ solvedBy (length work) (length table) source)
+    (rows : table′ ≡ tableAfter (length work) source table) (cleared : work′ ≡ workAfter (length table) work) where
+  enough : isShort (length work) (length table) ≡ false
+  enough = or-left (isShort (length work) (length table)) (ltb (length text) textSize) e
+
+  long : ltb (length text) textSize ≡ false
+  long = or-right (isShort (length work) (length table)) (ltb (length text) textSize) e
+
+  is-solved : s ≡ solvedFrom (readProblem source)
+  unfolding solvedBy
+  is-solved = answer ∙ rw enough
+
+  is-written : table′ ≡ written (cellsFrom (readProblem source)) table
+  unfolding tableAfter
+  is-written = rows ∙ rw enough
+
+  responded : (r : Printed) (text′ : List ℕ) → r ≡ Text (length (response source)) → text′ ≡ written (response source) text
+      → Responded source work table text r text′ table′ work′
+  unfolding respondedBy responseAfter respondedTable respondedWork
+  responded r text′ p q = rw (e, long) (p, q, rows, cleared)
+
+  -- the text of a refusal
+  pub refusal-right : (x : Refusal) → s ≡ solved.Refused x → (r : Printed) (text′ : List ℕ) → r ≡ Text (length (refusalText x)) → text′ ≡ putAt 0 (refusalText x) text
+      → Responded source work table text r text′ table′ work′
+  refusal-right x h r text′ p q =
+      let is : response source ≡ refusalText x = response-refused source x (sym is-solved ∙ h) in
+      responded r text′ (p ∙ ap (λ l. Text (length l)) (sym is)) (q ∙ put-front (refusalText x) text ∙ ap (λ l. written l text) (sym is))
+
+  -- the text of a table: it is one that can be printed
+  module _ (n r : ℕ) (h : s ≡ solved.Table n r) (claim : Claim source s table′) where
+    is-table : solvedFrom (readProblem source) ≡ solved.Table n r
+    is-table = sym is-solved ∙ h
+
+    front : take (n * rowSize) table′ ≡ cellsFrom (readProblem source)
+    front = ap (take (n * rowSize)) is-written ∙ take-at (cellsFrom (readProblem source)) _ (n * rowSize) (cells-count source n r is-table)
+
+    table-claim : Claim source (solved.Table n r) table′
+    table-claim = subst (λ z. Claim source z table′) h claim
+
+    front-claim : Claim source (solved.Table n r) (take (n * rowSize) table′)
+    front-claim =
+        let (p, d, small, o, b, w, l) = table-claim in
+        let same = sym (take-take (n * rowSize) (n * rowSize) table′ (omega arith)) in
+        (p, d, small, subst (λ t. Optimal (gameOf p) (tableStrategy t) r) same o, b, w, subst (Laid (gameOf p .choices) (gameOf p .observations) n) same l)
+
+    -- its rows are within the table
+    pub few-rows : n ≤ beliefLimit
+    few-rows = let (p, d, small, o, b, w, l) = table-claim in w
+
+    pub rows-within : n * rowSize ≤ length table′
+    rows-within = let (p, d, small, o, b, w, l) = table-claim in omega (arith, sym (length-take (n * rowSize) table′) ∙ l .long)
+
+    can-print : isPrintable (take (n * rowSize) table′) n r (observedIn (readProblem source)) ≡ true
+    can-print =
+        let (p, d, small, o, b, w, l) = front-claim in
+        let declared : observedIn (readProblem source) ≡ p .signals .observed = observed-of source p (read-iff-denotes source p .1 d) in
+        subst (λ k. isPrintable (take (n * rowSize) table′) n r k ≡ true) (sym declared) (printing source n r (take (n * rowSize) table′) front-claim p d)
+
+    pub table-right : (k : ℕ) → k ≡ observedIn (readProblem source) → (q : Printed) (text′ : List ℕ)
+        → q ≡ printedBy (take (n * rowSize) table′) n r k (length text) → text′ ≡ textAfter (take (n * rowSize) table′) n r k text
+        → Responded source work table text q text′ table′ work′
+    unfolding printedBy textAfter
+    table-right k c q text′ p t =
+        let can = subst (λ k. isPrintable (take (n * rowSize) table′) n r k ≡ true) (sym c) can-print in
+        let is : tableText (take (n * rowSize) table′) n r k ≡ response source =
+        ap₂ (λ cells k. tableText cells n r k) front c ∙ sym (response-table source n r is-table) in
+        responded q text′ (p ∙ rw (long, can) (ap (λ l. Text (length l)) is)) (t ∙ rw (long, can) (ap (λ l. written l text) is))
+
+-- what is written stands in the text
+pub text-within : (source : List ℕ) (work table : ℕ) (text : List ℕ) (r : Printed) (text′ : List ℕ) → r ≡ respondedBy work table (length text) source
+    → text′ ≡ responseAfter work table source text → (n : ℕ) → r ≡ Text n → n ≤ length text′
+unfolding respondedBy responseAfter
+text-within source work table text r text′ p q n h =
+    elim (test (isTight work table (length text))) [
+      | inl t ↦ let e = rw t at p in absurd (no-text ShortMemory n (sym e ∙ h))
+      | inr f ↦
+          let after = rw f at q in
+          let long : length text′ ≡ length (response source) + length (drop (length (response source)) text) =
+          ap length after ∙ length-append (response source) (drop (length (response source)) text) in
+          let e = rw f at p in
+          let is : length (response source) ≡ n = same-text (length (response source)) n (sym e ∙ h) in
+          omega arith
+    ]
+  where
+    no-text : (x : Refusal) (n : ℕ) → Refused x ≡ Text n → ⊥
+    no-text x n e = let z : _≡_ {A = ℕ} 0 1 = cc in absurd (omega arith)
+
+    same-text : (m n : ℕ) → Text m ≡ Text n → m ≡ n
+    same-text m n e = cc

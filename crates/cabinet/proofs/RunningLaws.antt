@@ -1,0 +1,106 @@
+-- A cabinet that runs a table laid out as the solver lays it does what the table says, read as a strategy.
+-- Assumes nothing.
+use Prim.Native.Nat.{ℕ, zero, suc, _+_, _*_, _^_, _≤_, _<_, zero-le, suc-le-suc}
+use native.Mathlib.Omega.{arith}
+use mathlib.Core.Path.{_≡_, refl, sym, ap, _∙_}
+use mathlib.Core.Logic.{inl, inr}
+use mathlib.Core.Bool.{true, false}
+use mathlib.Core.List.{List, _∷_}
+use lib.ListN.{take}
+use borrow.Author.Tests.{lt-ltb, eq-eqb}
+use Rattle.rules.specs.Problem.{Problem}
+use Rattle.rules.proofs.LimitLaws.{Few}
+use Rattle.game.specs.Limits.{beliefLimit, sideLimit, rowSize}
+use Rattle.game.specs.Game.{Game, Play, seen, Decision, choose, stop, GoesOn, choiceOf, Optimal}
+use Rattle.game.specs.Table.{cell, isStop, readFrom, tableStrategy, Laid}
+use Rattle.game.specs.Solution.{gameOf}
+use Rattle.game.proofs.Bounded.{test}
+use Rattle.game.proofs.Plans.{rest}
+use Rattle.cabinet.specs.declared.position.Position.{Position}
+use Rattle.cabinet.specs.declared.position.Answer.{Answer}
+use Rattle.cabinet.specs.declared.position.Answer.the-variants.{Choice, Stop}
+use Rattle.cabinet.specs.declared.position.Moved.{Moved}
+use Rattle.cabinet.specs.Position.{moveTo, isStanding, startOf, stepOf}
+use Rattle.cabinet.specs.Running.{stepAll, answerTo, Runs}
+use Rattle.cabinet.proofs.CheckLaws.{side-le}
+use Rattle.cabinet.proofs.LaidLaws.{cell-taken, stop-taken, sized, goes-on, row-passes}
+
+-- the answer that tells a decision
+abbrev said : Decision → Answer
+said (choose c) = Choice c
+said stop = Stop
+
+stop-no-choice : (c : ℕ) → stop ≡ choose c → ⊥
+stop-no-choice c e = let z : _≡_ {A = ℕ} 0 1 = cc in absurd (omega arith)
+
+module _ (p : Problem) (few : Few (p .signals)) (n : ℕ) (t : List ℕ) (some : 0 < n) (within : n ≤ beliefLimit)
+    (laid : Laid (gameOf p .choices) (gameOf p .observations) n (take (n * rowSize) t)) where
+  abbrev G : Game
+  G = gameOf p
+
+  abbrev observed : ℕ
+  observed = p .signals .observed
+
+  -- the rows in use
+  abbrev T : List ℕ
+  T = take (n * rowSize) t
+
+  few-choices : G .choices ≤ sideLimit
+  few-choices = side-le (p .signals .outputs) (few .outputs)
+
+  stands : (i : ℕ) → i < n → isStanding t n observed i ≡ true
+  stands i h =
+      rw (
+        sized (G .choices) observed n t few-choices (few .observed) some within laid,
+        lt-ltb i n h,
+        row-passes (G .choices) observed n t few-choices (few .observed) some within laid i h,
+      )
+
+  start-moves : (old : Position) → startOf t n observed old ≡ moveTo t 0
+  unfolding startOf
+  start-moves old = rw (stands 0 some)
+
+  step-moves : (i s : ℕ) → i < n → isStop t i ≡ false → s < 2 ^ observed → stepOf t n observed s (moveTo t i .position) ≡ moveTo t (cell t i (1 + s))
+  unfolding stepOf
+  step-moves i s h f b = rw (stands i h, eq-eqb (cell t i 0) (cell t i 0) refl, f, lt-ltb s (2 ^ observed) b)
+
+  -- the answers tell the strategy's decisions, as long as it has not stopped before
+  follows : (m : ℕ) (play : Play G) (i : ℕ) → i < n → GoesOn (readFrom T i) play m
+      → stepAll t n observed (moveTo t i) (seen play m) .answer ≡ said (readFrom T i (seen play m))
+  follows zero play i h g =
+      let same = stop-taken n t i h in
+      let cells = cell-taken n t i h 0 (omega arith) in
+      elim (test (isStop t i)) [
+        | inl e ↦ rw (e, same ∙ e, readFrom)
+        | inr f ↦ rw (f, same ∙ f, readFrom, cells)
+      ]
+  follows (suc m) play i h g =
+      let same = stop-taken n t i h in
+      let s = (play 0) .observation in
+      elim (test (isStop t i)) [
+        | inl e ↦ let (c, q) = g 0 (suc-le-suc zero-le) in absurd (stop-no-choice c (rw (same ∙ e, readFrom) at q))
+        | inr f ↦
+            let next = goes-on (G .choices) observed n t few-choices (few .observed) some within laid i h f s ((play 0) .observation-below) in
+            let cells = cell-taken n t i h (1 + s) (omega (arith, side-le observed (few .observed), (play 0) .observation-below)) in
+            let on : (k : List ℕ) → readFrom T i (s ∷ k) ≡ readFrom T (cell t i (1 + s)) k = λ k. rw (same ∙ f, readFrom, cells) in
+            ap (λ (a : Moved). stepAll t n observed a (seen (rest play) m) .answer) (step-moves i s h f ((play 0) .observation-below))
+            ∙ follows m (rest play) (cell t i (1 + s)) next (λ j b. let (c, q) = g (suc j) (suc-le-suc b) in (c, sym (on (seen (rest play) j)) ∙ q))
+            ∙ ap said (sym (on (seen (rest play) m)))
+      ]
+
+  pub runs : (r : ℕ) → Optimal G (tableStrategy T) r → (old : Position) (play : Play G) → Runs G (tableStrategy T) r (answerTo t n observed old) play
+  runs r o old play =
+      let (m, (e, g), true-trace) = o .wins play in
+      let answers : (j : ℕ) → j ≤ m → answerTo t n observed old (seen play j) ≡ said (tableStrategy T (seen play j)) = λ j b.
+      ap (λ (a : Moved). stepAll t n observed a (seen play j) .answer) (start-moves old) ∙ follows j play 0 some (λ k l. g k (omega arith)) in
+      record {
+        steps = m;
+        choices = λ j. choiceOf (tableStrategy T (seen play j));
+        goes = λ j b.
+            let (c, q) = g j b in
+            let chosen : c ≡ choiceOf (tableStrategy T (seen play j)) = sym (ap choiceOf q) in
+            (answers j (omega arith) ∙ ap said q ∙ ap Choice chosen, q ∙ ap choose chosen);
+        stops = (answers m (omega arith) ∙ ap said e, e);
+        within = o .worst .at-most play m (e, g);
+        holds = true-trace;
+      }

@@ -1,0 +1,133 @@
+-- `cabinet::responding::respond` meets its contract, by those of `solve`, `observed_in`, `print` and `put_refusal`.
+-- Assumes nothing.
+use Prim.Native.Nat.{_*_}
+use native.Mathlib.Omega.{arith}
+use mathlib.Core.Path.{sym, ap}
+use lib.ListN.{length}
+use lib.Seq.{length-take-le}
+use Rattle.game.specs.Limits.{rowSize}
+use Rattle.cabinet.specs.declared.printing.Printed.the-variants.{Text}
+use Rattle.cabinet.proofs.ResponseLaws.{tight-right, text-long, few-rows, rows-within, table-right, refusal-right}
+use borrow.Author.Needs.{needs}
+use Rattle.cabinet.proofs.responding.respond.Statement.{statement}
+use Rattle.cabinet.proofs.responding.respond.Tie as tie
+
+returns : tie.Need-returns
+returns c =
+    let a = c .before .before .before .before .before .args in
+    let m = tight-right (a .source .now) (a .work .now) (a .table .now) (a .text .now) (c .if1 .taken) in
+    (m .0, (m .1, (m .2, m .3)))
+
+solve-requires : tie.Need-solve-requires
+solve-requires c κs = search needs
+
+enum-known-rows : tie.Need-enum-known-rows
+enum-known-rows c = search needs
+
+mul-print : tie.Need-mul-print
+mul-print c =
+    let v = c .before .before .before .before .before .before .before in
+    let i = v .before .before .before in
+    let a = i .before .before .before .before .before .args in
+    let solve = v .solve in
+    let n = c .before .rows .given in
+    let few = few-rows (a .source .now) (a .work .now) (a .table .now) (a .text .now) (i .if1 .left) (solve .result) (solve .last .1 .1 .0) (solve .last .1 .0) (solve .ensures .0) (solve .ensures .1 .0) (solve .ensures .1 .1 .0) (n .0 .0) (n .0 .1 .0) (n .1) (solve .ensures .1 .1 .1) in
+    omega arith
+
+slice-reshare-prefix-print : tie.Need-slice-reshare-prefix-print
+slice-reshare-prefix-print c =
+    let v = c .before .before .before .before .before .before .before in
+    let i = v .before .before .before in
+    let a = i .before .before .before .before .before .args in
+    let solve = v .solve in
+    let n = c .before .rows .given in
+    let inside = rows-within (a .source .now) (a .work .now) (a .table .now) (a .text .now) (i .if1 .left) (solve .result) (solve .last .1 .1 .0) (solve .last .1 .0) (solve .ensures .0) (solve .ensures .1 .0) (solve .ensures .1 .1 .0) (n .0 .0) (n .0 .1 .0) (n .1) (solve .ensures .1 .1 .1) in
+    omega arith
+
+slice-aggregate-print : tie.Need-slice-aggregate-print
+slice-aggregate-print c =
+    let v = c .before .before .before .before .before .before .before .before in
+    let i = v .before .before .before in
+    let a = i .before .before .before .before .before .args in
+    let solve = v .solve in
+    let n = c .before .before .rows .given in
+    sym (length-take-le (n .0 .0 * rowSize) (solve .last .1 .1 .0) (rows-within (a .source .now) (a .work .now) (a .table .now) (a .text .now) (i .if1 .left) (solve .result) (solve .last .1 .1 .0) (solve .last .1 .0) (solve .ensures .0) (solve .ensures .1 .0) (solve .ensures .1 .1 .0) (n .0 .0) (n .0 .1 .0) (n .1) (solve .ensures .1 .1 .1)))
+
+observed-in-requires : tie.Need-observed-in-requires
+observed-in-requires c κs = search needs
+
+print-requires : tie.Need-print-requires
+print-requires c κs = search needs
+
+enum-known-r : tie.Need-enum-known-r
+enum-known-r c = search needs
+
+put-refusal-requires : tie.Need-put-refusal-requires
+put-refusal-requires c κs =
+    let i = c .before .before .before .before .before .before .before .before .before .before .before in
+    let a = i .before .before .before .before .before .args in
+    text-long (length (a .work .now)) (length (a .table .now)) (length (a .text .now)) (i .if1 .left)
+
+same-length : tie.Need-same-length
+same-length c = search needs
+
+same-length-2 : tie.Need-same-length-2
+same-length-2 c = search needs
+
+same-length-3 : tie.Need-same-length-3
+same-length-3 c = search needs
+
+returns-2 : tie.Need-returns-2
+returns-2 c =
+    let v = c .before .before .before .before .before .before .before .before .before .before .before .before .before in
+    let i = v .before .before .before in
+    let a = i .before .before .before .before .before .args in
+    let solve = v .solve in
+    let n = c .before .before .before .before .before .before .before .rows .given in
+    let print = c .before .before .print in
+    let observed = c .before .before .before .before .observed-in in
+    let m = table-right (a .source .now) (a .work .now) (a .table .now) (a .text .now) (i .if1 .left) (solve .result) (solve .last .1 .1 .0) (solve .last .1 .0) (solve .ensures .0) (solve .ensures .1 .0) (solve .ensures .1 .1 .0) (n .0 .0) (n .0 .1 .0) (n .1) (solve .ensures .1 .1 .1) (observed .result) (observed .ensures) (print .result) (print .last .1 .1 .1 .1 .0) (print .ensures .0) (print .ensures .1) in
+    (m .0, (m .1, (m .2, m .3)))
+
+same-length-4 : tie.Need-same-length-4
+same-length-4 c = search needs
+
+same-length-5 : tie.Need-same-length-5
+same-length-5 c = search needs
+
+same-length-6 : tie.Need-same-length-6
+same-length-6 c = search needs
+
+returns-3 : tie.Need-returns-3
+returns-3 c =
+    let v = c .before .before .before .before .before .before .before .before .before .before .before in
+    let i = v .before .before .before in
+    let a = i .before .before .before .before .before .args in
+    let solve = v .solve in
+    let x = c .before .before .before .before .before .r .given in
+    let put = c .before .before .put-refusal in
+    let m = refusal-right (a .source .now) (a .work .now) (a .table .now) (a .text .now) (i .if1 .left) (solve .result) (solve .last .1 .1 .0) (solve .last .1 .0) (solve .ensures .0) (solve .ensures .1 .0) (solve .ensures .1 .1 .0) (x .0 .0) (x .1) (Text (put .result)) (put .last .0) (ap Text (put .ensures .0)) (put .ensures .1) in
+    (m .0, (m .1, (m .2, m .3)))
+
+pub respond-spec : {M : Type 1} → statement M
+respond-spec =
+    tie.close
+    (tie.spec
+    returns
+    solve-requires
+    enum-known-rows
+    mul-print
+    slice-reshare-prefix-print
+    slice-aggregate-print
+    observed-in-requires
+    print-requires
+    enum-known-r
+    put-refusal-requires
+    same-length
+    same-length-2
+    same-length-3
+    returns-2
+    same-length-4
+    same-length-5
+    same-length-6
+    returns-3)

@@ -1,0 +1,22 @@
+-- `cabinet::writing::put_byte` meets its contract.
+-- Assumes nothing.
+use mathlib.Core.Path.{refl}
+use borrow.Author.Needs.{needs}
+use Rattle.cabinet.proofs.PutLaws.{put-one}
+use Rattle.cabinet.proofs.writing.put_byte.Statement.{statement}
+use Rattle.cabinet.proofs.writing.put_byte.Tie as tie
+
+slice-write-text : tie.Need-slice-write-text
+slice-write-text c = search needs
+
+add-result : tie.Need-add-result
+add-result c = search needs
+
+same-length : tie.Need-same-length
+same-length c = search needs
+
+returns : tie.Need-returns
+returns c = (refl, put-one (c .args .at) (c .args .b) (c .args .text .now) (c .pre))
+
+pub put-byte-spec : {M : Type 1} → statement M
+put-byte-spec = tie.close (tie.spec slice-write-text add-result same-length returns)

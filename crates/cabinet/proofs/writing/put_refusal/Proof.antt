@@ -1,0 +1,44 @@
+-- `cabinet::writing::put_refusal` meets its contract: its line has room.
+-- Assumes nothing.
+use native.Mathlib.Omega.{arith}
+use mathlib.Core.Path.{ap, ap₂, _∙_}
+use mathlib.Core.List.{[], _∷_}
+use lib.ListN.{length}
+use borrow.Author.Needs.{needs}
+use Rattle.grammar.specs.Bytes.{bytesOf}
+use Rattle.cabinet.specs.Text.{decimal, line}
+use Rattle.cabinet.specs.Print.{putAt}
+use Rattle.cabinet.proofs.TextLaws.{words-fit}
+use Rattle.cabinet.proofs.writing.put_refusal.Statement.{statement}
+use Rattle.cabinet.proofs.writing.put_refusal.Tie as tie
+
+slice-aggregate-put-line : tie.Need-slice-aggregate-put-line
+slice-aggregate-put-line c = search needs
+
+number-requires : tie.Need-number-requires
+number-requires c κs = search needs
+
+place-requires : tie.Need-place-requires
+place-requires c κs = search needs
+
+put-line-requires : tie.Need-put-line-requires
+put-line-requires c κs =
+    let number = c .before .number in
+    let place = c .place in
+    omega (arith, words-fit (bytesOf "refused") (number .result) (place .result) (omega arith) (number .ok) (place .ok), c .before .before .before .before .before .pre)
+
+same-length : tie.Need-same-length
+same-length c = search needs
+
+returns : tie.Need-returns
+returns c =
+    let l = c .before .before in
+    let place = l .before .place in
+    let number = l .before .before .number in
+    let same = ap₂ (λ a b. line (bytesOf "refused") (decimal a ∷ decimal b ∷ [])) (number .ensures) (place .ensures) in
+    (l .put-line .ensures .0 ∙ ap length same, l .put-line .ensures .1 ∙ ap (λ b. putAt 0 b (l .before .before .before .before .before .before .args .text .now)) same)
+
+pub put-refusal-spec : {M : Type 1} → statement M
+put-refusal-spec =
+    tie.close
+    (tie.spec slice-aggregate-put-line number-requires place-requires put-line-requires same-length returns)

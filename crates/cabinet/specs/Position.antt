@@ -1,0 +1,39 @@
+-- The cabinet: its position (place in document 01), and what its two calls answer and make of it.
+-- Assumes nothing.
+use Prim.Native.Nat.{ℕ, _+_, _^_}
+use mathlib.Core.Bool.{Bool, cond, _&&_}
+use mathlib.Core.List.{List}
+use lib.Dec.{eqb, ltb}
+use lib.ListN.{length}
+use Rattle.rules.specs.declared.refusal.Refusal.{Refusal}
+use Rattle.rules.specs.declared.refusal.Refusal.the-variants.{BadTable, Stopped, BadObservation}
+use Rattle.game.specs.Table.{cell, isStop}
+use Rattle.cabinet.specs.declared.position.Position.{Position}
+use Rattle.cabinet.specs.declared.position.Answer.the-variants.{Choice, Stop, Refused}
+use Rattle.cabinet.specs.declared.position.Moved.{Moved}
+use Rattle.cabinet.specs.WellFormed.{isSized, isRow}
+
+-- on a row: its first cell is the standing choice, 65535 for stop
+abbrev pub moveTo : List ℕ → ℕ → Moved
+moveTo t row =
+    record { position = record { row = row; choice = cell t row 0 }; answer = cond (isStop t row) Stop (Choice (cell t row 0)) }
+
+-- a refusal leaves the position as it was
+abbrev pub refusedAt : Position → Refusal → Moved
+refusedAt p r = record { position = p; answer = Refused r }
+
+-- number 13 where the cabinet stands: the table's sizes, the row and the next rows that it may lead to
+abbrev pub isStanding : List ℕ → ℕ → ℕ → ℕ → Bool
+isStanding t rows observed row = isSized (length t) rows observed && ltb row rows && isRow t rows observed row
+
+-- a start ignores the old position, and is tested at row 0
+unfoldable pub startOf : List ℕ → ℕ → ℕ → Position → Moved
+startOf t rows observed p = cond (isStanding t rows observed 0) (moveTo t 0) (refusedAt p BadTable)
+
+-- 13, 14, 15 in this order; then on to the next row for the observation
+unfoldable pub stepOf : List ℕ → ℕ → ℕ → ℕ → Position → Moved
+stepOf t rows observed observation p =
+    cond (isStanding t rows observed (p .row) && eqb (cell t (p .row) 0) (p .choice))
+    (cond (isStop t (p .row)) (refusedAt p Stopped)
+    (cond (ltb observation (2 ^ observed)) (moveTo t (cell t (p .row) (1 + observation))) (refusedAt p BadObservation)))
+    (refusedAt p BadTable)

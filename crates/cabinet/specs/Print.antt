@@ -1,0 +1,29 @@
+-- What the printing call answers, and what it leaves in the lent text.
+-- Assumes nothing.
+use Prim.Native.Nat.{ℕ, _+_}
+use mathlib.Core.Bool.{cond}
+use mathlib.Core.List.{List, _++_}
+use lib.Dec.{ltb}
+use lib.ListN.{length, take, drop}
+use Rattle.rules.specs.declared.refusal.Refusal.the-variants.{ShortMemory, BadTable}
+use Rattle.game.specs.Claim.{written}
+use Rattle.cabinet.specs.declared.printing.Printed.{Printed}
+use Rattle.cabinet.specs.declared.printing.Printed.the-variants.{Text, Refused}
+use Rattle.cabinet.specs.Limits.{textSize}
+use Rattle.cabinet.specs.WellFormed.{isPrintable}
+use Rattle.cabinet.specs.Text.{tableText}
+
+-- bytes put into a text from a place on
+abbrev pub putAt : ℕ → List ℕ → List ℕ → List ℕ
+putAt at bytes text = take at text ++ bytes ++ drop (at + length bytes) text
+
+-- the text's length; 12 is tested before 13
+unfoldable pub printedBy : List ℕ → ℕ → ℕ → ℕ → ℕ → Printed
+printedBy t rows worst observed room =
+    cond (ltb room textSize) (Refused ShortMemory)
+    (cond (isPrintable t rows worst observed) (Text (length (tableText t rows worst observed))) (Refused BadTable))
+
+-- the text stands in front, and the rest is as it was; a refusal changes nothing
+unfoldable pub textAfter : List ℕ → ℕ → ℕ → ℕ → List ℕ → List ℕ
+textAfter t rows worst observed text =
+    cond (ltb (length text) textSize) text (cond (isPrintable t rows worst observed) (written (tableText t rows worst observed) text) text)

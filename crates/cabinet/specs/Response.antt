@@ -1,0 +1,52 @@
+-- What is written for a problem's text: its table or the refusal, from bytes to bytes.
+-- Assumes nothing.
+use Prim.Native.Nat.{ℕ}
+use mathlib.Core.Bool.{Bool, cond, _||_}
+use mathlib.Core.List.{List, [], _∷_}
+use lib.Dec.{ltb}
+use lib.ListN.{length}
+use Rattle.grammar.specs.Bytes.{bytesOf}
+use Rattle.rules.specs.declared.refusal.Refusal.{Refusal}
+use Rattle.rules.specs.declared.refusal.Refusal.the-variants.{ShortMemory}
+use Rattle.rules.specs.Refusal.{numberOf, placeOf}
+use Rattle.rules.specs.Problem.{Outcome, accepted, refused, readProblem}
+use Rattle.game.specs.declared.solving.Solved.{Solved}
+use Rattle.game.specs.declared.solving.Solved.the-variants as solved
+use Rattle.game.specs.Claim.{isShort, solvedFrom, cellsFrom, written, tableAfter, workAfter}
+use Rattle.cabinet.specs.declared.printing.Printed.{Printed}
+use Rattle.cabinet.specs.declared.printing.Printed.the-variants.{Text, Refused}
+use Rattle.cabinet.specs.Limits.{textSize}
+use Rattle.cabinet.specs.Text.{decimal, line, tableText}
+
+-- a refusal: its number and its place
+abbrev pub refusalText : Refusal → List ℕ
+refusalText r = line (bytesOf "refused") (decimal (numberOf r) ∷ decimal (placeOf r) ∷ [])
+
+abbrev pub solvedText : ℕ → List ℕ → Solved → List ℕ
+solvedText observed cells (solved.Table rows worst) = tableText cells rows worst observed
+solvedText observed cells (solved.Refused r) = refusalText r
+
+-- how many observed signals a text declares; none where it is refused
+unfoldable pub observedIn : Outcome → ℕ
+observedIn (accepted p) = p .signals .observed
+observedIn (refused r) = 0
+
+unfoldable pub response : List ℕ → List ℕ
+response source = let o = readProblem source in solvedText (observedIn o) (cellsFrom o) (solvedFrom o)
+
+-- lent memory that is too short
+abbrev pub isTight : ℕ → ℕ → ℕ → Bool
+isTight work table text = isShort work table || ltb text textSize
+
+-- the answer, and what is left in the lent text, table and work memory
+unfoldable pub respondedBy : ℕ → ℕ → ℕ → List ℕ → Printed
+respondedBy work table text source = cond (isTight work table text) (Refused ShortMemory) (Text (length (response source)))
+
+unfoldable pub responseAfter : ℕ → ℕ → List ℕ → List ℕ → List ℕ
+responseAfter work table source text = cond (isTight work table (length text)) text (written (response source) text)
+
+unfoldable pub respondedTable : ℕ → ℕ → List ℕ → List ℕ → List ℕ
+respondedTable work text source table = cond (ltb text textSize) table (tableAfter work source table)
+
+unfoldable pub respondedWork : ℕ → ℕ → List ℕ → List ℕ
+respondedWork table text work = cond (ltb text textSize) work (workAfter table work)

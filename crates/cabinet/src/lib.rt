@@ -1,0 +1,21 @@
+// Tables in use: `print` writes a table as text, `respond` solves a problem and writes what comes of it; `start` and `step` run a table
+// as a controller, from a position that the caller keeps, as `start_from` and `step_from` do by value. Every function here is proved,
+// and the crate assumes nothing. None of these has a `requires`.
+mod checking;
+mod position;
+mod printing;
+mod responding;
+mod sizes;
+mod writing;
+
+pub use position::Answer;
+pub use position::Moved;
+pub use position::Position;
+pub use position::start;
+pub use position::start_from;
+pub use position::step;
+pub use position::step_from;
+pub use printing::Printed;
+pub use printing::print;
+pub use responding::respond;
+pub use sizes::TEXT_SIZE;

@@ -1,0 +1,54 @@
+// The whole desk: from a problem's text to the text of its table, or of the refusal.
+ghost use mathlib.Core.Path.{_≡_};
+ghost use lib.ListN.{length};
+ghost use Rattle.rules.specs.Problem.{readProblem};
+ghost use Rattle.cabinet.specs.Response.{observedIn, respondedBy, responseAfter, respondedTable, respondedWork};
+use crate::printing::Printed;
+use crate::printing::print;
+use crate::sizes::TEXT_SIZE;
+use crate::writing::put_refusal;
+use game::ROW;
+use game::Solved;
+use game::TABLE_SIZE;
+use game::solve;
+use rules::PART_LIMIT;
+use rules::Reading;
+use rules::Refusal;
+use rules::WORK_SIZE;
+use rules::read;
+
+// How many observed signals a problem has; none where it is refused.
+fn observed_in(source: &[u8]) -> usize
+    ensures { λ r. ⌜ r ≡ observedIn (readProblem (now (source .entry))) ⌝ }
+{
+    let mut kinds = [0u8; PART_LIMIT];
+    let mut lefts = [0u8; PART_LIMIT];
+    let mut rights = [0u8; PART_LIMIT];
+    match read(source, &mut kinds, &mut lefts, &mut rights) {
+        Reading::Accepted(s) => s.observed,
+        Reading::Refused(_) => 0,
+    }
+}
+
+// Solves a problem and writes its table, or the refusal, as text. Refusal: 12. Only the text's own bytes change, at the front; the
+// table and the work memory are left as `solve` leaves them.
+pub fn respond(source: &[u8], work: &mut [u8], table: &mut [u16], text: &mut [u8]) -> Printed
+    ensures answer { λ r. ⌜ r ≡ respondedBy (length (now (work .entry))) (length (now (table .entry))) (length (now (text .entry))) (now (source .entry)) ⌝ }
+    ensures bytes { λ _. ⌜ now (text .exit) ≡ responseAfter (length (now (work .entry))) (length (now (table .entry))) (now (source .entry)) (now (text .entry)) ⌝ }
+    ensures rows { λ _. ⌜ now (table .exit) ≡ respondedTable (length (now (work .entry))) (length (now (text .entry))) (now (source .entry)) (now (table .entry)) ⌝ }
+    ensures cleared { λ _. ⌜ now (work .exit) ≡ respondedWork (length (now (table .entry))) (length (now (text .entry))) (now (work .entry)) ⌝ }
+{
+    if (work.len() < WORK_SIZE) | (table.len() < TABLE_SIZE) | (text.len() < TEXT_SIZE) {
+        return Printed::Refused(Refusal::ShortMemory);
+    }
+    match solve(source, work, table) {
+        Solved::Table { rows, worst_case } => print(
+            &table[..rows * ROW],
+            rows,
+            worst_case,
+            observed_in(source),
+            text,
+        ),
+        Solved::Refused(r) => Printed::Text(put_refusal(text, r)),
+    }
+}
