@@ -16,9 +16,9 @@ use Rattle.states.proofs.BitLaws.{shl-one}
 use Rattle.game.specs.Limits.{beliefLimit, sideLimit, rowSize, stopCell}
 use Rattle.game.specs.Bounded.{all}
 use Rattle.game.specs.Table.{cell, isStop}
-use Rattle.game.proofs.Bounded.{test, and-right, or-cases, or-left, or-right, all-at, all-fails}
+use Rattle.game.proofs.Bounded.{test, and-left, and-right, or-cases, or-left, or-right, all-at, all-fails}
 use Rattle.game.proofs.ChoiceLaws.{all-more, all-done}
-use Rattle.cabinet.specs.WellFormed.{isSized, isAnswer, isNext, nextCount, isRow, isBlank}
+use Rattle.cabinet.specs.WellFormed.{isSized, isAnswer, isNext, nextCount, isRow, isBlank, isPrintableRow}
 
 -- the values of four signals at most
 pub side-le : (k : ℕ) → k ≤ kindLimit → 2 ^ k ≤ sideLimit
@@ -127,12 +127,16 @@ module _ (t : List ℕ) (rows observed row : ℕ) where
     row-passes s h g l = sym (row-is ∙ all-done s n leadsOn (omega arith) l)
 
 -- what a row leads to
-pub row-leads : (t : List ℕ) (rows observed row s : ℕ) → isRow t rows observed row ≡ true → isStop t row ≡ false → s < 2 ^ observed
+row-leads : (t : List ℕ) (rows observed row s : ℕ) → isRow t rows observed row ≡ true → isStop t row ≡ false → s < 2 ^ observed
     → isNext t rows (cell t row (1 + s)) ≡ true
 unfolding isRow
 row-leads t rows observed row s e f h =
     all-at (2 ^ observed) (λ i. isNext t rows (cell t row (1 + i)))
     (ap (λ b. all (cond b 0 (2 ^ observed)) (λ i. isNext t rows (cell t row (1 + i)))) (sym f) ∙ and-right (isAnswer (cell t row 0)) _ e) s h
+
+pub row-next : (t : List ℕ) (rows observed row s : ℕ) → isRow t rows observed row ≡ true → isStop t row ≡ false → s < 2 ^ observed → cell t row (1 + s) < rows
+row-next t rows observed row s e f h =
+    ltb-true (cell t row (1 + s)) rows (and-left _ (isAnswer (cell t (cell t row (1 + s)) 0)) (row-leads t rows observed row s e f h))
 
 -- ---- the unused cells of a row
 
@@ -168,28 +172,20 @@ module _ (t : List ℕ) (observed row : ℕ) where
 -- ---- all rows
 
 module _ (t : List ℕ) (rows observed : ℕ) where
-  -- whether a row can be printed
-  unfoldable pub printsAt : ℕ → Bool
-  printsAt row = isRow t rows observed row && isBlank t observed row
-
-  rows-are : all rows (λ row. isRow t rows observed row && isBlank t observed row) ≡ all rows printsAt
-  unfolding printsAt
-  rows-are = refl
-
   module _ (row : ℕ) (a b : Bool) (p : a ≡ isRow t rows observed row) (q : b ≡ isBlank t observed row) where
-    prints-test : (o : Bool) → (not a || not b) ≡ o → printsAt row ≡ not o
-    unfolding printsAt
+    prints-test : (o : Bool) → (not a || not b) ≡ o → isPrintableRow t rows observed row ≡ not o
+    unfolding isPrintableRow
     prints-test o e = ap₂ _&&_ (sym p) (sym q) ∙ both a b ∙ ap not e
       where
         both : (a b : Bool) → a && b ≡ not (not a || not b)
         both true b = sym (Bool·not-not b)
         both false b = refl
 
-    pub rows-fail : row < rows → (not a || not b) ≡ true → false ≡ all rows (λ row. isRow t rows observed row && isBlank t observed row)
-    rows-fail h e = sym (rows-are ∙ all-fails rows printsAt row h (prints-test true e))
+    pub rows-fail : row < rows → (not a || not b) ≡ true → false ≡ all rows (isPrintableRow t rows observed)
+    rows-fail h e = sym (all-fails rows (isPrintableRow t rows observed) row h (prints-test true e))
 
-    pub rows-more : (not a || not b) ≡ false → all row printsAt ≡ true → all (row + 1) printsAt ≡ true
-    rows-more e l = all-more row printsAt l (prints-test false e)
+    pub rows-more : (not a || not b) ≡ false → all row (isPrintableRow t rows observed) ≡ true → all (row + 1) (isPrintableRow t rows observed) ≡ true
+    rows-more e l = all-more row (isPrintableRow t rows observed) l (prints-test false e)
 
-  pub rows-pass : (row : ℕ) → row ≤ rows → rows ≤ row → all row printsAt ≡ true → true ≡ all rows (λ row. isRow t rows observed row && isBlank t observed row)
-  rows-pass row h g l = sym (rows-are ∙ all-done row rows printsAt (omega arith) l)
+  pub rows-pass : (row : ℕ) → row ≤ rows → rows ≤ row → all row (isPrintableRow t rows observed) ≡ true → true ≡ all rows (isPrintableRow t rows observed)
+  rows-pass row h g l = sym (all-done row rows (isPrintableRow t rows observed) (omega arith) l)

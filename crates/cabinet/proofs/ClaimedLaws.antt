@@ -5,44 +5,50 @@ use native.Mathlib.Omega.{arith}
 use mathlib.Core.Path.{_≡_, subst}
 use mathlib.Core.Bool.{true}
 use mathlib.Core.List.{List}
-use lib.ListN.{take}
+use lib.ListN.{length, take}
+use borrow.Author.Tests.{le-ltb}
 use Rattle.rules.specs.Denotes.{Denotes}
 use Rattle.rules.specs.Problem.{Problem}
 use Rattle.rules.proofs.Denotation.{read-iff-denotes, one-problem}
 use Rattle.rules.proofs.LimitLaws.{Few, read-within}
 use Rattle.game.specs.declared.solving.Solved.the-variants.{Table}
-use Rattle.game.specs.Limits.{beliefLimit, rowSize}
-use Rattle.game.specs.Game.{Play, Optimal}
-use Rattle.game.specs.Table.{tableStrategy, Laid}
+use Rattle.game.specs.Limits.{rowSize}
+use Rattle.game.specs.Game.{Play}
+use Rattle.game.specs.Table.{tableStrategy}
 use Rattle.game.specs.Solution.{gameOf}
-use Rattle.game.specs.Claim.{Claim}
+use Rattle.game.specs.Claim.{Solves, Claim}
 use Rattle.cabinet.specs.declared.position.Position.{Position}
+use Rattle.cabinet.specs.declared.printing.Printed.the-variants.{Text}
+use Rattle.cabinet.specs.Limits.{textSize}
 use Rattle.cabinet.specs.WellFormed.{isPrintable}
+use Rattle.cabinet.specs.Text.{tableText}
+use Rattle.cabinet.specs.Print.{printedBy}
 use Rattle.cabinet.specs.Running.{answerTo, Runs}
 use Rattle.cabinet.proofs.CheckLaws.{side-le}
 use Rattle.cabinet.proofs.LaidLaws.{printable}
 use Rattle.cabinet.proofs.RunningLaws.{runs}
 
--- the claim, told of the problem that the text denotes
-record Claimed (p : Problem) (n r : ℕ) (table : List ℕ) : Type 0 where
-  few : Few (p .signals)
-  optimal : Optimal (gameOf p) (tableStrategy (take (n * rowSize) table)) r
-  below : r < n
-  within : n ≤ beliefLimit
-  laid : Laid (gameOf p .choices) (gameOf p .observations) n (take (n * rowSize) table)
-
 module _ (source : List ℕ) (n r : ℕ) (table : List ℕ) (claim : Claim source (Table n r) table) (p : Problem) (denotes : Denotes source p) where
-  claimed : Claimed p n r table
-  claimed =
-      let (p′, d, small, o, b, w, l) = claim in
-      let few = read-within source p′ (read-iff-denotes source p′ .1 d) .few in
-      subst (λ q. Claimed q n r table) (one-problem source p′ p d denotes) (record { few = few; optimal = o; below = b; within = w; laid = l })
+  -- the claim, told of the problem that the text denotes
+  solves : Solves p n r (take (n * rowSize) table)
+  solves = let (q, d, s) = claim in subst (λ q. Solves q n r (take (n * rowSize) table)) (one-problem source q p d denotes) s
+
+  few : Few (p .signals)
+  few = read-within source p (read-iff-denotes source p .1 denotes) .few
+
+  some : 0 < n
+  some = omega (arith, solves .below)
 
   pub running : (old : Position) (play : Play (gameOf p))
       → Runs (gameOf p) (tableStrategy (take (n * rowSize) table)) r (answerTo table n (p .signals .observed) old) play
-  running = runs p (claimed .few) n table (omega (arith, claimed .below)) (claimed .within) (claimed .laid) r (claimed .optimal)
+  running = runs p few n table some (solves .within) (solves .laid) r (solves .optimal)
 
-  pub printing : isPrintable table n r (p .signals .observed) ≡ true
-  printing =
-      printable (gameOf p .choices) (p .signals .observed) n table (side-le (p .signals .outputs) (claimed .few .outputs)) (claimed .few .observed)
-      (omega (arith, claimed .below)) (claimed .within) (claimed .laid) r (claimed .below)
+  pub passes : isPrintable table n r (p .signals .observed) ≡ true
+  passes =
+      printable (gameOf p .choices) (p .signals .observed) n table (side-le (p .signals .outputs) (few .outputs)) (few .observed) some (solves .within) (solves .laid)
+      r (solves .below)
+
+  pub printing : (room : ℕ) → textSize ≤ room
+      → printedBy table n r (p .signals .observed) room ≡ Text (length (tableText table n r (p .signals .observed)))
+  unfolding printedBy
+  printing room h = rw (le-ltb room textSize h, passes)

@@ -5,7 +5,7 @@ use native.Mathlib.Nat.{not-suc-le-zero}
 use native.Mathlib.Omega.{arith}
 use mathlib.Core.Path.{_≡_, sym, ap, _∙_, subst}
 use mathlib.Core.Logic.{inl, inr}
-use mathlib.Core.Bool.{Bool, true, false, _&&_, _||_}
+use mathlib.Core.Bool.{true, false, _||_}
 use mathlib.Core.List.{List}
 use lib.Dec.{eqb, ltb}
 use lib.ListN.{length, take, length-take}
@@ -14,12 +14,9 @@ use borrow.Author.Tests.{lt-ltb, ltb-false, le-leb, eqb-true, eq-eqb}
 use Rattle.rules.specs.Limits.{kindLimit}
 use Rattle.game.specs.Limits.{beliefLimit, sideLimit, rowSize, stopCell}
 use Rattle.game.specs.Table.{cell, isStop, LaidRow, Laid}
-use Rattle.game.proofs.Bounded.{test, clash, all-of, or-intro-left, or-intro-right}
-use Rattle.cabinet.specs.WellFormed.{isSized, isAnswer, isNext, nextCount, isRow, isBlank, isPrintable}
+use Rattle.game.proofs.Bounded.{test, clash, and-true, all-of, or-intro-left, or-intro-right}
+use Rattle.cabinet.specs.WellFormed.{isSized, isAnswer, isNext, nextCount, isRow, isBlank, isPrintableRow, isPrintable}
 use Rattle.cabinet.proofs.CheckLaws.{side-le}
-
-and-true : {a b : Bool} → a ≡ true → b ≡ true → a && b ≡ true
-and-true p q = rw (p, q)
 
 -- cells of the rows in use are those of the front
 module _ (n : ℕ) (t : List ℕ) (i : ℕ) (h : i < n) where
@@ -96,10 +93,10 @@ module _ (choices observed n : ℕ) (t : List ℕ) (few-choices : choices ≤ si
           ]
 
   pub printable : (r : ℕ) → r < n → isPrintable t n r observed ≡ true
-  unfolding isPrintable
+  unfolding isPrintable isPrintableRow
   printable r b =
       rw (
         sized,
         lt-ltb r n b,
-        all-of n (λ i. isRow t n observed i && isBlank t observed i) (λ i h. and-true (row-passes i h) (blank-passes i h)),
+        all-of n (isPrintableRow t n observed) (λ i h. and-true (row-passes i h) (blank-passes i h)),
       )

@@ -9,6 +9,7 @@ pub mod TextLaws
 pub mod PrintLaws
 -- the cabinet's calls
 pub mod PositionLaws
+pub mod WalkLaws
 -- a table that the solver gives: it passes every test, and runs as the strategy says
 pub mod LaidLaws
 pub mod RunningLaws

@@ -1,9 +1,8 @@
 -- The theorems of this crate. Assumes nothing.
-use Prim.Native.Nat.{ℕ, _*_}
+use Prim.Native.Nat.{ℕ, _*_, _≤_}
 use mathlib.Core.Path.{_≡_}
-use mathlib.Core.Bool.{true}
 use mathlib.Core.List.{List}
-use lib.ListN.{take}
+use lib.ListN.{length, take}
 use Rattle.grammar.specs.Bytes.{bytesOf}
 use Rattle.rules.specs.Denotes.{Denotes}
 use Rattle.rules.specs.Problem.{Problem}
@@ -15,7 +14,10 @@ use Rattle.game.specs.Solution.{gameOf}
 use Rattle.game.specs.Claim.{Claim}
 use Rattle.game.proofs.Examples.{sourceB}
 use Rattle.cabinet.specs.declared.position.Position.{Position}
-use Rattle.cabinet.specs.WellFormed.{isPrintable}
+use Rattle.cabinet.specs.declared.printing.Printed.the-variants.{Text}
+use Rattle.cabinet.specs.Limits.{textSize}
+use Rattle.cabinet.specs.Text.{tableText}
+use Rattle.cabinet.specs.Print.{printedBy}
 use Rattle.cabinet.specs.Response.{response}
 use Rattle.cabinet.specs.Running.{answerTo, Runs}
 use Rattle.cabinet.proofs.ClaimedLaws
@@ -29,8 +31,9 @@ module _ (source : List ℕ) (n r : ℕ) (table : List ℕ) (claim : Claim sourc
       → Runs (gameOf p) (tableStrategy (take (n * rowSize) table)) r (answerTo table n (p .signals .observed) old) play
   running = ClaimedLaws.running source n r table claim p denotes
 
-  -- printing it is never refused with 13
-  pub printing : isPrintable table n r (p .signals .observed) ≡ true
+  -- printing it into enough room is never refused
+  pub printing : (room : ℕ) → textSize ≤ room
+      → printedBy table n r (p .signals .observed) room ≡ Text (length (tableText table n r (p .signals .observed)))
   printing = ClaimedLaws.printing source n r table claim p denotes
 
 -- example B, from the problem's bytes to those that are written

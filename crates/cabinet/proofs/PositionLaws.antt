@@ -17,10 +17,10 @@ use Rattle.game.proofs.Bounded.{and-left, and-right}
 use Rattle.cabinet.specs.declared.position.Position.{Position}
 use Rattle.cabinet.specs.declared.position.Answer.the-variants.{Choice, Stop}
 use Rattle.cabinet.specs.declared.position.Moved.{Moved}
-use Rattle.cabinet.specs.WellFormed.{isSized, isRow, isAnswer}
+use Rattle.cabinet.specs.WellFormed.{isSized, isRow}
 use Rattle.cabinet.specs.Position.{moveTo, refusedAt, isStanding, startOf, stepOf}
 use Rattle.cabinet.proofs.SizedLaws.{Sized, sized-says}
-use Rattle.cabinet.proofs.CheckLaws.{side-le, first-cell, next-cell, stops, moves, row-leads}
+use Rattle.cabinet.proofs.CheckLaws.{side-le, first-cell, next-cell, stops, moves, row-next}
 
 -- ---- on a row
 
@@ -52,10 +52,6 @@ module _ (t : List ℕ) (rows observed row : ℕ) where
         inside = ltb-true row rows (and-right (isSized (length t) rows observed) (ltb row rows) two);
         leads = and-right (isSized (length t) rows observed && ltb row rows) (isRow t rows observed row) e;
       }
-
-  -- the row that follows is one
-  pub follows : (s : ℕ) → Stands t rows observed row → isStop t row ≡ false → s < 2 ^ observed → cell t row (1 + s) < rows
-  follows s w f h = ltb-true (cell t row (1 + s)) rows (and-left _ (isAnswer (cell t (cell t row (1 + s)) 0)) (row-leads t rows observed row s (w .leads) f h))
 
 -- ---- the start
 
@@ -122,7 +118,7 @@ module _ {t : List ℕ} {rows observed : ℕ} {p : Position} (g : Goes t rows ob
       pub step-row : getD t (p .row * rowSize + 1 + observation) 0 * rowSize < length t
       step-row =
           rw (next-cell t (p .row) observation)
-          (omega (arith, follows t rows observed (p .row) observation (g .stands) (g .moves) sees, g .stands .sized .room))
+          (omega (arith, row-next t rows observed (p .row) observation (g .stands .leads) (g .moves) sees, g .stands .sized .room))
 
       pub step-moves : (m : Moved) → m ≡ moveTo t (getD t (p .row * rowSize + 1 + observation) 0) → m ≡ stepOf t rows observed observation p
       unfolding stepOf

@@ -1,6 +1,6 @@
 -- Bytes put into a text one after another.
 -- Assumes nothing.
-use Prim.Native.Nat.{ℕ, suc, _+_, _≤_, _<_}
+use Prim.Native.Nat.{ℕ, _+_, _≤_, _<_}
 use native.Mathlib.Nat.{add-assoc}
 use native.Mathlib.Numerals.{add-one}
 use native.Mathlib.Omega.{arith}
@@ -8,6 +8,7 @@ use mathlib.Core.Path.{_≡_, sym, ap, ap₂, _∙_, subst}
 use mathlib.Core.List.{List, [], _∷_, _++_}
 use lib.ListN.{length, getD, set, take, drop, length-append}
 use lib.Seq.{sets, length-sets, sets-eq, paste, paste-suc, take-length}
+use Rattle.rules.proofs.ListLaws.{sets-append}
 use Rattle.cabinet.specs.Print.{putAt}
 
 -- a store puts one byte
@@ -17,10 +18,6 @@ put-one at b x h = sets-eq (b ∷ []) x at (omega arith)
 put-length : (at : ℕ) (bytes x : List ℕ) → at + length bytes ≤ length x → length (putAt at bytes x) ≡ length x
 put-length at bytes x h = ap length (sym (sets-eq bytes x at h)) ∙ length-sets x at bytes
 
-sets-append : (a b x : List ℕ) (at : ℕ) → sets (sets x at a) (at + length a) b ≡ sets x at (a ++ b)
-sets-append [] b x at = ap (λ n. sets x n b) (omega arith)
-sets-append (v ∷ a) b x at = ap (λ n. sets (sets (set x at v) (suc at) a) n b) (omega arith) ∙ sets-append a b (set x at v) (suc at)
-
 -- bytes put behind others are put with them
 put-append : (at : ℕ) (a b x : List ℕ) → at + length (a ++ b) ≤ length x → putAt (at + length a) b (putAt at a x) ≡ putAt at (a ++ b) x
 put-append at a b x h =
@@ -28,7 +25,7 @@ put-append at a b x h =
     let first : at + length a ≤ length x = omega arith in
     let second : at + length a + length b ≤ length (putAt at a x) = omega (arith, put-length at a x first) in
     sym (sets-eq b (putAt at a x) (at + length a) second) ∙ ap (λ y. sets y (at + length a) b) (sym (sets-eq a x at first))
-    ∙ sets-append a b x at ∙ sets-eq (a ++ b) x at h
+    ∙ sym (sets-append x at a b) ∙ sets-eq (a ++ b) x at h
 
 -- what a function that puts bytes from a place on answers and leaves: the place behind them, and the text with them
 abbrev pub Put : ℕ → List ℕ → List ℕ → ℕ → List ℕ → Type 0

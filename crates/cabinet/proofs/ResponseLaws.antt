@@ -22,10 +22,7 @@ use Rattle.rules.proofs.LimitLaws.{or-left, or-right}
 use Rattle.game.specs.declared.solving.Solved.{Solved}
 use Rattle.game.specs.declared.solving.Solved.the-variants as solved
 use Rattle.game.specs.Limits.{beliefLimit, rowSize}
-use Rattle.game.specs.Claim.{isShort, solvedFrom, solvedBy, cellsFrom, written, tableAfter, workAfter, Claim}
-use Rattle.game.specs.Game.{Optimal}
-use Rattle.game.specs.Table.{tableStrategy, Laid}
-use Rattle.game.specs.Solution.{gameOf}
+use Rattle.game.specs.Claim.{isShort, solvedFrom, solvedBy, cellsFrom, written, tableAfter, workAfter, Solves, Claim}
 use Rattle.game.proofs.Bounded.{test, clash, or-cases}
 use Rattle.game.proofs.ClaimLaws.{cells-count}
 use Rattle.cabinet.specs.declared.printing.Printed.{Printed}
@@ -36,7 +33,7 @@ use Rattle.cabinet.specs.Text.{tableText}
 use Rattle.cabinet.specs.Print.{putAt, printedBy, textAfter}
 use Rattle.cabinet.specs.Response.{refusalText, observedIn, response, isTight, respondedBy, responseAfter, respondedTable, respondedWork}
 use Rattle.cabinet.proofs.PrintLaws.{put-front}
-use Rattle.cabinet.proofs.ClaimedLaws.{printing}
+use Rattle.cabinet.proofs.ClaimedLaws.{passes}
 
 not-both : {C : Type 0} (x : Refusal) (s : Sizes) → reading.Accepted s ≡ reading.Refused x → C
 not-both x s e = let z : _≡_ {A = ℕ} 0 1 = cc in absurd (omega arith)
@@ -135,22 +132,21 @@ module _ (source work table text : List ℕ) (e : isTight (length work) (length 
 
     front-claim : Claim source (solved.Table n r) (take (n * rowSize) table′)
     front-claim =
-        let (p, d, small, o, b, w, l) = table-claim in
-        let same = sym (take-take (n * rowSize) (n * rowSize) table′ (omega arith)) in
-        (p, d, small, subst (λ t. Optimal (gameOf p) (tableStrategy t) r) same o, b, w, subst (Laid (gameOf p .choices) (gameOf p .observations) n) same l)
+        let (p, d, s) = table-claim in
+        (p, d, subst (Solves p n r) (sym (take-take (n * rowSize) (n * rowSize) table′ (omega arith))) s)
 
     -- its rows are within the table
     pub few-rows : n ≤ beliefLimit
-    few-rows = let (p, d, small, o, b, w, l) = table-claim in w
+    few-rows = let (p, d, s) = table-claim in s .within
 
     pub rows-within : n * rowSize ≤ length table′
-    rows-within = let (p, d, small, o, b, w, l) = table-claim in omega (arith, sym (length-take (n * rowSize) table′) ∙ l .long)
+    rows-within = let (p, d, s) = table-claim in omega (arith, sym (length-take (n * rowSize) table′) ∙ s .laid .long)
 
     can-print : isPrintable (take (n * rowSize) table′) n r (observedIn (readProblem source)) ≡ true
     can-print =
-        let (p, d, small, o, b, w, l) = front-claim in
+        let (p, d, s) = front-claim in
         let declared : observedIn (readProblem source) ≡ p .signals .observed = observed-of source p (read-iff-denotes source p .1 d) in
-        subst (λ k. isPrintable (take (n * rowSize) table′) n r k ≡ true) (sym declared) (printing source n r (take (n * rowSize) table′) front-claim p d)
+        subst (λ k. isPrintable (take (n * rowSize) table′) n r k ≡ true) (sym declared) (passes source n r (take (n * rowSize) table′) front-claim p d)
 
     pub table-right : (k : ℕ) → k ≡ observedIn (readProblem source) → (q : Printed) (text′ : List ℕ)
         → q ≡ printedBy (take (n * rowSize) table′) n r k (length text) → text′ ≡ textAfter (take (n * rowSize) table′) n r k text

@@ -10,7 +10,7 @@ use borrow.Author.Tests.{ltb-true, leb-true}
 use Rattle.rules.specs.Limits.{kindLimit}
 use Rattle.game.specs.Limits.{beliefLimit, rowSize}
 use Rattle.game.proofs.Bounded.{and-left, and-right, all-at}
-use Rattle.cabinet.specs.WellFormed.{isSized, isRow, isBlank, isPrintable}
+use Rattle.cabinet.specs.WellFormed.{isSized, isRow, isBlank, isPrintableRow, isPrintable}
 
 pub record Sized (cells rows observed : ℕ) : Type 0 where
   pub some : 0 < rows
@@ -35,7 +35,7 @@ pub record Printable (t : List ℕ) (rows worst observed : ℕ) : Type 0 where
   pub each : (row : ℕ) → row < rows → isRow t rows observed row ≡ true
 
 pub printable-says : (t : List ℕ) (rows worst observed : ℕ) → isPrintable t rows worst observed ≡ true → Printable t rows worst observed
-unfolding isPrintable
+unfolding isPrintable isPrintableRow
 printable-says t rows worst observed h =
     let two = and-left (isSized (length t) rows observed && ltb worst rows) _ h in
     let all-rows = and-right (isSized (length t) rows observed && ltb worst rows) _ h in

@@ -24,7 +24,7 @@ use Rattle.game.proofs.Bounded.{clash, and-left, or-cases}
 use Rattle.cabinet.proofs.DecimalLaws.{decimal-length}
 use Rattle.cabinet.proofs.PutLaws.{Put, Rest, rest-all, rest-next}
 use Rattle.cabinet.proofs.SizedLaws.{printable-says}
-use Rattle.cabinet.proofs.CheckLaws.{side-le, stops, moves, row-leads}
+use Rattle.cabinet.proofs.CheckLaws.{side-le, stops, moves, row-next}
 
 -- ---- things of any length one after another
 
@@ -128,7 +128,7 @@ module _ (t : List ℕ) (rows observed row : ℕ) (few : rows ≤ beliefLimit) (
   next-small : isStop t row ≡ false → (s : ℕ) → s < 2 ^ observed → cell t row (suc s) < rows
   next-small e s l =
       let q : 1 + s ≡ suc s = omega arith in
-      subst (λ k. cell t row k < rows) q (ltb-true _ _ (and-left (ltb (cell t row (1 + s)) rows) _ (row-leads t rows observed row s h e l)))
+      subst (λ k. cell t row k < rows) q (row-next t rows observed row s h e l)
 
   cells-length : isStop t row ≡ false → length (flatMap field (cellFields t row (1 + 2 ^ observed))) ≤ 67
   cells-length e =

@@ -7,22 +7,27 @@ use lib.Dec.{eqb, ltb}
 use lib.ListN.{length}
 use Rattle.rules.specs.declared.refusal.Refusal.{Refusal}
 use Rattle.rules.specs.declared.refusal.Refusal.the-variants.{BadTable, Stopped, BadObservation}
+use Rattle.game.specs.Limits.{stopCell}
 use Rattle.game.specs.Table.{cell, isStop}
 use Rattle.cabinet.specs.declared.position.Position.{Position}
+use Rattle.cabinet.specs.declared.position.Answer.{Answer}
 use Rattle.cabinet.specs.declared.position.Answer.the-variants.{Choice, Stop, Refused}
 use Rattle.cabinet.specs.declared.position.Moved.{Moved}
 use Rattle.cabinet.specs.WellFormed.{isSized, isRow}
 
--- on a row: its first cell is the standing choice, 65535 for stop
+-- the answer for document 01's number of it: 65535 is stop, another number a choice
+abbrev pub answerOf : ℕ → Answer
+answerOf c = cond (eqb c stopCell) Stop (Choice c)
+
+-- on a row: its first cell is the standing choice
 abbrev pub moveTo : List ℕ → ℕ → Moved
-moveTo t row =
-    record { position = record { row = row; choice = cell t row 0 }; answer = cond (isStop t row) Stop (Choice (cell t row 0)) }
+moveTo t row = record { position = record { row = row; choice = cell t row 0 }; answer = answerOf (cell t row 0) }
 
 -- a refusal leaves the position as it was
 abbrev pub refusedAt : Position → Refusal → Moved
 refusedAt p r = record { position = p; answer = Refused r }
 
--- number 13 where the cabinet stands: the table's sizes, the row and the next rows that it may lead to
+-- number 13 is not met where the cabinet stands: in the table's sizes, in the row, and in the next rows that it may lead to
 abbrev pub isStanding : List ℕ → ℕ → ℕ → ℕ → Bool
 isStanding t rows observed row = isSized (length t) rows observed && ltb row rows && isRow t rows observed row
 

@@ -22,6 +22,7 @@ use Rattle.cabinet.specs.Text.{decimal, line, tableText}
 abbrev pub refusalText : Refusal → List ℕ
 refusalText r = line (bytesOf "refused") (decimal (numberOf r) ∷ decimal (placeOf r) ∷ [])
 
+-- the text of an answer, a table's from its cells and the number of observed signals
 abbrev pub solvedText : ℕ → List ℕ → Solved → List ℕ
 solvedText observed cells (solved.Table rows worst) = tableText cells rows worst observed
 solvedText observed cells (solved.Refused r) = refusalText r
@@ -31,10 +32,11 @@ unfoldable pub observedIn : Outcome → ℕ
 observedIn (accepted p) = p .signals .observed
 observedIn (refused r) = 0
 
+-- what is written for a source
 unfoldable pub response : List ℕ → List ℕ
 response source = let o = readProblem source in solvedText (observedIn o) (cellsFrom o) (solvedFrom o)
 
--- lent memory that is too short
+-- lent memory that is too short, the text included
 abbrev pub isTight : ℕ → ℕ → ℕ → Bool
 isTight work table text = isShort work table || ltb text textSize
 

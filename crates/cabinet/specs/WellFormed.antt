@@ -18,7 +18,7 @@ isSized cells rows observed = ltb 0 rows && leb rows beliefLimit && leb (rows * 
 abbrev pub isAnswer : ℕ → Bool
 isAnswer c = ltb c sideLimit || eqb c stopCell
 
--- a next row is below the row count, and its first cell is one
+-- a next row is below the row count, and has a choice or stop
 abbrev pub isNext : List ℕ → ℕ → ℕ → Bool
 isNext t rows next = ltb next rows && isAnswer (cell t next 0)
 
@@ -26,14 +26,18 @@ isNext t rows next = ltb next rows && isAnswer (cell t next 0)
 abbrev pub nextCount : List ℕ → ℕ → ℕ → ℕ
 nextCount t observed row = cond (isStop t row) 0 (2 ^ observed)
 
+-- a row that the cabinet may stand on
 unfoldable pub isRow : List ℕ → ℕ → ℕ → ℕ → Bool
 isRow t rows observed row = isAnswer (cell t row 0) && all (nextCount t observed row) (λ s. isNext t rows (cell t row (1 + s)))
 
--- the printer's tests: the unused cells of a row are 0, ..
+-- the printer's tests: every row is one, its unused cells are 0, ..
 unfoldable pub isBlank : List ℕ → ℕ → ℕ → Bool
 isBlank t observed row = all sideLimit (λ s. ltb s (nextCount t observed row) || eqb (cell t row (1 + s)) 0)
+
+unfoldable pub isPrintableRow : List ℕ → ℕ → ℕ → ℕ → Bool
+isPrintableRow t rows observed row = isRow t rows observed row && isBlank t observed row
 
 -- .. and the worst case is below the row count
 unfoldable pub isPrintable : List ℕ → ℕ → ℕ → ℕ → Bool
 isPrintable t rows worst observed =
-    isSized (length t) rows observed && ltb worst rows && all rows (λ row. isRow t rows observed row && isBlank t observed row)
+    isSized (length t) rows observed && ltb worst rows && all rows (isPrintableRow t rows observed)

@@ -1,12 +1,11 @@
 // What a table must be: the tests of number 13.
 ghost use mathlib.Core.Path.{_≡_};
 ghost use Prim.Native.Nat.{_+_, _*_, _≤_, _<_};
-ghost use mathlib.Core.Bool.{_&&_};
 ghost use lib.ListN.{length};
 ghost use Rattle.rules.specs.Limits.{kindLimit};
 ghost use Rattle.game.specs.Limits.{rowSize};
 ghost use Rattle.game.specs.Bounded.{all};
-ghost use Rattle.cabinet.specs.WellFormed.{isSized, isAnswer, isNext, nextCount, isRow, isBlank, isPrintable};
+ghost use Rattle.cabinet.specs.WellFormed.{isSized, isAnswer, isNext, nextCount, isRow, isBlank, isPrintableRow, isPrintable};
 use crate::sizes::OBSERVED_LIMIT;
 use game::BELIEF_LIMIT;
 use game::ROW;
@@ -97,7 +96,7 @@ fn is_blank(table: &[u16], observed: usize, row: usize) -> bool
 fn are_rows(table: &[u16], rows: usize, observed: usize) -> bool
     requires { ⌜ rows * rowSize ≤ length (now table) ⌝ }
     requires { ⌜ observed ≤ kindLimit ⌝ }
-    ensures { λ r. ⌜ r ≡ all rows (λ row. isRow (now (table .entry)) rows observed row && isBlank (now (table .entry)) observed row) ⌝ }
+    ensures { λ r. ⌜ r ≡ all rows (isPrintableRow (now (table .entry)) rows observed) ⌝ }
 {
     let mut row = 0;
     while row < rows {

@@ -29,6 +29,7 @@ pub struct Moved {
     pub answer: Answer,
 }
 
+// A refusal: the position stays as it was.
 fn refuse(held: Position, r: Refusal) -> Moved
     ensures { λ m. ⌜ m ≡ refusedAt held r ⌝ }
 {
@@ -38,6 +39,7 @@ fn refuse(held: Position, r: Refusal) -> Moved
     }
 }
 
+// The position on a row, and its answer.
 fn move_to(table: &[u16], row: usize) -> Moved
     requires { ⌜ row * rowSize < length (now table) ⌝ }
     ensures { λ m. ⌜ m ≡ moveTo (now (table .entry)) row ⌝ }
@@ -103,7 +105,7 @@ pub fn step_from(
     move_to(table, table[position.row * ROW + 1 + observation] as usize)
 }
 
-// The same two on a position that is lent.
+// `start_from` on a position that is lent.
 pub fn start(table: &[u16], rows: usize, observed: usize, position: &mut Position) -> Answer
     ensures { λ r. ⌜ (r ≡ startOf (now (table .entry)) rows observed (now (position .entry)) .answer)
         × (now (position .exit) ≡ startOf (now (table .entry)) rows observed (now (position .entry)) .position) ⌝ }
@@ -113,6 +115,7 @@ pub fn start(table: &[u16], rows: usize, observed: usize, position: &mut Positio
     m.answer
 }
 
+// `step_from` on a position that is lent.
 pub fn step(
     table: &[u16],
     rows: usize,

@@ -1,4 +1,4 @@
-// The whole desk: from a problem's text to the text of its table, or of the refusal.
+// From a problem's text to the text of its table, or of the refusal.
 ghost use mathlib.Core.Path.{_≡_};
 ghost use lib.ListN.{length};
 ghost use Rattle.rules.specs.Problem.{readProblem};
@@ -30,8 +30,8 @@ fn observed_in(source: &[u8]) -> usize
     }
 }
 
-// Solves a problem and writes its table, or the refusal, as text. Refusal: 12. Only the text's own bytes change, at the front; the
-// table and the work memory are left as `solve` leaves them.
+// Solves a problem and writes its table, or the refusal, as text. Refusal: 12, which touches nothing. Otherwise only the text's own
+// bytes change, at the front; the table and the work memory are left as `solve` leaves them.
 pub fn respond(source: &[u8], work: &mut [u8], table: &mut [u16], text: &mut [u8]) -> Printed
     ensures answer { λ r. ⌜ r ≡ respondedBy (length (now (work .entry))) (length (now (table .entry))) (length (now (text .entry))) (now (source .entry)) ⌝ }
     ensures bytes { λ _. ⌜ now (text .exit) ≡ responseAfter (length (now (work .entry))) (length (now (table .entry))) (now (source .entry)) (now (text .entry)) ⌝ }

@@ -17,6 +17,7 @@ use rules::Refusal;
 use rules::number;
 use rules::place;
 
+// One byte.
 fn put_byte(text: &mut [u8], at: usize, b: u8) -> usize
     requires { ⌜ at < length (now text) ⌝ }
     ensures { λ r. ⌜ r ≡ at + 1 ⌝ }
@@ -26,6 +27,7 @@ fn put_byte(text: &mut [u8], at: usize, b: u8) -> usize
     at + 1
 }
 
+// The bytes of a word.
 fn put_bytes(text: &mut [u8], at: usize, bytes: &[u8]) -> usize
     requires { ⌜ at + length (now bytes) ≤ length (now text) ⌝ }
     ensures { λ r. ⌜ r ≡ at + length (now (bytes .entry)) ⌝ }
@@ -93,6 +95,7 @@ fn put_moves(text: &mut [u8], at: usize, table: &[u16], observed: usize, row: us
     put_cells(text, at, table, row, 1 + (1 << observed))
 }
 
+// A row's line.
 fn put_row(text: &mut [u8], at: usize, table: &[u16], observed: usize, row: usize) -> usize
     requires { ⌜ observed ≤ kindLimit ⌝ }
     requires { ⌜ row * rowSize + rowSize ≤ length (now table) ⌝ }
@@ -106,6 +109,7 @@ fn put_row(text: &mut [u8], at: usize, table: &[u16], observed: usize, row: usiz
     put_byte(text, moves, LINE_END)
 }
 
+// The lines of all rows.
 fn put_rows(text: &mut [u8], at: usize, table: &[u16], rows: usize, observed: usize) -> usize
     requires { ⌜ observed ≤ kindLimit ⌝ }
     requires { ⌜ rows * rowSize ≤ length (now table) ⌝ }
@@ -158,5 +162,7 @@ pub fn put_refusal(text: &mut [u8], r: Refusal) -> usize
     ensures { λ n. ⌜ n ≡ length (refusalText r) ⌝ }
     ensures { λ _. ⌜ now (text .exit) ≡ putAt 0 (refusalText r) (now (text .entry)) ⌝ }
 {
-    put_line(text, b"refused", number(r), place(r))
+    let n = number(r);
+    let p = place(r);
+    put_line(text, b"refused", n, p)
 }

@@ -291,5 +291,6 @@ fn main() {
     more_refusals(&mut work);
     limits(&mut work);
     answers::answers(&mut work);
+    tables::single();
     tables::tables(&mut work);
 }

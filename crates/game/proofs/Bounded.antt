@@ -19,6 +19,9 @@ test false = inr refl
 pub clash : {A : Type 0} {b : Bool} → b ≡ true → b ≡ false → A
 clash t f = absurd (true≢false (sym t ∙ f))
 
+pub and-true : {a b : Bool} → a ≡ true → b ≡ true → a && b ≡ true
+and-true p q = rw (p, q)
+
 pub and-left : (a b : Bool) → a && b ≡ true → a ≡ true
 and-left true b e = refl
 and-left false b e = e

@@ -24,13 +24,12 @@ use Rattle.states.proofs.ReachableSetLaws.{sameSet-says}
 use Rattle.states.proofs.StateLaws.{states-over}
 use Rattle.game.specs.declared.solving.Solved.the-variants.{Table, Refused}
 use Rattle.game.specs.Limits.{beliefLimit, rowSize}
-use Rattle.game.specs.Game.{Game, Optimal}
+use Rattle.game.specs.Game.{Game}
 use Rattle.game.specs.Rank.{Arena}
 use Rattle.game.specs.Belief.{beliefs, firstBelief}
-use Rattle.game.specs.Table.{tableStrategy, Laid}
 use Rattle.game.specs.Answer.{moves, positions, Verdict, solved, unrealizable, tooMany, startRank, numbered, answerFrom, Right}
 use Rattle.game.specs.Solution.{gameOf, automatonOf, problemStates, beliefVerdict, verdict, solutionFrom, solution}
-use Rattle.game.specs.Claim.{solvedOf, solvedFrom, cellsOf, cellsFrom, written, ManyStates, ManyBeliefs, Claim}
+use Rattle.game.specs.Claim.{solvedOf, solvedFrom, cellsOf, cellsFrom, written, ManyStates, ManyBeliefs, Solves, Claim}
 use Rattle.game.proofs.Judging.{belief-right}
 
 -- positions that are counted give another verdict
@@ -61,11 +60,7 @@ module _ (source : List ℕ) (p : Problem) (read : readProblem source ≡ accept
       let front = sym (take-at cells (drop (length cells) table) (n * rowSize) (l .long)) in (
         p,
         read-iff-denotes source p .0 read,
-        (few, λ z. solved-not-many n r cells (m .1 z)),
-        subst (λ t. Optimal (gameOf p) (tableStrategy t) r) front o,
-        b,
-        w,
-        subst (Laid (gameOf p .choices) (gameOf p .observations) n) front l,
+        subst (Solves p n r) front (record { small = (few, λ z. solved-not-many n r cells (m .1 z)); optimal = o; below = b; within = w; laid = l }),
       )
   claim-verdict unrealizable u few m = (p, read-iff-denotes source p .0 read, (few, λ z. unrealizable-not-many (m .1 z)), u)
   claim-verdict tooMany u few m = (p, read-iff-denotes source p .0 read, m .0 refl)

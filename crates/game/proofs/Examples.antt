@@ -47,6 +47,7 @@ cases =
     ∷ record { source = "rule\tX true\n"; answer = Table 3 2 }
     ∷ []
 
+-- the crate above unfolds it too
 unfoldable pub answers-right : map (λ c. solvedFrom (readProblem (bytesOf (c .source)))) cases ≡ map (λ c. c .answer) cases
 unfolding cases lower wordByte run past sameBytes wordKind pick tokenFrom tokenAt more tokensF tokens isOp leftward isPre isLeaf bind on close parseF parse parseFormula indexOf leafValue size operators opOf lines tabPlace wordOf isName isText formulaOf allDeclared declareEffect stateEffect effectOf readLines readProblem temporals partsFrom partsOf partAt bottomUp resultAt fromBits firstThat member setOf start accepts next operatorsOf numberOf spotsTo spots valueAt owedAt back isIn indexIn addNew addAll explore reachable sameSet nextSets reachableSets lettersOf nextState statesOf
 answers-right = refl

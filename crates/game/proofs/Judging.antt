@@ -34,14 +34,12 @@ use Rattle.game.specs.Game.{Game}
 use Rattle.game.specs.Belief.{Automaton, stateFrom, beliefs}
 use Rattle.game.specs.Answer.{Right}
 use Rattle.game.specs.Solution.{gameOf, automatonOf, problemStates, beliefVerdict}
+use Rattle.game.proofs.Bounded.{and-true}
 use Rattle.game.proofs.Plans.{rest, History, letters, Hidden, Possible}
 use Rattle.game.proofs.Optimality.{Knows}
 use Rattle.game.proofs.Belief.{Judges, belief-knows}
 use Rattle.game.proofs.Listing.{closed-begins}
 use Rattle.game.proofs.Answer.{answer-right}
-
-and-true : {a b : Bool} → a ≡ true → b ≡ true → (a && b) ≡ true
-and-true p q = rw (p, q)
 
 module _ (p : Problem) (few : Few (p .signals)) where
   abbrev G : Game

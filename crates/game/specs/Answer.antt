@@ -52,7 +52,7 @@ answerFrom A same choices observations (closed all) = verdictOf (numbered A same
 answerFrom A same choices observations over = tooMany
 
 -- what an answer promises: the table is an optimal strategy and the worst case its own, below the row count, which is within the limit of
--- positions, and the table's rows are laid out so; or no strategy wins
+-- positions, and each row has the right cells (`Laid`); or no strategy wins
 abbrev pub Right : ℕ → Game → Verdict → Type 0
 Right limit G (solved n r t) = Optimal G (tableStrategy t) r × (r < n) × (n ≤ limit) × Laid (G .choices) (G .observations) n t
 Right limit G unrealizable = Unrealizable G

@@ -93,14 +93,21 @@ Small p = (¬ ManyStates p) × (¬ ManyBeliefs p)
 abbrev pub NoProblem : List ℕ → Type 0
 NoProblem source = (p : Problem) → ¬ Denotes source p
 
--- A table of n rows with worst case r: read as a strategy it wins, its worst case is r, and no winning strategy has a smaller one; its
--- rows are laid out as document 01 says.
+-- A table of n rows with worst case r, for a problem within the limits: read as a strategy it wins, its worst case is r, and no winning
+-- strategy has a smaller one; the worst case is below the row count, the row count within the limit, and each row has the right cells.
+pub record Solves (p : Problem) (n r : ℕ) (cells : List ℕ) : Type 0 where
+  pub small : Small p
+  pub optimal : Optimal (gameOf p) (tableStrategy cells) r
+  pub below : r < n
+  pub within : n ≤ beliefLimit
+  pub laid : Laid (gameOf p .choices) (gameOf p .observations) n cells
+
+-- A table solves the problem.
 -- Unrealizable: no strategy wins. The formula is the one that the source denotes by the written grammar. Each refusal is given only
 -- where it is due, so each is given exactly there; the last four never are.
 abbrev pub Claim : List ℕ → Solved → List ℕ → Type 0
 Claim source (Table n r) table =
-    (p : Problem) × Denotes source p × Small p × Optimal (gameOf p) (tableStrategy (take (n * rowSize) table)) r × (r < n) × (n ≤ beliefLimit)
-    × Laid (gameOf p .choices) (gameOf p .observations) n (take (n * rowSize) table)
+    (p : Problem) × Denotes source p × Solves p n r (take (n * rowSize) table)
 Claim source (Refused refusal.Unrealizable) table = (p : Problem) × Denotes source p × Small p × Unrealizable (gameOf p)
 Claim source (Refused refusal.TooManyStates) table = (p : Problem) × Denotes source p × ManyStates p
 Claim source (Refused refusal.TooManyBeliefs) table = (p : Problem) × Denotes source p × ManyBeliefs p

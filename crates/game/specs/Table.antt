@@ -29,12 +29,14 @@ readFrom t row (s ∷ h) = elim (isStop t row) [ true ↦ stop | false ↦ readF
 abbrev pub tableStrategy : List ℕ → Strategy
 tableStrategy t = readFrom t 0
 
--- how row i of n is laid out: a stop row has no next rows; another has a choice, and a next row for each observation. Unused cells are 0
+-- the cells of row i of n: a stop row has no next rows; another has a choice, and a next row for each observation. Unused cells are 0
 abbrev pub LaidRow : (choices observations n : ℕ) → List ℕ → ℕ → Type 0
 LaidRow choices observations n t i =
     ((isStop t i ≡ true) × ((s : ℕ) → s < sideLimit → cell t i (1 + s) ≡ 0))
-    ⊎ ((cell t i 0 < choices) × ((s : ℕ) → s < observations → cell t i (1 + s) < n) × ((s : ℕ) → observations ≤ s → s < sideLimit → cell t i (1 + s) ≡ 0))
+    ⊎ ((cell t i 0 < choices) × ((s : ℕ) → s < observations → cell t i (1 + s) < n)
+    × ((s : ℕ) → observations ≤ s → s < sideLimit → cell t i (1 + s) ≡ 0))
 
+-- a table of n rows, and no more cells, each row so
 pub record Laid (choices observations n : ℕ) (t : List ℕ) : Type 0 where
   pub long : length t ≡ n * rowSize
   pub row : (i : ℕ) → i < n → LaidRow choices observations n t i

@@ -1,22 +1,22 @@
 -- Parts stored in three lists, one after another.
 -- Assumes nothing.
-use Prim.Native.Nat.{ℕ, suc, _+_, _<_, _≤_}
-use native.Mathlib.Nat.{add-zero, add-suc, suc-add, mod-eq-of-lt}
+use Prim.Native.Nat.{ℕ, _+_, _<_, _≤_}
+use native.Mathlib.Nat.{mod-eq-of-lt}
 use native.Mathlib.Omega.{arith}
 use mathlib.Core.Path.{_≡_, sym, ap, ap₂, _∙_}
-use mathlib.Core.List.{List, [], _∷_, _++_, map, append-assoc}
+use mathlib.Core.List.{List, _++_, map, append-assoc, map-append}
 use lib.ListN.{length, take, drop, length-map}
 use lib.Seq.{sets, sets-eq, take-at, drop-at, length-take-le}
 use Rattle.grammar.specs.Tree.{Parts, store}
 use Rattle.rules.specs.declared.formula.Op.{Op}
 use Rattle.rules.specs.Parts.{Part, byteOf, onePart}
 use Rattle.rules.specs.Memory.{storedFrom}
+use Rattle.rules.proofs.ListLaws.{sets-append}
 
 sets-parts : (f : Part → ℕ) (l : List ℕ) (i : ℕ) (ps qs : List Part)
     → sets l i (map f (ps ++ qs)) ≡ sets (sets l i (map f ps)) (i + length ps) (map f qs)
-sets-parts f l i [] qs = ap (λ k. sets l k (map f qs)) (sym (add-zero i))
-sets-parts f l i (p ∷ ps) qs =
-    sets-parts f _ (suc i) ps qs ∙ ap (λ k. sets (sets l i (map f (p ∷ ps))) k (map f qs)) (suc-add i (length ps) ∙ sym (add-suc i (length ps)))
+sets-parts f l i ps qs =
+    ap (sets l i) (map-append f ps qs) ∙ sets-append l i (map f ps) (map f qs) ∙ ap (λ k. sets (sets l i (map f ps)) (i + k) (map f qs)) (length-map ps f)
 
 pub stored-append : (ps qs : List Part) (n : ℕ) (p : Parts) → storedFrom (ps ++ qs) n p ≡ storedFrom qs (n + length ps) (storedFrom ps n p)
 stored-append ps qs n p = rw (sets-parts _ (p .ks) n ps qs, sets-parts _ (p .ls) n ps qs, sets-parts _ (p .rs) n ps qs)

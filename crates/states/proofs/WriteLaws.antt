@@ -3,16 +3,16 @@
 use Prim.Native.Nat.{ℕ, zero, suc, _+_, _<_, _≤_}
 use native.Mathlib.Nat.{add-zero}
 use native.Mathlib.Omega.{arith}
-use mathlib.Core.Path.{_≡_, refl, sym, ap, _∙_}
+use mathlib.Core.Path.{_≡_, refl, ap, _∙_}
 use mathlib.Core.List.{List, [], _∷_, _++_}
 use lib.ListN.{length, getD, set, length-set}
+use Rattle.rules.proofs.ListLaws.{sets-append}
 use lib.Seq.{sets, getD-set-same, getD-set-other}
 
 module _ {A : Type 0} where
   -- one more store at the end
   pub sets-snoc : (l : List A) (i : ℕ) (vs : List A) (a : A) → sets l i (vs ++ (a ∷ [])) ≡ set (sets l i vs) (i + length vs) a
-  sets-snoc l i [] a = ap (λ n. set l n a) (sym (add-zero i))
-  sets-snoc l i (b ∷ vs) a = sets-snoc (set l i b) (suc i) vs a ∙ ap (λ n. set (sets (set l i b) (suc i) vs) n a) (omega arith)
+  sets-snoc l i vs a = sets-append l i vs (a ∷ [])
 
   -- what is not written stays
   pub getD-sets-other : (l : List A) (i : ℕ) (vs : List A) (n : ℕ) (d : A) → ((k : ℕ) → k < length vs → i + k ≡ n → ⊥) → getD (sets l i vs) n d ≡ getD l n d

@@ -13,7 +13,8 @@ fn skip_some() -> bool {
     libc::read(STDIN_FILENO, &mut bytes) > 0
 }
 
-// Reads to the end of the input. A proved loop has to end: this one counts down from a number that no run uses up.
+// Reads the rest of the input, so that whoever writes it is not cut off. A proved loop has to end: this one counts down from a number
+// that no run uses up.
 fn skip_rest() {
     let mut turns = u64::MAX;
     while turns > 0 && skip_some() {
@@ -21,6 +22,7 @@ fn skip_rest() {
     }
 }
 
+// Writes what is answered to a problem. Its memory has the sizes asked for, so it is never refused as too short.
 fn answer(source: &[u8]) {
     let mut work = [0u8; WORK_SIZE];
     let mut table = [0u16; TABLE_SIZE];

@@ -6,12 +6,13 @@ use mathlib.Core.Path.{_≡_, refl}
 use mathlib.Core.Bool.{true}
 use borrow.Author.Needs.{needs}
 use Rattle.game.specs.Bounded.{all}
-use Rattle.cabinet.proofs.CheckLaws.{printsAt, rows-fail, rows-more, rows-pass}
+use Rattle.cabinet.specs.WellFormed.{isPrintableRow}
+use Rattle.cabinet.proofs.CheckLaws.{rows-fail, rows-more, rows-pass}
 use Rattle.cabinet.proofs.checking.are_rows.Statement.{statement}
 use Rattle.cabinet.proofs.checking.are_rows.Tie as tie
 
 abbrev Inv-loop : tie.InvT-loop
-Inv-loop table rows observed row₀ row = (row ≤ rows) × (all row (printsAt table rows observed) ≡ true)
+Inv-loop table rows observed row₀ row = (row ≤ rows) × (all row (isPrintableRow table rows observed) ≡ true)
 
 abbrev μ-loop : tie.MeasureT-loop
 μ-loop table rows observed row₀ row = rows - row

@@ -1,10 +1,9 @@
 -- `cabinet::checking::is_printable` meets its contract.
 -- Assumes nothing.
 use lib.ListN.{length}
-use mathlib.Core.Bool.{_&&_}
 use borrow.Author.Needs.{needs}
 use Rattle.game.specs.Bounded.{all}
-use Rattle.cabinet.specs.WellFormed.{isSized, isRow, isBlank, isPrintable}
+use Rattle.cabinet.specs.WellFormed.{isSized, isPrintableRow, isPrintable}
 use Rattle.cabinet.proofs.CheckLaws.{guard-fails, guard-left, guarded}
 use Rattle.cabinet.proofs.SizedLaws.{sized-says}
 use Rattle.cabinet.proofs.checking.is_printable.Statement.{statement}
@@ -18,7 +17,7 @@ unfolding isPrintable
 returns c =
     let a = c .before .before .before .args in
     guard-fails (isSized (length (a .table .now)) (a .rows) (a .observed))
-    (all (a .rows) (λ row. isRow (a .table .now) (a .rows) (a .observed) row && isBlank (a .table .now) (a .observed) row)) (a .worst) (a .rows)
+    (all (a .rows) (isPrintableRow (a .table .now) (a .rows) (a .observed))) (a .worst) (a .rows)
     _ (c .before .is-sized .ensures) (c .if1 .taken)
 
 are-rows-requires : tie.Need-are-rows-requires
@@ -33,7 +32,7 @@ unfolding isPrintable
 returns-2 c =
     let a = c .before .before .before .before .args in
     guard-left (isSized (length (a .table .now)) (a .rows) (a .observed))
-    (all (a .rows) (λ row. isRow (a .table .now) (a .rows) (a .observed) row && isBlank (a .table .now) (a .observed) row)) (a .worst) (a .rows)
+    (all (a .rows) (isPrintableRow (a .table .now) (a .rows) (a .observed))) (a .worst) (a .rows)
     _ (c .before .before .is-sized .ensures) (c .before .if1 .left) _ (c .are-rows .ensures)
 
 pub is-printable-spec : {M : Type 1} → statement M

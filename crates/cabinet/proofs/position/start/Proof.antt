@@ -24,7 +24,7 @@ use types.Run.{look, look-raw, store-raw, init, forget, stop, hop, fld, from, lo
 use types.Part.{whole, sub, look-in}
 use types.SemTy.{Body}
 use sound.WpLaws.{FmC, fmOf, WpFn-mono}
-use denote.RattleType.{RattleType, owns}
+use denote.RattleType.{owns}
 use denote.Laws.{Is, shows}
 use denote.Memory.{mem}
 use denote.Plain.{uint-vals, uint-tells, uint-makes}
@@ -46,8 +46,8 @@ use denote.Triple.Walked.{says, Stays, stay-ref, stay-none, stay-none-slice, wal
 use denote.Exit.{yes}
 use Rattle.cabinet.specs.Position.{startOf}
 use Rattle.cabinet.specs.declared.position.Position.{Position}
-use Rattle.cabinet.specs.declared.position.Answer.{Answer}
 use Rattle.cabinet.specs.declared.position.Moved.{Moved}
+use Rattle.cabinet.proofs.WalkLaws.{R, RS, RE, mach, word, position-is, answer-is}
 use Rattle.cabinet.proofs.position.Position as T
 use Rattle.cabinet.proofs.position.Position.Laws as T′
 use Rattle.cabinet.proofs.position.Answer as E
@@ -65,15 +65,6 @@ use Rattle.cabinet.proofs.position.start.Code as code
 
 abbrev Arg : Type 0
 Arg = RefT (List ℕ) × (ℕ × (ℕ × (RefT Position × Unit {0})))
-
-abbrev R : RattleType
-R = T.the-row
-
-abbrev RS : RattleType
-RS = S.the-row
-
-abbrev RE : RattleType
-RE = E.the-row
 
 abbrev stayed : Stays (f.ended .signature .params) (f.ended .kept)
 stayed = (stay-none-slice (0 ∷ []) tt (plain (λ _. u16)) yes, (stay-none (λ _. usize) yes, (stay-none (λ _. usize) yes, (stay-ref (1 ∷ []) tt (plain (λ _. T.the-row)), tt))))
@@ -94,13 +85,6 @@ module _ {M : Type 1} (𝓤 : URA M) (H : Heap 𝓤) (A : Atoms 𝓤) (W : Given
 
   abbrev at : List Val × (List Val × (List Val × (List Val × (Unit {0}))))
   at = (s ∷ [], (vint w64 n-rows ∷ [], (vint w64 n-observed ∷ [], (vptr b o ∷ [], tt))))
-
-  abbrev mach : Position → Val
-  mach p = LL.tuple-val T.the-type T′.the-laws (T.the-type .to p)
-
-  -- the machine value of an answer
-  abbrev word : Answer → Val
-  word a = EL.val E.the-type E′.the-laws a
 
   -- what the table owns
   abbrev Table : Fml
@@ -132,24 +116,17 @@ module _ {M : Type 1} (𝓤 : URA M) (H : Heap 𝓤) (A : Atoms 𝓤) (W : Given
   went : (r : Moved) → ent 𝓤 (ensured 𝓤 H A callee.ended (callee.clauses 𝓤 H A at-mem run) (κ′, tt) (t, (n-rows, (n-observed, (h, tt)))) tt r) (fact 𝓤 (r ≡ startOf ys n-rows n-observed h))
   went r = exE 𝓤 _ (λ ws. snd∗ 𝓤 (sem 𝓤 H A (lasts callee.ended (κ′, tt) (t, (n-rows, (n-observed, (h, tt)))) ws)) (fact 𝓤 (r ≡ startOf ys n-rows n-observed h)))
 
-  -- what whoever holds the result knows of its fields
-  position-is : (r : Moved) (w : Val) → Is RS r (w ∷ []) → Is R (r .position) (mach (r .position) ∷ [])
-  position-is r w is = LL.owed S.the-type S′.the-laws r (w ∷ []) is .0
-
-  answer-is : (r : Moved) (w : Val) → Is RS r (w ∷ []) → Is RE (r .answer) (word (r .answer) ∷ [])
-  answer-is r w is = LL.owed S.the-type S′.the-laws r (w ∷ []) is .1 .0
-
   module _ (C : Calls 𝓤 H) (Λ : Loops 𝓤 H) (fm : FmC 𝓤 H (W .laws) C) (known : Triple 𝓤 (C #callee) (StartFrom 𝓤 H A at-mem run)) where
     walk : Room u16 (length ys) → ent 𝓤 (onEntry 𝓤 H A f.signature (κ′, (κ, tt)) (q′, (q, tt)) x at) (WpFn 𝓤 H C Λ code.function (s ∷ vint w64 n-rows ∷ vint w64 n-observed ∷ vptr b o ∷ []) Post)
     walk room =
         qed W ((‵ (flft κ′ q′) ⊛ ‵ (flft κ q) ⊛ ‵ ftrue) ∷ ‵ (owns (ShrSlice (named 0) κ′ u16 ∷ usize ∷ usize ∷ MutRef (named 1) κ R ∷ []) x at) ∷ []) ∵ enter ! C Λ code.function (s ∷ vint w64 n-rows ∷ vint w64 n-observed ∷ vptr b o ∷ []) _ $
         alloc1 ! (λ l₀. alloc1 ! (λ l₁. alloc1 ! (λ l₂. alloc1 ! (λ l₃. alloc1 ! (λ l₄. alloc1 ! (λ l₅. alloc1 ! (λ l₆. alloc0 ! $ params1 ! $
         pass1 ! (init ! 10 refl (tt, (tt, (record { fits = room .0 }, tt)))) $ pass1 ! (init ! 8 refl (tt, record { fits = fits-rows })) $ pass1 ! (init ! 6 refl (tt, record { fits = fits-observed })) $ pass1 ! (init ! 4 refl (tt, tt)) $ pass0 ! $
-        -- what the parameters own: the table's is kept, the numbers' is let go (it is had for nothing), the place's is taken apart
+        -- what the parameters own: the table's is kept, the numbers' is let go (it is had for nothing), the position's is taken apart
         move ! (15 ∷ []) $ fsplit ! $ move ! (1 ∷ []) $ fsplit ! $ drop ! $ fsplit ! $ drop ! $ fsplit ! $ move ! (1 ∷ []) $ drop ! $ fsplit3 ! $ drop ! $
         -- [obs; the borrow; what table owns; the locals, at 3; the tokens]
         move ! (17 ∷ []) $ split ! $ move ! (1 ∷ []) $ split ! $ move ! (2 ∷ 1 ∷ []) $ join ! $
-        -- [the table's token; the place's token; obs; the borrow; what table owns; the locals]
+        -- [the table's token; the position's token; obs; the borrow; what table owns; the locals]
         move ! (2 ∷ 3 ∷ 1 ∷ []) $
         -- the borrow is opened
         opens ! tt R {h = h} b o (λ vs. spelt ! R (Is R) (shows 𝓤 H A R) (LL.vals T.the-type T′.the-laws) (LL.tells T.the-type T′.the-laws) fullShare h vs b o $
@@ -169,9 +146,9 @@ module _ {M : Type 1} (𝓤 : URA M) (H : Heap 𝓤) (A : Atoms 𝓤) (W : Given
         rewrite ! 9 (λ (u : Val). ‵ (fat fullShare S′.mir l₅ 0 u)) (ap only (LL.tells S.the-type S′.the-laws r (w ∷ []) is)) refl $
         assigns ! (of-opd ! (load ! (from ! (fld ! refl (stop !))) (look-in ! 9 (sub ! 0 refl (whole !))))) (from ! (hop ! (look ! 11 refl) (stop !))) (store-raw ! 3 refl (LL.lawful T.the-type T′.the-laws 𝓤 H A W .typed (r .position) (mach (r .position) ∷ []) (position-is r w is) .0)) $
         assigns ! (of-opd ! (load ! (from ! (fld ! refl (stop !))) (look-in ! 9 (sub ! 1 refl (whole !))))) (from ! (stop !)) (init ! 19 refl (EL.lawful E.the-type E′.the-laws 𝓤 H A W tt .typed (r .answer) (word (r .answer) ∷ []) (answer-is r w is) .0)) $
-        -- the borrow is closed at the new place
+        -- the borrow is closed at the new position
         drop ! $ owned ! R (Is R) ((LL.makes T.the-type T′.the-plain) 𝓤 H A) (r .position) (mach (r .position) ∷ []) (position-is r w is) $ move ! (3 ∷ 0 ∷ 4 ∷ 5 ∷ 6 ∷ []) $ closes ! tt R (r .position) (mach (r .position) ∷ []) b o $
-        -- [obs; the borrow; the place's token; the table's token; what table owns; the locals, at 5]
+        -- [obs; the borrow; the position's token; the table's token; what table owns; the locals, at 5]
         returns ! (look ! 17 refl) $ forget ! 5 refl $ forget ! 7 refl $ forget ! 9 refl $ forget ! 11 refl $ forget ! 13 refl $ forget ! 15 refl $ forget ! 17 refl $
         move ! (17 ∷ 18 ∷ []) $ free1 ! $ move ! (15 ∷ 16 ∷ []) $ free1 ! $ move ! (13 ∷ 14 ∷ []) $ free1 ! $ move ! (11 ∷ 12 ∷ []) $ free1 ! $ move ! (9 ∷ 10 ∷ []) $ free1 ! $ move ! (7 ∷ 8 ∷ []) $ free1 ! $ move ! (5 ∷ 6 ∷ []) $ free1 ! $ free0 ! $
         keep ! (0 ∷ 1 ∷ 2 ∷ 3 ∷ 4 ∷ []) $ by ! (exits r e (answer-is r w is)))))))))))))))

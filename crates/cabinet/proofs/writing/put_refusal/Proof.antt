@@ -23,8 +23,8 @@ place-requires c κs = search needs
 
 put-line-requires : tie.Need-put-line-requires
 put-line-requires c κs =
-    let number = c .before .number in
-    let place = c .place in
+    let number = c .before .before .before .number in
+    let place = c .before .before .place in
     omega (arith, words-fit (bytesOf "refused") (number .result) (place .result) (omega arith) (number .ok) (place .ok), c .before .before .before .before .before .pre)
 
 same-length : tie.Need-same-length
@@ -33,12 +33,12 @@ same-length c = search needs
 returns : tie.Need-returns
 returns c =
     let l = c .before .before in
-    let place = l .before .place in
-    let number = l .before .before .number in
+    let place = l .before .before .before .place in
+    let number = l .before .before .before .before .number in
     let same = ap₂ (λ a b. line (bytesOf "refused") (decimal a ∷ decimal b ∷ [])) (number .ensures) (place .ensures) in
     (l .put-line .ensures .0 ∙ ap length same, l .put-line .ensures .1 ∙ ap (λ b. putAt 0 b (l .before .before .before .before .before .before .args .text .now)) same)
 
 pub put-refusal-spec : {M : Type 1} → statement M
 put-refusal-spec =
     tie.close
-    (tie.spec slice-aggregate-put-line number-requires place-requires put-line-requires same-length returns)
+    (tie.spec number-requires place-requires slice-aggregate-put-line put-line-requires same-length returns)
