@@ -1,11 +1,11 @@
 -- The printing call, in the shape in which the code makes it.
 -- Assumes nothing.
 use Prim.Native.Nat.{ℕ, _*_, _≤_, _<_}
-use native.Mathlib.Nat.{zero-add, le-trans}
+use native.Mathlib.Nat.{le-trans}
 use mathlib.Core.Path.{_≡_, refl, sym, ap, _∙_}
 use mathlib.Core.Bool.{Bool, true, false, not}
-use mathlib.Core.List.{List, _++_}
-use lib.ListN.{length, drop}
+use mathlib.Core.List.{List}
+use lib.ListN.{length}
 use borrow.Author.Tests.{lt-ltb, le-ltb, not-true, not-false}
 use Rattle.rules.specs.Limits.{kindLimit}
 use Rattle.rules.specs.declared.refusal.Refusal.the-variants.{ShortMemory, BadTable}
@@ -16,13 +16,9 @@ use Rattle.cabinet.specs.declared.printing.Printed.the-variants.{Text, R
 use Rattle.cabinet.specs.Limits.{textSize}
 use Rattle.cabinet.specs.WellFormed.{isPrintable}
 use Rattle.cabinet.specs.Text.{tableText}
-use Rattle.cabinet.specs.Print.{putAt, printedBy, textAfter}
+use Rattle.cabinet.specs.Print.{printedBy, textAfter}
 use Rattle.cabinet.proofs.SizedLaws.{printable-says}
 use Rattle.cabinet.proofs.TextLaws.{text-fits}
-
--- bytes put from the front on
-pub put-front : (bytes text : List ℕ) → putAt 0 bytes text ≡ written bytes text
-put-front bytes text = ap (λ n. bytes ++ drop n text) (zero-add (length bytes))
 
 module _ (t : List ℕ) (rows worst observed : ℕ) (text : List ℕ) where
   -- the answer r, with the text left as `after`, is what the call promises
@@ -51,9 +47,9 @@ module _ (t : List ℕ) (rows worst observed : ℕ) (text : List ℕ) where
           let s = printable-says t rows worst observed passes .sized in
           (s .seen, (s .room, le-trans (text-fits t rows worst observed passes) h))
 
-      pub print-done : (n : ℕ) (after : List ℕ) → n ≡ length (tableText t rows worst observed) → after ≡ putAt 0 (tableText t rows worst observed) text
+      pub print-done : (n : ℕ) (after : List ℕ) → n ≡ length (tableText t rows worst observed) → after ≡ written (tableText t rows worst observed) text
           → Prints (Text n) after
       unfolding printedBy textAfter
       print-done n after p q =
           let room = le-ltb (length text) textSize h in
-          (rw (room, passes) (ap Text p), rw (room, passes) (q ∙ put-front (tableText t rows worst observed) text))
+          (rw (room, passes) (ap Text p), rw (room, passes) q)

@@ -30,9 +30,8 @@ use Rattle.cabinet.specs.declared.printing.Printed.the-variants.{Text, R
 use Rattle.cabinet.specs.Limits.{textSize}
 use Rattle.cabinet.specs.WellFormed.{isPrintable}
 use Rattle.cabinet.specs.Text.{tableText}
-use Rattle.cabinet.specs.Print.{putAt, printedBy, textAfter}
+use Rattle.cabinet.specs.Print.{printedBy, textAfter}
 use Rattle.cabinet.specs.Response.{refusalText, observedIn, response, isTight, respondedBy, responseAfter, respondedTable, respondedWork}
-use Rattle.cabinet.proofs.PrintLaws.{put-front}
 use Rattle.cabinet.proofs.ClaimedLaws.{passes}
 
 not-both : {C : Type 0} (x : Refusal) (s : Sizes) → reading.Accepted s ≡ reading.Refused x → C
@@ -113,11 +112,11 @@ module _ (source work table text : List ℕ) (e : isTight (length work) (length 
   responded r text′ p q = rw (e, long) (p, q, rows, cleared)
 
   -- the text of a refusal
-  pub refusal-right : (x : Refusal) → s ≡ solved.Refused x → (r : Printed) (text′ : List ℕ) → r ≡ Text (length (refusalText x)) → text′ ≡ putAt 0 (refusalText x) text
+  pub refusal-right : (x : Refusal) → s ≡ solved.Refused x → (r : Printed) (text′ : List ℕ) → r ≡ Text (length (refusalText x)) → text′ ≡ written (refusalText x) text
       → Responded source work table text r text′ table′ work′
   refusal-right x h r text′ p q =
       let is : response source ≡ refusalText x = response-refused source x (sym is-solved ∙ h) in
-      responded r text′ (p ∙ ap (λ l. Text (length l)) (sym is)) (q ∙ put-front (refusalText x) text ∙ ap (λ l. written l text) (sym is))
+      responded r text′ (p ∙ ap (λ l. Text (length l)) (sym is)) (q ∙ ap (λ l. written l text) (sym is))
 
   -- the text of a table: it is one that can be printed
   module _ (n r : ℕ) (h : s ≡ solved.Table n r) (claim : Claim source s table′) where

@@ -22,7 +22,7 @@ use Rattle.cabinet.specs.WellFormed.{isAnswer, isRow, isPrintable}
 use Rattle.cabinet.specs.Text.{decimal, field, line, cellFields, rowFields, rowText, rowsText, tableText}
 use Rattle.game.proofs.Bounded.{clash, and-left, or-cases}
 use Rattle.cabinet.proofs.DecimalLaws.{decimal-length}
-use Rattle.cabinet.proofs.PutLaws.{Put, Rest, rest-all, rest-next}
+use Rattle.cabinet.proofs.PutLaws.{Put, Rest, Parts, rest-all, rest-next}
 use Rattle.cabinet.proofs.SizedLaws.{printable-says}
 use Rattle.cabinet.proofs.CheckLaws.{side-le, stops, moves, row-next}
 
@@ -88,14 +88,22 @@ unfolding flatMap
 line-parts word d fs =
     append-assoc word (field d ++ flatMap field fs) (10 ∷ []) ∙ ap (λ l. word ++ l) (append-assoc (field d) (flatMap field fs) (10 ∷ []))
 
-pub row-parts : (t : List ℕ) (observed row : ℕ)
+row-parts : (t : List ℕ) (observed row : ℕ)
     → rowText t observed row ≡ bytesOf "row" ++ (field (decimal row) ++ (flatMap field (rowFields t observed row) ++ (10 ∷ [])))
 row-parts t observed row = line-parts (bytesOf "row") (decimal row) (rowFields t observed row)
 
-pub two-parts : (word : List ℕ) (a b : ℕ) → line word (decimal a ∷ decimal b ∷ []) ≡ word ++ (field (decimal a) ++ (field (decimal b) ++ (10 ∷ [])))
+pub row-puts : (t : List ℕ) (observed row at : ℕ) (x : List ℕ) → at + length (rowText t observed row) ≤ length x
+    → Parts at (rowText t observed row) x (bytesOf "row") (field (decimal row)) (flatMap field (rowFields t observed row)) (10 ∷ [])
+row-puts t observed row at x h = record { room = h; are = row-parts t observed row }
+
+two-parts : (word : List ℕ) (a b : ℕ) → line word (decimal a ∷ decimal b ∷ []) ≡ word ++ (field (decimal a) ++ (field (decimal b) ++ (10 ∷ [])))
 unfolding flatMap
 two-parts word a b =
     line-parts word (decimal a) (decimal b ∷ []) ∙ ap (λ l. word ++ (field (decimal a) ++ (l ++ (10 ∷ [])))) (append-nil (field (decimal b)))
+
+pub two-puts : (word : List ℕ) (a b : ℕ) (x : List ℕ) → length (line word (decimal a ∷ decimal b ∷ [])) ≤ length x
+    → Parts 0 (line word (decimal a ∷ decimal b ∷ [])) x word (field (decimal a)) (field (decimal b)) (10 ∷ [])
+two-puts word a b x h = record { room = omega arith; are = two-parts word a b }
 
 -- ---- how long they can be
 

@@ -1,10 +1,10 @@
 -- What the printing call answers, and what it leaves in the lent text.
 -- Assumes nothing.
-use Prim.Native.Nat.{ℕ, _+_}
+use Prim.Native.Nat.{ℕ}
 use mathlib.Core.Bool.{cond}
-use mathlib.Core.List.{List, _++_}
+use mathlib.Core.List.{List}
 use lib.Dec.{ltb}
-use lib.ListN.{length, take, drop}
+use lib.ListN.{length}
 use Rattle.rules.specs.declared.refusal.Refusal.the-variants.{ShortMemory, BadTable}
 use Rattle.game.specs.Claim.{written}
 use Rattle.cabinet.specs.declared.printing.Printed.{Printed}
@@ -12,10 +12,6 @@ use Rattle.cabinet.specs.declared.printing.Printed.the-variants.{Text, R
 use Rattle.cabinet.specs.Limits.{textSize}
 use Rattle.cabinet.specs.WellFormed.{isPrintable}
 use Rattle.cabinet.specs.Text.{tableText}
-
--- bytes put into a text from a place on
-abbrev pub putAt : ℕ → List ℕ → List ℕ → List ℕ
-putAt at bytes text = take at text ++ bytes ++ drop (at + length bytes) text
 
 -- the text's length; 12 is tested before 13
 unfoldable pub printedBy : List ℕ → ℕ → ℕ → ℕ → ℕ → Printed

@@ -1,6 +1,6 @@
 // A running cabinet: the position, and the calls that start it and step it, by value and on a position that is lent.
 ghost use mathlib.Core.Path.{_≡_};
-ghost use Prim.Native.Nat.{_+_, _*_, _<_};
+ghost use Prim.Native.Nat.{_*_, _<_};
 ghost use lib.ListN.{length};
 ghost use Rattle.game.specs.Limits.{rowSize};
 ghost use Rattle.cabinet.specs.Position.{moveTo, refusedAt, isStanding, startOf, stepOf};

@@ -1,13 +1,15 @@
-// The text of a table, put into lent bytes from a place on. Each function answers the place behind what it has put.
+// The text of a table, put into lent bytes from a place on (`sets` stores bytes one after another). Each function answers the place
+// behind what it has put.
 ghost use mathlib.Core.Path.{_≡_};
 ghost use mathlib.Core.List.{[], _∷_, flatMap};
 ghost use Prim.Native.Nat.{_+_, _*_, _≤_, _<_};
 ghost use lib.ListN.{length};
+ghost use lib.Seq.{sets};
 ghost use Rattle.rules.specs.Limits.{kindLimit};
 ghost use Rattle.game.specs.Limits.{rowSize};
+ghost use Rattle.game.specs.Claim.{written};
 ghost use Rattle.cabinet.specs.Limits.{textSize};
 ghost use Rattle.cabinet.specs.Text.{decimal, field, line, cellFields, rowFields, rowText, rowsText, tableText};
-ghost use Rattle.cabinet.specs.Print.{putAt};
 ghost use Rattle.cabinet.specs.Response.{refusalText};
 use crate::sizes::LINE_END;
 use crate::sizes::TAB;
@@ -21,7 +23,7 @@ use rules::place;
 fn put_byte(text: &mut [u8], at: usize, b: u8) -> usize
     requires { ⌜ at < length (now text) ⌝ }
     ensures { λ r. ⌜ r ≡ at + 1 ⌝ }
-    ensures { λ _. ⌜ now (text .exit) ≡ putAt at (b ∷ []) (now (text .entry)) ⌝ }
+    ensures { λ _. ⌜ now (text .exit) ≡ sets (now (text .entry)) at (b ∷ []) ⌝ }
 {
     text[at] = b;
     at + 1
@@ -31,7 +33,7 @@ fn put_byte(text: &mut [u8], at: usize, b: u8) -> usize
 fn put_bytes(text: &mut [u8], at: usize, bytes: &[u8]) -> usize
     requires { ⌜ at + length (now bytes) ≤ length (now text) ⌝ }
     ensures { λ r. ⌜ r ≡ at + length (now (bytes .entry)) ⌝ }
-    ensures { λ _. ⌜ now (text .exit) ≡ putAt at (now (bytes .entry)) (now (text .entry)) ⌝ }
+    ensures { λ _. ⌜ now (text .exit) ≡ sets (now (text .entry)) at (now (bytes .entry)) ⌝ }
 {
     let mut i = 0;
     while i < bytes.len() {
@@ -45,7 +47,7 @@ fn put_bytes(text: &mut [u8], at: usize, bytes: &[u8]) -> usize
 fn put_decimal(text: &mut [u8], at: usize, n: usize) -> usize
     requires { ⌜ at + length (decimal n) ≤ length (now text) ⌝ }
     ensures { λ r. ⌜ r ≡ at + length (decimal n) ⌝ }
-    ensures { λ _. ⌜ now (text .exit) ≡ putAt at (decimal n) (now (text .entry)) ⌝ }
+    ensures { λ _. ⌜ now (text .exit) ≡ sets (now (text .entry)) at (decimal n) ⌝ }
 {
     if n < 10 {
         return put_byte(text, at, 48 + n as u8);
@@ -58,7 +60,7 @@ fn put_decimal(text: &mut [u8], at: usize, n: usize) -> usize
 fn put_field(text: &mut [u8], at: usize, n: usize) -> usize
     requires { ⌜ at + length (field (decimal n)) ≤ length (now text) ⌝ }
     ensures { λ r. ⌜ r ≡ at + length (field (decimal n)) ⌝ }
-    ensures { λ _. ⌜ now (text .exit) ≡ putAt at (field (decimal n)) (now (text .entry)) ⌝ }
+    ensures { λ _. ⌜ now (text .exit) ≡ sets (now (text .entry)) at (field (decimal n)) ⌝ }
 {
     let from = put_byte(text, at, TAB);
     put_decimal(text, from, n)
@@ -70,7 +72,7 @@ fn put_cells(text: &mut [u8], at: usize, table: &[u16], row: usize, n: usize) ->
     requires { ⌜ row * rowSize + rowSize ≤ length (now table) ⌝ }
     requires { ⌜ at + length (flatMap field (cellFields (now table) row n)) ≤ length (now text) ⌝ }
     ensures { λ r. ⌜ r ≡ at + length (flatMap field (cellFields (now (table .entry)) row n)) ⌝ }
-    ensures { λ _. ⌜ now (text .exit) ≡ putAt at (flatMap field (cellFields (now (table .entry)) row n)) (now (text .entry)) ⌝ }
+    ensures { λ _. ⌜ now (text .exit) ≡ sets (now (text .entry)) at (flatMap field (cellFields (now (table .entry)) row n)) ⌝ }
 {
     let mut end = at;
     let mut i = 0;
@@ -87,7 +89,7 @@ fn put_moves(text: &mut [u8], at: usize, table: &[u16], observed: usize, row: us
     requires { ⌜ row * rowSize + rowSize ≤ length (now table) ⌝ }
     requires { ⌜ at + length (flatMap field (rowFields (now table) observed row)) ≤ length (now text) ⌝ }
     ensures { λ r. ⌜ r ≡ at + length (flatMap field (rowFields (now (table .entry)) observed row)) ⌝ }
-    ensures { λ _. ⌜ now (text .exit) ≡ putAt at (flatMap field (rowFields (now (table .entry)) observed row)) (now (text .entry)) ⌝ }
+    ensures { λ _. ⌜ now (text .exit) ≡ sets (now (text .entry)) at (flatMap field (rowFields (now (table .entry)) observed row)) ⌝ }
 {
     if table[row * ROW] == STOP {
         return put_bytes(text, at, b"\tstop");
@@ -101,7 +103,7 @@ fn put_row(text: &mut [u8], at: usize, table: &[u16], observed: usize, row: usiz
     requires { ⌜ row * rowSize + rowSize ≤ length (now table) ⌝ }
     requires { ⌜ at + length (rowText (now table) observed row) ≤ length (now text) ⌝ }
     ensures { λ r. ⌜ r ≡ at + length (rowText (now (table .entry)) observed row) ⌝ }
-    ensures { λ _. ⌜ now (text .exit) ≡ putAt at (rowText (now (table .entry)) observed row) (now (text .entry)) ⌝ }
+    ensures { λ _. ⌜ now (text .exit) ≡ sets (now (text .entry)) at (rowText (now (table .entry)) observed row) ⌝ }
 {
     let word = put_bytes(text, at, b"row");
     let number = put_field(text, word, row);
@@ -115,7 +117,7 @@ fn put_rows(text: &mut [u8], at: usize, table: &[u16], rows: usize, observed: us
     requires { ⌜ rows * rowSize ≤ length (now table) ⌝ }
     requires { ⌜ at + length (rowsText (now table) observed rows) ≤ length (now text) ⌝ }
     ensures { λ r. ⌜ r ≡ at + length (rowsText (now (table .entry)) observed rows) ⌝ }
-    ensures { λ _. ⌜ now (text .exit) ≡ putAt at (rowsText (now (table .entry)) observed rows) (now (text .entry)) ⌝ }
+    ensures { λ _. ⌜ now (text .exit) ≡ sets (now (text .entry)) at (rowsText (now (table .entry)) observed rows) ⌝ }
 {
     let mut end = at;
     let mut row = 0;
@@ -130,7 +132,7 @@ fn put_rows(text: &mut [u8], at: usize, table: &[u16], rows: usize, observed: us
 fn put_line(text: &mut [u8], word: &[u8], a: usize, b: usize) -> usize
     requires { ⌜ length (line (now word) (decimal a ∷ decimal b ∷ [])) ≤ length (now text) ⌝ }
     ensures { λ r. ⌜ r ≡ length (line (now (word .entry)) (decimal a ∷ decimal b ∷ [])) ⌝ }
-    ensures { λ _. ⌜ now (text .exit) ≡ putAt 0 (line (now (word .entry)) (decimal a ∷ decimal b ∷ [])) (now (text .entry)) ⌝ }
+    ensures { λ _. ⌜ now (text .exit) ≡ sets (now (text .entry)) 0 (line (now (word .entry)) (decimal a ∷ decimal b ∷ [])) ⌝ }
 {
     let first = put_bytes(text, 0, word);
     let second = put_field(text, first, a);
@@ -150,7 +152,7 @@ pub fn put_table(
     requires { ⌜ rows * rowSize ≤ length (now table) ⌝ }
     requires { ⌜ length (tableText (now table) rows worst observed) ≤ length (now text) ⌝ }
     ensures { λ r. ⌜ r ≡ length (tableText (now (table .entry)) rows worst observed) ⌝ }
-    ensures { λ _. ⌜ now (text .exit) ≡ putAt 0 (tableText (now (table .entry)) rows worst observed) (now (text .entry)) ⌝ }
+    ensures { λ _. ⌜ now (text .exit) ≡ written (tableText (now (table .entry)) rows worst observed) (now (text .entry)) ⌝ }
 {
     let head = put_line(text, b"table", rows, worst);
     put_rows(text, head, table, rows, observed)
@@ -160,7 +162,7 @@ pub fn put_table(
 pub fn put_refusal(text: &mut [u8], r: Refusal) -> usize
     requires { ⌜ textSize ≤ length (now text) ⌝ }
     ensures { λ n. ⌜ n ≡ length (refusalText r) ⌝ }
-    ensures { λ _. ⌜ now (text .exit) ≡ putAt 0 (refusalText r) (now (text .entry)) ⌝ }
+    ensures { λ _. ⌜ now (text .exit) ≡ written (refusalText r) (now (text .entry)) ⌝ }
 {
     let n = number(r);
     let p = place(r);

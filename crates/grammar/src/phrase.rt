@@ -1,6 +1,6 @@
 // the phrases of a formula, read by a cycle of functions, one for each level of the grammar, and written as parts.
 ghost use mathlib.Core.Path.{_≡_};
-ghost use Prim.Native.Nat.{ℕ, _+_, _%_, _^_, _<_};
+ghost use Prim.Native.Nat.{_+_, _%_, _^_, _<_};
 ghost use lib.ListN.{length, set};
 ghost use Rattle.grammar.specs.Tree.{lists, store};
 ghost use Rattle.grammar.specs.Grammar.{ltlf, isOp, isPre, isLeaf};

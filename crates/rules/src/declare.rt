@@ -1,6 +1,6 @@
 // A line that declares a signal.
 ghost use mathlib.Core.Path.{_≡_};
-ghost use Prim.Native.Nat.{ℕ, _≤_, _+_};
+ghost use Prim.Native.Nat.{_≤_};
 ghost use lib.ListN.{length};
 ghost use Rattle.grammar.specs.Bytes.{between};
 ghost use Rattle.grammar.specs.Names.{Spans};

@@ -1,6 +1,6 @@
 // Reading a problem line by line.
 ghost use mathlib.Core.Path.{_≡_};
-ghost use Prim.Native.Nat.{ℕ, _≤_, _+_};
+ghost use Prim.Native.Nat.{_≤_};
 ghost use lib.ListN.{length};
 ghost use Rattle.grammar.specs.Tree.{lists};
 ghost use Rattle.rules.specs.Limits.{sourceLimit, partLimit};

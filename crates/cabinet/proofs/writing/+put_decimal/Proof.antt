@@ -34,12 +34,12 @@ put-decimal-told t = (put-byte-reads.Asked, put-byte-reads.Learnt, put-decimal-b
 put-decimal-put-byte-requires : (t : ℕ) → put-decimal-lts.Need-put-byte-requires (put-decimal-told t) (put-decimal-at t) put-decimal.Post
 put-decimal-put-byte-requires t c κs =
     let s = c .before .before .before in
-    omega (arith, ap length (decimal-small (s .args .n) (c .before .if1 .taken)), s .pre .1)
+    omega (arith, ap length (decimal-small (s .args .n) (omega (arith, c .before .if1 .taken))), s .pre .1)
 
 put-decimal-returns : (t : ℕ) → put-decimal-lts.Need-returns (put-decimal-told t) (put-decimal-at t) put-decimal.Post
 put-decimal-returns t c =
     let a = c .before .before .before .before .before .before .args in
-    put-same (a .at) _ _ (a .text .now) (decimal-small (a .n) (c .before .before .before .before .if1 .taken)) _ _ (c .before .before .put-byte .ensures)
+    put-same (a .at) _ _ (a .text .now) (decimal-small (a .n) (omega (arith, c .before .before .before .before .if1 .taken))) _ _ (c .before .before .put-byte .ensures)
 
 put-decimal-put-decimal-requires : (t : ℕ) → put-decimal-lts.Need-put-decimal-requires (put-decimal-told t) (put-decimal-at t) put-decimal.Post
 put-decimal-put-decimal-requires t c κs =

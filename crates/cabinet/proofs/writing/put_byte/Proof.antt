@@ -2,7 +2,6 @@
 -- Assumes nothing.
 use mathlib.Core.Path.{refl}
 use borrow.Author.Needs.{needs}
-use Rattle.cabinet.proofs.PutLaws.{put-one}
 use Rattle.cabinet.proofs.writing.put_byte.Statement.{statement}
 use Rattle.cabinet.proofs.writing.put_byte.Tie as tie
 
@@ -16,7 +15,7 @@ same-length : tie.Need-same-length
 same-length c = search needs
 
 returns : tie.Need-returns
-returns c = (refl, put-one (c .args .at) (c .args .b) (c .args .text .now) (c .pre))
+returns c = (refl, refl)
 
 pub put-byte-spec : {M : Type 1} → statement M
 put-byte-spec = tie.close (tie.spec slice-write-text add-result same-length returns)

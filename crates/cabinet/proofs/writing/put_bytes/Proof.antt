@@ -51,7 +51,7 @@ returns : tie.Need-returns Inv-loop μ-loop
 returns c =
     let l = c .before .loop in
     let a = c .before .before .args in
-    paste-all (a .text .now) (a .at) (a .bytes .now) (l .i) (omega arith) _ (l .inv .2)
+    paste-all (a .text .now) (a .at) (a .bytes .now) (l .i) (c .before .before .pre) (omega arith) _ (l .inv .2)
 
 pub put-bytes-spec : {M : Type 1} → statement M
 put-bytes-spec =

@@ -25,7 +25,7 @@ loop-holds : tie.Need-loop-holds Inv-loop μ-loop
 unfolding flatMap
 loop-holds c =
     let s = c .before .before in
-    (omega arith, refl, put-none (s .args .at) (s .args .text .now) (omega (arith, s .pre .1 .1)))
+    (omega arith, refl, put-none (s .args .at) (s .args .text .now))
 
 mul-put-field : tie.Need-mul-put-field Inv-loop μ-loop
 mul-put-field c = search needs

@@ -7,7 +7,8 @@ use lib.ListN.{length}
 use borrow.Author.Needs.{needs}
 use Rattle.grammar.specs.Bytes.{bytesOf}
 use Rattle.cabinet.specs.Text.{decimal, line}
-use Rattle.cabinet.specs.Print.{putAt}
+use Rattle.game.specs.Claim.{written}
+use Rattle.cabinet.proofs.PutLaws.{put-front}
 use Rattle.cabinet.proofs.TextLaws.{words-fit}
 use Rattle.cabinet.proofs.writing.put_refusal.Statement.{statement}
 use Rattle.cabinet.proofs.writing.put_refusal.Tie as tie
@@ -36,7 +37,11 @@ returns c =
     let place = l .before .before .before .place in
     let number = l .before .before .before .before .number in
     let same = ap₂ (λ a b. line (bytesOf "refused") (decimal a ∷ decimal b ∷ [])) (number .ensures) (place .ensures) in
-    (l .put-line .ensures .0 ∙ ap length same, l .put-line .ensures .1 ∙ ap (λ b. putAt 0 b (l .before .before .before .before .before .before .args .text .now)) same)
+    let s = l .before .before .before .before .before .before in
+    let fits = words-fit (bytesOf "refused") (number .result) (place .result) (omega arith) (number .ok) (place .ok) in (
+      l .put-line .ensures .0 ∙ ap length same,
+      l .put-line .ensures .1 ∙ put-front (line (bytesOf "refused") (decimal (number .result) ∷ decimal (place .result) ∷ [])) (s .args .text .now) (omega (arith, fits, s .pre)) ∙ ap (λ b. written b (s .args .text .now)) same,
+    )
 
 pub put-refusal-spec : {M : Type 1} → statement M
 put-refusal-spec =

@@ -1,12 +1,9 @@
--- `cabinet::writing::put_row` meets its contract: the word, the number, the moves and the end (places w, n, m) leave less and less to put.
+-- `cabinet::writing::put_row` meets its contract: the word, the number, the moves and the end (places w, n, m) are its four parts.
 -- Assumes nothing.
 use native.Mathlib.Omega.{arith}
-use mathlib.Core.List.{[], _∷_, flatMap}
 use borrow.Author.Needs.{needs}
-use Rattle.grammar.specs.Bytes.{bytesOf}
-use Rattle.cabinet.specs.Text.{decimal, field, rowFields}
-use Rattle.cabinet.proofs.PutLaws.{rest-all, rest-room, rest-next}
-use Rattle.cabinet.proofs.TextLaws.{row-parts}
+use Rattle.cabinet.proofs.PutLaws.{room-1, room-2, room-3, room-4, put-4}
+use Rattle.cabinet.proofs.TextLaws.{row-puts}
 use Rattle.cabinet.proofs.writing.put_row.Statement.{statement}
 use Rattle.cabinet.proofs.writing.put_row.Tie as tie
 
@@ -17,17 +14,14 @@ put-bytes-requires : tie.Need-put-bytes-requires
 put-bytes-requires c κs =
     let s = c .before .before .before .before in
     let a = s .args in
-    let r = rest-all (a .at) _ (a .text .now) (s .pre .1 .1) _ (row-parts (a .table .now) (a .observed) (a .row)) in
-    rest-room (bytesOf "row") _ r
+    room-1 (row-puts (a .table .now) (a .observed) (a .row) (a .at) (a .text .now) (s .pre .1 .1))
 
 put-field-requires : tie.Need-put-field-requires
 put-field-requires c κs =
     let w = c .before .before .before in
     let s = w .before .before .before .before .before in
     let a = s .args in
-    let r = rest-all (a .at) _ (a .text .now) (s .pre .1 .1) _ (row-parts (a .table .now) (a .observed) (a .row)) in
-    let r₁ = rest-next (bytesOf "row") _ r (w .put-bytes .ensures) in
-    rest-room (field (decimal (a .row))) _ r₁
+    room-2 (row-puts (a .table .now) (a .observed) (a .row) (a .at) (a .text .now) (s .pre .1 .1)) (w .put-bytes .ensures)
 
 put-moves-requires : tie.Need-put-moves-requires
 put-moves-requires c κs =
@@ -35,10 +29,7 @@ put-moves-requires c κs =
     let w = n .before .before .before .before in
     let s = w .before .before .before .before .before in
     let a = s .args in
-    let r = rest-all (a .at) _ (a .text .now) (s .pre .1 .1) _ (row-parts (a .table .now) (a .observed) (a .row)) in
-    let r₁ = rest-next (bytesOf "row") _ r (w .put-bytes .ensures) in
-    let r₂ = rest-next (field (decimal (a .row))) _ r₁ (n .put-field .ensures) in
-    (s .pre .0, (s .pre .1 .0, rest-room (flatMap field (rowFields (a .table .now) (a .observed) (a .row))) (10 ∷ []) r₂))
+    (s .pre .0, (s .pre .1 .0, room-3 (row-puts (a .table .now) (a .observed) (a .row) (a .at) (a .text .now) (s .pre .1 .1)) (w .put-bytes .ensures) (n .put-field .ensures)))
 
 put-byte-requires : tie.Need-put-byte-requires
 put-byte-requires c κs =
@@ -47,11 +38,10 @@ put-byte-requires c κs =
     let w = n .before .before .before .before in
     let s = w .before .before .before .before .before in
     let a = s .args in
-    let r = rest-all (a .at) _ (a .text .now) (s .pre .1 .1) _ (row-parts (a .table .now) (a .observed) (a .row)) in
-    let r₁ = rest-next (bytesOf "row") _ r (w .put-bytes .ensures) in
-    let r₂ = rest-next (field (decimal (a .row))) _ r₁ (n .put-field .ensures) in
-    let r₃ = rest-next (flatMap field (rowFields (a .table .now) (a .observed) (a .row))) (10 ∷ []) r₂ (m .put-moves .ensures) in
-    omega (arith, r₃ .room)
+    omega (
+      arith,
+      room-4 (row-puts (a .table .now) (a .observed) (a .row) (a .at) (a .text .now) (s .pre .1 .1)) (w .put-bytes .ensures) (n .put-field .ensures) (m .put-moves .ensures),
+    )
 
 same-length : tie.Need-same-length
 same-length c = search needs
@@ -63,11 +53,8 @@ returns c =
     let w = n .before .before .before .before in
     let s = w .before .before .before .before .before in
     let a = s .args in
-    let r = rest-all (a .at) _ (a .text .now) (s .pre .1 .1) _ (row-parts (a .table .now) (a .observed) (a .row)) in
-    let r₁ = rest-next (bytesOf "row") _ r (w .put-bytes .ensures) in
-    let r₂ = rest-next (field (decimal (a .row))) _ r₁ (n .put-field .ensures) in
-    let r₃ = rest-next (flatMap field (rowFields (a .table .now) (a .observed) (a .row))) (10 ∷ []) r₂ (m .put-moves .ensures) in
-    r₃ .puts _ _ (c .before .before .put-byte .ensures)
+    put-4 (row-puts (a .table .now) (a .observed) (a .row) (a .at) (a .text .now) (s .pre .1 .1)) (w .put-bytes .ensures) (n .put-field .ensures) (m .put-moves .ensures)
+    (c .before .before .put-byte .ensures)
 
 pub put-row-spec : {M : Type 1} → statement M
 put-row-spec =

@@ -22,7 +22,7 @@ loop-holds : tie.Need-loop-holds Inv-loop μ-loop
 unfolding flatMap
 loop-holds c =
     let s = c .before .before in
-    (omega arith, refl, put-none (s .args .at) (s .args .text .now) (omega (arith, s .pre .1 .1)))
+    (omega arith, refl, put-none (s .args .at) (s .args .text .now))
 
 put-row-requires : tie.Need-put-row-requires Inv-loop μ-loop
 put-row-requires c κs =

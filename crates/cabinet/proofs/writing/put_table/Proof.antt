@@ -7,8 +7,8 @@ use mathlib.Core.List.{[], _∷_, _++_}
 use lib.ListN.{length-append}
 use borrow.Author.Needs.{needs}
 use Rattle.grammar.specs.Bytes.{bytesOf}
-use Rattle.cabinet.specs.Text.{decimal, line, rowsText}
-use Rattle.cabinet.proofs.PutLaws.{rest-all, rest-next}
+use Rattle.cabinet.specs.Text.{decimal, line, rowsText, tableText}
+use Rattle.cabinet.proofs.PutLaws.{rest-all, rest-next, put-front}
 use Rattle.cabinet.proofs.writing.put_table.Statement.{statement}
 use Rattle.cabinet.proofs.writing.put_table.Tie as tie
 
@@ -44,7 +44,8 @@ returns c =
     let r = rest-all 0 _ (a .text .now) (omega (arith, s .pre .1 .1)) (head ++ rowsText (a .table .now) (a .observed) (a .rows)) refl in
     let r₁ = rest-next head _ r (l .put-line .ensures .0 ∙ sym (zero-add _), l .put-line .ensures .1) in
     let p = r₁ .puts _ _ (c .before .before .put-rows .ensures) in
-    (p .0 ∙ zero-add _, p .1)
+    let n = p .0 ∙ zero-add _ in
+    (n, p .1 ∙ put-front (tableText (a .table .now) (a .rows) (a .worst) (a .observed)) (a .text .now) (s .pre .1 .1))
 
 pub put-table-spec : {M : Type 1} → statement M
 put-table-spec =
