@@ -3,25 +3,21 @@ use Prim.Native.Nat.{ℕ, _*_, _≤_}
 use mathlib.Core.Path.{_≡_}
 use mathlib.Core.List.{List}
 use lib.ListN.{length, take}
-use Rattle.grammar.specs.Bytes.{bytesOf}
 use Rattle.rules.specs.Denotes.{Denotes}
 use Rattle.rules.specs.Problem.{Problem}
 use Rattle.game.specs.declared.solving.Solved.the-variants.{Table}
-use Rattle.game.specs.Limits.{rowSize}
-use Rattle.game.specs.Game.{Play}
-use Rattle.game.specs.Table.{tableStrategy}
+use Rattle.play.specs.Limits.{rowSize}
+use Rattle.play.specs.Game.{Play}
+use Rattle.play.specs.Table.{tableStrategy}
 use Rattle.game.specs.Solution.{gameOf}
 use Rattle.game.specs.Claim.{Claim}
-use Rattle.game.proofs.Examples.{sourceB}
 use Rattle.cabinet.specs.declared.position.Position.{Position}
 use Rattle.cabinet.specs.declared.printing.Printed.the-variants.{Text}
-use Rattle.cabinet.specs.Limits.{textSize}
-use Rattle.cabinet.specs.Text.{tableText}
+use Rattle.printer.specs.Limits.{textSize}
+use Rattle.printer.specs.Text.{tableText}
 use Rattle.cabinet.specs.Print.{printedBy}
-use Rattle.cabinet.specs.Response.{response}
 use Rattle.cabinet.specs.Running.{answerTo, Runs}
-use Rattle.cabinet.proofs.ClaimedLaws
-use Rattle.cabinet.proofs.Examples
+use Rattle.cabinet.proofs.ClaimedTable
 
 -- of a table that the solver gives (`Claim` is what its contract says of it), for the problem p that the text denotes
 module _ (source : List ℕ) (n r : ℕ) (table : List ℕ) (claim : Claim source (Table n r) table) (p : Problem) (denotes : Denotes source p) where
@@ -29,13 +25,9 @@ module _ (source : List ℕ) (n r : ℕ) (table : List ℕ) (claim : Claim sourc
   -- strategy's choices, is refused nothing, and stops within the worst case with the formula true of the trace
   pub running : (old : Position) (play : Play (gameOf p))
       → Runs (gameOf p) (tableStrategy (take (n * rowSize) table)) r (answerTo table n (p .signals .observed) old) play
-  running = ClaimedLaws.running source n r table claim p denotes
+  running = ClaimedTable.running source n r table claim p denotes
 
   -- printing it into enough room is never refused
   pub printing : (room : ℕ) → textSize ≤ room
       → printedBy table n r (p .signals .observed) room ≡ Text (length (tableText table n r (p .signals .observed)))
-  printing = ClaimedLaws.printing source n r table claim p denotes
-
--- example B, from the problem's bytes to those that are written
-pub example-B : response (bytesOf sourceB) ≡ bytesOf "table\t3\t2\nrow\t0\t0\t1\t2\nrow\t1\tstop\nrow\t2\t1\t1\t1\n"
-example-B = Examples.text-B
+  printing = ClaimedTable.printing source n r table claim p denotes

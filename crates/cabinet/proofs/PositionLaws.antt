@@ -9,18 +9,17 @@ use mathlib.Core.List.{List}
 use lib.Dec.{eqb, ltb}
 use lib.ListN.{length, getD}
 use borrow.Author.Tests.{ltb-true, lt-ltb, le-ltb, eq-eqb, ne-eqb, not-true, not-false}
-use Rattle.rules.specs.declared.refusal.Refusal.the-variants.{BadTable, Stopped, BadObservation}
-use Rattle.states.proofs.BitLaws.{shl-one}
-use Rattle.game.specs.Limits.{beliefLimit, sideLimit, rowSize, stopCell}
-use Rattle.game.specs.Table.{cell, isStop}
-use Rattle.game.proofs.Bounded.{and-left, and-right}
+use Rattle.lines.specs.declared.refusal.Refusal.the-variants.{BadTable, Stopped, BadObservation}
+use Rattle.basics.proofs.BitsLaws.{shl-one}
+use Rattle.play.specs.Limits.{beliefLimit, sideLimit, rowSize, stopCell}
+use Rattle.play.specs.Table.{cell, isStop}
+use Rattle.basics.proofs.Booleans.{and-left, and-right}
 use Rattle.cabinet.specs.declared.position.Position.{Position}
 use Rattle.cabinet.specs.declared.position.Answer.the-variants.{Choice, Stop}
 use Rattle.cabinet.specs.declared.position.Moved.{Moved}
-use Rattle.cabinet.specs.WellFormed.{isSized, isRow}
+use Rattle.printer.specs.WellFormed.{isSized, isRow}
 use Rattle.cabinet.specs.Position.{moveTo, refusedAt, isStanding, startOf, stepOf}
-use Rattle.cabinet.proofs.SizedLaws.{Sized, sized-says}
-use Rattle.cabinet.proofs.CheckLaws.{side-le, first-cell, next-cell, stops, moves, row-next}
+use Rattle.printer.proofs.WellFormedLaws.{Sized, sized-says, side-le, first-cell, next-cell, stops, moves, row-next}
 
 -- ---- on a row
 

@@ -7,18 +7,18 @@ use mathlib.Core.Bool.{Bool, true, false, not}
 use mathlib.Core.List.{List}
 use lib.ListN.{length}
 use borrow.Author.Tests.{lt-ltb, le-ltb, not-true, not-false}
-use Rattle.rules.specs.Limits.{kindLimit}
-use Rattle.rules.specs.declared.refusal.Refusal.the-variants.{ShortMemory, BadTable}
-use Rattle.game.specs.Limits.{rowSize}
-use Rattle.game.specs.Claim.{written}
+use Rattle.lines.specs.Limits.{kindLimit}
+use Rattle.lines.specs.declared.refusal.Refusal.the-variants.{ShortMemory, BadTable}
+use Rattle.play.specs.Limits.{rowSize}
+use Rattle.basics.specs.Lists.{written}
 use Rattle.cabinet.specs.declared.printing.Printed.{Printed}
 use Rattle.cabinet.specs.declared.printing.Printed.the-variants.{Text, Refused}
-use Rattle.cabinet.specs.Limits.{textSize}
-use Rattle.cabinet.specs.WellFormed.{isPrintable}
-use Rattle.cabinet.specs.Text.{tableText}
+use Rattle.printer.specs.Limits.{textSize}
+use Rattle.printer.specs.WellFormed.{isPrintable}
+use Rattle.printer.specs.Text.{tableText}
 use Rattle.cabinet.specs.Print.{printedBy, textAfter}
-use Rattle.cabinet.proofs.SizedLaws.{printable-says}
-use Rattle.cabinet.proofs.TextLaws.{text-fits}
+use Rattle.printer.proofs.WellFormedLaws.{printable-says}
+use Rattle.printer.proofs.TextLaws.{text-fits}
 
 module _ (t : List ℕ) (rows worst observed : ℕ) (text : List ℕ) where
   -- the answer r, with the text left as `after`, is what the call promises

@@ -10,29 +10,31 @@ use lib.Dec.{ltb}
 use lib.ListN.{length, take, drop, length-take, length-append}
 use lib.Seq.{take-take, take-at}
 use borrow.Author.Tests.{ltb-false}
-use Rattle.rules.specs.declared.problem.Sizes.{Sizes}
-use Rattle.rules.specs.declared.problem.Reading.{Reading}
-use Rattle.rules.specs.declared.problem.Reading.the-variants as reading
-use Rattle.rules.specs.declared.refusal.Refusal.{Refusal}
-use Rattle.rules.specs.declared.refusal.Refusal.the-variants.{ShortMemory}
-use Rattle.rules.specs.Memory.{readingOf}
+use Rattle.lines.specs.declared.problem.Sizes.{Sizes}
+use Rattle.lines.specs.declared.problem.Reading.{Reading}
+use Rattle.lines.specs.declared.problem.Reading.the-variants as reading
+use Rattle.lines.specs.declared.refusal.Refusal.{Refusal}
+use Rattle.lines.specs.declared.refusal.Refusal.the-variants.{ShortMemory}
+use Rattle.rules.specs.Reading.{readingOf}
 use Rattle.rules.specs.Problem.{Problem, Outcome, accepted, refused, readProblem}
-use Rattle.rules.proofs.Denotation.{read-iff-denotes}
-use Rattle.rules.proofs.LimitLaws.{or-left, or-right}
+use Rattle.rules.proofs.DenotesLaws.{read-iff-denotes}
+use Rattle.basics.proofs.Booleans.{or-left, or-right, test, clash, or-cases}
 use Rattle.game.specs.declared.solving.Solved.{Solved}
 use Rattle.game.specs.declared.solving.Solved.the-variants as solved
-use Rattle.game.specs.Limits.{beliefLimit, rowSize}
-use Rattle.game.specs.Claim.{isShort, solvedFrom, solvedBy, cellsFrom, written, tableAfter, workAfter, Solves, Claim}
-use Rattle.game.proofs.Bounded.{test, clash, or-cases}
+use Rattle.play.specs.Limits.{beliefLimit, rowSize}
+use Rattle.basics.specs.Lists.{written}
+use Rattle.play.specs.Answer.{Solves}
+use Rattle.game.specs.Solution.{gameOf}
+use Rattle.game.specs.Claim.{isShort, solvedFrom, solvedBy, cellsFrom, tableAfter, workAfter, Claim}
 use Rattle.game.proofs.ClaimLaws.{cells-count}
 use Rattle.cabinet.specs.declared.printing.Printed.{Printed}
 use Rattle.cabinet.specs.declared.printing.Printed.the-variants.{Text, Refused}
-use Rattle.cabinet.specs.Limits.{textSize}
-use Rattle.cabinet.specs.WellFormed.{isPrintable}
-use Rattle.cabinet.specs.Text.{tableText}
+use Rattle.printer.specs.Limits.{textSize}
+use Rattle.printer.specs.WellFormed.{isPrintable}
+use Rattle.printer.specs.Text.{tableText, refusalText}
 use Rattle.cabinet.specs.Print.{printedBy, textAfter}
-use Rattle.cabinet.specs.Response.{refusalText, observedIn, response, isTight, respondedBy, responseAfter, respondedTable, respondedWork}
-use Rattle.cabinet.proofs.ClaimedLaws.{passes}
+use Rattle.cabinet.specs.Response.{observedIn, response, isTight, respondedBy, responseAfter, respondedTable, respondedWork}
+use Rattle.cabinet.proofs.ClaimedTable.{passes}
 
 not-both : {C : Type 0} (x : Refusal) (s : Sizes) → reading.Accepted s ≡ reading.Refused x → C
 not-both x s e = let z : _≡_ {A = ℕ} 0 1 = cc in absurd (omega arith)
@@ -131,19 +133,19 @@ module _ (source work table text : List ℕ) (e : isTight (length work) (length 
 
     front-claim : Claim source (solved.Table n r) (take (n * rowSize) table′)
     front-claim =
-        let (p, d, s) = table-claim in
-        (p, d, subst (Solves p n r) (sym (take-take (n * rowSize) (n * rowSize) table′ (omega arith))) s)
+        let (p, d, small, s) = table-claim in
+        (p, d, small, subst (Solves beliefLimit (gameOf p) n r) (sym (take-take (n * rowSize) (n * rowSize) table′ (omega arith))) s)
 
     -- its rows are within the table
     pub few-rows : n ≤ beliefLimit
-    few-rows = let (p, d, s) = table-claim in s .within
+    few-rows = let (p, d, small, s) = table-claim in s .within
 
     pub rows-within : n * rowSize ≤ length table′
-    rows-within = let (p, d, s) = table-claim in omega (arith, sym (length-take (n * rowSize) table′) ∙ s .laid .long)
+    rows-within = let (p, d, small, s) = table-claim in omega (arith, sym (length-take (n * rowSize) table′) ∙ s .laid .long)
 
     can-print : isPrintable (take (n * rowSize) table′) n r (observedIn (readProblem source)) ≡ true
     can-print =
-        let (p, d, s) = front-claim in
+        let (p, d, small, s) = front-claim in
         let declared : observedIn (readProblem source) ≡ p .signals .observed = observed-of source p (read-iff-denotes source p .1 d) in
         subst (λ k. isPrintable (take (n * rowSize) table′) n r k ≡ true) (sym declared) (passes source n r (take (n * rowSize) table′) front-claim p d)
 

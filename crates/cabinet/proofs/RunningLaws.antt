@@ -9,21 +9,21 @@ use mathlib.Core.List.{List, _∷_}
 use lib.ListN.{take}
 use borrow.Author.Tests.{lt-ltb, eq-eqb}
 use Rattle.rules.specs.Problem.{Problem}
-use Rattle.rules.proofs.LimitLaws.{Few}
-use Rattle.game.specs.Limits.{beliefLimit, sideLimit, rowSize}
-use Rattle.game.specs.Game.{Game, Play, seen, Decision, choose, stop, GoesOn, choiceOf, Optimal}
-use Rattle.game.specs.Table.{cell, isStop, readFrom, tableStrategy, Laid}
+use Rattle.rules.proofs.WithinLimits.{Few}
+use Rattle.play.specs.Limits.{beliefLimit, sideLimit, rowSize}
+use Rattle.play.specs.Game.{Game, Play, seen, Decision, choose, stop, GoesOn, choiceOf, Optimal}
+use Rattle.play.specs.Table.{cell, isStop, readFrom, tableStrategy, Laid}
 use Rattle.game.specs.Solution.{gameOf}
-use Rattle.game.proofs.Bounded.{test}
-use Rattle.game.proofs.Plans.{rest}
+use Rattle.basics.proofs.Booleans.{test}
+use Rattle.play.proofs.Plans.{rest}
 use Rattle.cabinet.specs.declared.position.Position.{Position}
 use Rattle.cabinet.specs.declared.position.Answer.{Answer}
 use Rattle.cabinet.specs.declared.position.Answer.the-variants.{Choice, Stop}
 use Rattle.cabinet.specs.declared.position.Moved.{Moved}
 use Rattle.cabinet.specs.Position.{moveTo, isStanding, startOf, stepOf}
 use Rattle.cabinet.specs.Running.{stepAll, answerTo, Runs}
-use Rattle.cabinet.proofs.CheckLaws.{side-le}
-use Rattle.cabinet.proofs.LaidLaws.{cell-taken, stop-taken, sized, goes-on, row-passes}
+use Rattle.printer.proofs.WellFormedLaws.{side-le}
+use Rattle.cabinet.proofs.LaidRows.{cell-taken, stop-taken, sized, goes-on, row-passes}
 
 -- the answer that tells a decision
 abbrev said : Decision → Answer

@@ -5,15 +5,15 @@ use mathlib.Core.Bool.{Bool, cond, _&&_}
 use mathlib.Core.List.{List}
 use lib.Dec.{eqb, ltb}
 use lib.ListN.{length}
-use Rattle.rules.specs.declared.refusal.Refusal.{Refusal}
-use Rattle.rules.specs.declared.refusal.Refusal.the-variants.{BadTable, Stopped, BadObservation}
-use Rattle.game.specs.Limits.{stopCell}
-use Rattle.game.specs.Table.{cell, isStop}
+use Rattle.lines.specs.declared.refusal.Refusal.{Refusal}
+use Rattle.lines.specs.declared.refusal.Refusal.the-variants.{BadTable, Stopped, BadObservation}
+use Rattle.play.specs.Limits.{stopCell}
+use Rattle.play.specs.Table.{cell, isStop}
 use Rattle.cabinet.specs.declared.position.Position.{Position}
 use Rattle.cabinet.specs.declared.position.Answer.{Answer}
 use Rattle.cabinet.specs.declared.position.Answer.the-variants.{Choice, Stop, Refused}
 use Rattle.cabinet.specs.declared.position.Moved.{Moved}
-use Rattle.cabinet.specs.WellFormed.{isSized, isRow}
+use Rattle.printer.specs.WellFormed.{isSized, isRow}
 
 -- the answer for document 01's number of it: 65535 is stop, another number a choice
 abbrev pub answerOf : ℕ → Answer

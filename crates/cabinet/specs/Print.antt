@@ -5,13 +5,13 @@ use mathlib.Core.Bool.{cond}
 use mathlib.Core.List.{List}
 use lib.Dec.{ltb}
 use lib.ListN.{length}
-use Rattle.rules.specs.declared.refusal.Refusal.the-variants.{ShortMemory, BadTable}
-use Rattle.game.specs.Claim.{written}
+use Rattle.lines.specs.declared.refusal.Refusal.the-variants.{ShortMemory, BadTable}
+use Rattle.basics.specs.Lists.{written}
 use Rattle.cabinet.specs.declared.printing.Printed.{Printed}
 use Rattle.cabinet.specs.declared.printing.Printed.the-variants.{Text, Refused}
-use Rattle.cabinet.specs.Limits.{textSize}
-use Rattle.cabinet.specs.WellFormed.{isPrintable}
-use Rattle.cabinet.specs.Text.{tableText}
+use Rattle.printer.specs.Limits.{textSize}
+use Rattle.printer.specs.WellFormed.{isPrintable}
+use Rattle.printer.specs.Text.{tableText}
 
 -- the text's length; 12 is tested before 13
 unfoldable pub printedBy : List ℕ → ℕ → ℕ → ℕ → ℕ → Printed

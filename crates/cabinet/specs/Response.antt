@@ -2,25 +2,19 @@
 -- Assumes nothing.
 use Prim.Native.Nat.{ℕ}
 use mathlib.Core.Bool.{Bool, cond, _||_}
-use mathlib.Core.List.{List, [], _∷_}
+use mathlib.Core.List.{List}
 use lib.Dec.{ltb}
 use lib.ListN.{length}
-use Rattle.grammar.specs.Bytes.{bytesOf}
-use Rattle.rules.specs.declared.refusal.Refusal.{Refusal}
-use Rattle.rules.specs.declared.refusal.Refusal.the-variants.{ShortMemory}
-use Rattle.rules.specs.Refusal.{numberOf, placeOf}
+use Rattle.lines.specs.declared.refusal.Refusal.the-variants.{ShortMemory}
 use Rattle.rules.specs.Problem.{Outcome, accepted, refused, readProblem}
 use Rattle.game.specs.declared.solving.Solved.{Solved}
 use Rattle.game.specs.declared.solving.Solved.the-variants as solved
-use Rattle.game.specs.Claim.{isShort, solvedFrom, cellsFrom, written, tableAfter, workAfter}
+use Rattle.basics.specs.Lists.{written}
+use Rattle.game.specs.Claim.{isShort, solvedFrom, cellsFrom, tableAfter, workAfter}
 use Rattle.cabinet.specs.declared.printing.Printed.{Printed}
 use Rattle.cabinet.specs.declared.printing.Printed.the-variants.{Text, Refused}
-use Rattle.cabinet.specs.Limits.{textSize}
-use Rattle.cabinet.specs.Text.{decimal, line, tableText}
-
--- a refusal: its number and its place
-abbrev pub refusalText : Refusal → List ℕ
-refusalText r = line (bytesOf "refused") (decimal (numberOf r) ∷ decimal (placeOf r) ∷ [])
+use Rattle.printer.specs.Limits.{textSize}
+use Rattle.printer.specs.Text.{tableText, refusalText}
 
 -- the text of an answer, a table's from its cells and the number of observed signals
 abbrev pub solvedText : ℕ → List ℕ → Solved → List ℕ

@@ -4,8 +4,8 @@ use Prim.Native.Nat.{ℕ, _≤_, _<_}
 use mathlib.Core.Path.{_≡_}
 use mathlib.Core.Bool.{true}
 use mathlib.Core.List.{List, [], _∷_}
-use Rattle.rules.specs.Lists.{tabulate}
-use Rattle.game.specs.Game.{Game, Play, seen, Strategy, choose, stop}
+use Rattle.basics.specs.Lists.{tabulate}
+use Rattle.play.specs.Game.{Game, Play, seen, Strategy, choose, stop}
 use Rattle.cabinet.specs.declared.position.Position.{Position}
 use Rattle.cabinet.specs.declared.position.Answer.{Answer}
 use Rattle.cabinet.specs.declared.position.Answer.the-variants.{Choice, Stop}

@@ -1,12 +1,9 @@
 // Tables in use: `print` writes a table as text, `respond` solves a problem and writes what comes of it; `start` and `step` run a table
 // as a controller, from a position that the caller keeps, as `start_from` and `step_from` do by value. Every function here is proved,
 // and the crate assumes nothing. None of these has a `requires`.
-mod checking;
 mod position;
 mod printing;
 mod responding;
-mod sizes;
-mod writing;
 
 pub use position::Answer;
 pub use position::Moved;
@@ -15,7 +12,7 @@ pub use position::start;
 pub use position::start_from;
 pub use position::step;
 pub use position::step_from;
+pub use printer::TEXT_SIZE;
 pub use printing::Printed;
 pub use printing::print;
 pub use responding::respond;
-pub use sizes::TEXT_SIZE;

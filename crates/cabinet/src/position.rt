@@ -2,13 +2,13 @@
 ghost use mathlib.Core.Path.{_≡_};
 ghost use Prim.Native.Nat.{_*_, _<_};
 ghost use lib.ListN.{length};
-ghost use Rattle.game.specs.Limits.{rowSize};
+ghost use Rattle.play.specs.Limits.{rowSize};
 ghost use Rattle.cabinet.specs.Position.{moveTo, refusedAt, isStanding, startOf, stepOf};
-use crate::checking::is_row;
-use crate::checking::is_sized;
-use game::ROW;
-use game::STOP;
-use rules::Refusal;
+use lines::Refusal;
+use printer::is_row;
+use printer::is_sized;
+use tables::ROW;
+use tables::STOP;
 
 // The row and its standing choice, 65535 for stop.
 pub struct Position {

@@ -2,10 +2,10 @@
 ghost use mathlib.Core.Path.{_≡_};
 ghost use lib.ListN.{length};
 ghost use Rattle.cabinet.specs.Print.{printedBy, textAfter};
-use crate::checking::is_printable;
-use crate::sizes::TEXT_SIZE;
-use crate::writing::put_table;
-use rules::Refusal;
+use lines::Refusal;
+use printer::TEXT_SIZE;
+use printer::is_printable;
+use printer::put_table;
 
 // The length of the text, or one refusal.
 pub enum Printed {

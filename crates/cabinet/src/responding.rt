@@ -5,26 +5,24 @@ ghost use Rattle.rules.specs.Problem.{readProblem};
 ghost use Rattle.cabinet.specs.Response.{observedIn, respondedBy, responseAfter, respondedTable, respondedWork};
 use crate::printing::Printed;
 use crate::printing::print;
-use crate::sizes::TEXT_SIZE;
-use crate::writing::put_refusal;
-use game::ROW;
 use game::Solved;
-use game::TABLE_SIZE;
 use game::solve;
-use rules::PART_LIMIT;
-use rules::Reading;
-use rules::Refusal;
+use lines::PART_LIMIT;
+use lines::Reading;
+use lines::Refusal;
+use printer::TEXT_SIZE;
+use printer::put_refusal;
 use rules::WORK_SIZE;
 use rules::read;
+use tables::ROW;
+use tables::TABLE_SIZE;
 
 // How many observed signals a problem has; none where it is refused.
 fn observed_in(source: &[u8]) -> usize
     ensures { λ r. ⌜ r ≡ observedIn (readProblem (now (source .entry))) ⌝ }
 {
-    let mut kinds = [0u8; PART_LIMIT];
-    let mut lefts = [0u8; PART_LIMIT];
-    let mut rights = [0u8; PART_LIMIT];
-    match read(source, &mut kinds, &mut lefts, &mut rights) {
+    let mut parts = [0u32; PART_LIMIT];
+    match read(source, &mut parts) {
         Reading::Accepted(s) => s.observed,
         Reading::Refused(_) => 0,
     }

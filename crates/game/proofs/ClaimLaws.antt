@@ -3,45 +3,33 @@
 use Prim.Native.Nat.{ℕ, suc, _*_}
 use native.Mathlib.Omega.{arith}
 use mathlib.Core.Path.{_≡_, refl, sym, ap, _∙_, subst}
-use mathlib.Core.Logic.{_↔_}
-use mathlib.Core.Bool.{Bool, true, false, cond}
-use mathlib.Core.List.{List}
-use lib.Dec.{eqb, ltb}
+use mathlib.Core.List.{List, []}
+use lib.Dec.{eqb}
 use lib.ListN.{length, drop}
 use lib.Seq.{take-at}
-use Rattle.rules.specs.Parts.{partsOf}
-use Rattle.rules.specs.declared.refusal.Refusal.{Refusal}
-use Rattle.rules.specs.declared.refusal.Refusal.the-variants as refusal
+use Rattle.formula.specs.Parts.{partsOf}
+use Rattle.lines.specs.declared.refusal.Refusal.{Refusal}
+use Rattle.lines.specs.declared.refusal.Refusal.the-variants as refusal
 use Rattle.rules.specs.Problem.{Problem, Outcome, accepted, refused, readProblem}
-use Rattle.rules.proofs.Denotation.{read-iff-denotes}
-use Rattle.rules.proofs.LimitLaws.{read-within}
-use Rattle.states.specs.Limits.{stateLimit}
-use Rattle.states.specs.PatternSet.{PatternSet}
-use Rattle.states.specs.Reach.{Listing, closed, over, AtLeast}
-use Rattle.states.specs.ReachableSets.{sameSet}
-use Rattle.states.proofs.ReachLaws.{over-iff}
-use Rattle.states.proofs.ReachableSetLaws.{sameSet-says}
-use Rattle.states.proofs.StateLaws.{states-over}
+use Rattle.rules.proofs.DenotesLaws.{read-iff-denotes}
+use Rattle.rules.proofs.WithinLimits.{read-within}
+use Rattle.search.specs.Limits.{stateLimit}
+use Rattle.search.specs.PatternSet.{PatternSet}
+use Rattle.basics.specs.Reach.{Listing, closed, over, AtLeast}
+use Rattle.search.specs.ReachableSets.{sameSet}
+use Rattle.basics.proofs.ReachLaws.{over-iff}
+use Rattle.search.proofs.ReachableSetsLaws.{sameSet-says}
+use Rattle.states.proofs.StatesLaws.{states-over}
 use Rattle.game.specs.declared.solving.Solved.the-variants.{Table, Refused}
-use Rattle.game.specs.Limits.{beliefLimit, rowSize}
-use Rattle.game.specs.Game.{Game}
-use Rattle.game.specs.Rank.{Arena}
-use Rattle.game.specs.Belief.{beliefs, firstBelief}
-use Rattle.game.specs.Answer.{moves, positions, Verdict, solved, unrealizable, tooMany, startRank, numbered, answerFrom, Right}
-use Rattle.game.specs.Solution.{gameOf, automatonOf, problemStates, beliefVerdict, verdict, solutionFrom, solution}
-use Rattle.game.specs.Claim.{solvedOf, solvedFrom, cellsOf, cellsFrom, written, ManyStates, ManyBeliefs, Solves, Claim}
-use Rattle.game.proofs.Judging.{belief-right}
-
--- positions that are counted give another verdict
-solved-not-many : (n r : ℕ) (cells : List ℕ) → solved n r cells ≡ tooMany → ⊥
-solved-not-many n r cells q = let z : _≡_ {A = ℕ} 0 1 = cc in absurd (omega arith)
-
-unrealizable-not-many : unrealizable ≡ tooMany → ⊥
-unrealizable-not-many q = let z : _≡_ {A = ℕ} 0 1 = cc in absurd (omega arith)
-
-not-many : (b : Bool) (n r : ℕ) (cells : List ℕ) → cond b (solved n r cells) unrealizable ≡ tooMany → ⊥
-not-many true n r cells q = solved-not-many n r cells q
-not-many false n r cells q = unrealizable-not-many q
+use Rattle.play.specs.Limits.{beliefLimit, rowSize}
+use Rattle.play.specs.Game.{Game}
+use Rattle.play.specs.Rank.{Arena}
+use Rattle.play.specs.Belief.{Belief, beliefs, firstBelief}
+use Rattle.play.specs.Answer.{moves, positions, numbered, verdictOf, Verdict, solved, unrealizable, Solves, Right}
+use Rattle.game.specs.Solution.{gameOf, automatonOf, problemStates, verdict, solutionOf, solutionFrom, solution}
+use Rattle.basics.specs.Lists.{written}
+use Rattle.game.specs.Claim.{solvedOf, solvedFrom, cellsOf, cellsFrom, ManyStates, ManyBeliefs, Small, Claim}
+use Rattle.game.proofs.StatesJudge.{belief-right}
 
 refused-no-table : (x : Refusal) (n r : ℕ) → Refused x ≡ Table n r → ⊥
 refused-no-table x n r q = let z : _≡_ {A = ℕ} 0 1 = cc in absurd (omega arith)
@@ -55,15 +43,11 @@ same-list xs ys e = cc
 
 module _ (source : List ℕ) (p : Problem) (read : readProblem source ≡ accepted p) (table : List ℕ) where
   -- a verdict that is right makes the claim
-  claim-verdict : (v : Verdict) → Right beliefLimit (gameOf p) v → (¬ ManyStates p) → ((v ≡ tooMany) ↔ ManyBeliefs p) → Claim source (solvedOf (verdict v)) (written (cellsOf (verdict v)) table)
-  claim-verdict (solved n r cells) (o, b, w, l) few m =
-      let front = sym (take-at cells (drop (length cells) table) (n * rowSize) (l .long)) in (
-        p,
-        read-iff-denotes source p .0 read,
-        subst (Solves p n r) front (record { small = (few, λ z. solved-not-many n r cells (m .1 z)); optimal = o; below = b; within = w; laid = l }),
-      )
-  claim-verdict unrealizable u few m = (p, read-iff-denotes source p .0 read, (few, λ z. unrealizable-not-many (m .1 z)), u)
-  claim-verdict tooMany u few m = (p, read-iff-denotes source p .0 read, m .0 refl)
+  claim-verdict : (v : Verdict) → Right beliefLimit (gameOf p) v → Small p → Claim source (solvedOf (verdict v)) (written (cellsOf (verdict v)) table)
+  claim-verdict (solved n r cells) s small =
+      let front = sym (take-at cells (drop (length cells) table) (n * rowSize) (s .laid .long)) in
+      (p, read-iff-denotes source p .0 read, small, subst (Solves beliefLimit (gameOf p) n r) front s)
+  claim-verdict unrealizable u small = (p, read-iff-denotes source p .0 read, small, u)
 
   module _ (xs : List PatternSet) (listed : problemStates p ≡ closed xs) where
     abbrev G : Game
@@ -72,54 +56,72 @@ module _ (source : List ℕ) (p : Problem) (read : readProblem source ≡ accept
     abbrev A : Arena
     A = beliefs G (automatonOf (partsOf (p .formula)) xs)
 
-    -- "too many" is answered only where more beliefs than the limit can be reached
-    many : beliefVerdict G (automatonOf (partsOf (p .formula)) xs) ≡ tooMany → ManyBeliefs p
-    many e =
-        record {
-          states = xs;
-          listed = listed;
-          many = over-iff sameSet sameSet-says (moves A sameSet (G .choices) (G .observations)) (A .start) beliefLimit .0 (at (positions A sameSet (G .choices) (G .observations) beliefLimit) refl e);
-        }
-      where
-        at : (l : Listing (A .K)) → positions A sameSet (G .choices) (G .observations) beliefLimit ≡ l → answerFrom A sameSet (G .choices) (G .observations) l ≡ tooMany
-            → positions A sameSet (G .choices) (G .observations) beliefLimit ≡ over
-        at over e q = e
-        at (closed all) e q = absurd (not-many (ltb (startRank (numbered A sameSet all) eqb (G .choices) (G .observations) (length all)) (length all)) _ _ _ q)
+    abbrev all-beliefs : Listing Belief
+    all-beliefs = positions A sameSet (G .choices) (G .observations) beliefLimit
+
+    abbrev answer : List Belief → Verdict
+    answer all = verdictOf (numbered A sameSet all) eqb (G .choices) (G .observations) (length all)
+
+    -- "too many" is answered only where more beliefs than the limit can be reached ..
+    many : all-beliefs ≡ over → ManyBeliefs p
+    many e = record {
+      states = xs;
+      listed = listed;
+      many = over-iff sameSet sameSet-says (moves A sameSet (G .choices) (G .observations)) (A .start) beliefLimit .0 e;
+    }
 
     -- .. and everywhere there
-    many-told : ManyBeliefs p → beliefVerdict G (automatonOf (partsOf (p .formula)) xs) ≡ tooMany
+    many-told : ManyBeliefs p → all-beliefs ≡ over
     many-told z =
         let e = same-list (z .states) xs (sym (z .listed) ∙ listed) in
-        ap (answerFrom A sameSet (G .choices) (G .observations))
-        (over-iff sameSet sameSet-says (moves A sameSet (G .choices) (G .observations)) (A .start) beliefLimit .1
-        (subst (λ ys. AtLeast (moves (beliefs G (automatonOf (partsOf (p .formula)) ys)) sameSet (G .choices) (G .observations)) (firstBelief G (automatonOf (partsOf (p .formula)) ys)) (suc beliefLimit)) e (z .many)))
+        over-iff sameSet sameSet-says (moves A sameSet (G .choices) (G .observations)) (A .start) beliefLimit .1
+        (subst (λ ys.
+        AtLeast (moves (beliefs G (automatonOf (partsOf (p .formula)) ys)) sameSet (G .choices) (G .observations))
+        (firstBelief G (automatonOf (partsOf (p .formula)) ys)) (suc beliefLimit))
+        e (z .many))
 
     few-states : ¬ ManyStates p
     few-states z = closed-not-over xs (sym listed ∙ states-over (partsOf (p .formula)) _ stateLimit .1 z)
+
+    -- the answer from the beliefs
+    claim-beliefs : (l : Listing Belief) → all-beliefs ≡ l
+        → let r = solutionOf A sameSet (G .choices) (G .observations) l in Claim source (solvedOf r) (written (cellsOf r) table)
+    claim-beliefs (closed all) e =
+        claim-verdict (answer all) (belief-right p (read-within source p read .few) xs listed all e)
+        (few-states, λ z. closed-not-over all (sym e ∙ many-told z))
+    claim-beliefs over e = (p, read-iff-denotes source p .0 read, many e)
 
   -- every answer for a problem that is read
   pub claim-right : Claim source (solvedOf (solution p)) (written (cellsOf (solution p)) table)
   claim-right = at (problemStates p) refl
     where
       at : (l : Listing PatternSet) → problemStates p ≡ l → Claim source (solvedOf (solutionFrom p l)) (written (cellsOf (solutionFrom p l)) table)
-      at (closed xs) e =
-          claim-verdict (beliefVerdict (gameOf p) (automatonOf (partsOf (p .formula)) xs)) (belief-right p (read-within source p read .few) xs e) (few-states xs e) (many xs e, many-told xs e)
+      at (closed xs) e = claim-beliefs xs e (all-beliefs xs e) refl
       at over e = (p, read-iff-denotes source p .0 read, states-over (partsOf (p .formula)) _ stateLimit .0 e)
 
 -- a table has as many cells as its row count says
-cells-of : (limit : ℕ) (G : Game) (v : Verdict) (n r : ℕ) → Right limit G v → solvedOf (verdict v) ≡ Table n r → length (cellsOf (verdict v)) ≡ n * rowSize
-cells-of limit G (solved m q cells) n r (o, b, w, l) e = let z : m ≡ n = cc in l .long ∙ ap (λ k. k * rowSize) z
-cells-of limit G unrealizable n r u e = absurd (refused-no-table refusal.Unrealizable n r e)
-cells-of limit G tooMany n r u e = absurd (refused-no-table refusal.TooManyBeliefs n r e)
+verdict-cells : (limit : ℕ) (G : Game) (v : Verdict) (n r : ℕ) → Right limit G v → solvedOf (verdict v) ≡ Table n r → length (cellsOf (verdict v))
+    ≡ n * rowSize
+verdict-cells limit G (solved m q cells) n r s e = let z : m ≡ n = cc in s .laid .long ∙ ap (λ k. k * rowSize) z
+verdict-cells limit G unrealizable n r u e = absurd (refused-no-table refusal.Unrealizable n r e)
 
-pub cells-count : (source : List ℕ) (n r : ℕ) → solvedFrom (readProblem source) ≡ Table n r → length (cellsFrom (readProblem source)) ≡ n * rowSize
-cells-count source n r = at (readProblem source) refl
-  where
-    from : (p : Problem) → readProblem source ≡ accepted p → (l : Listing PatternSet) → problemStates p ≡ l
-        → solvedOf (solutionFrom p l) ≡ Table n r → length (cellsOf (solutionFrom p l)) ≡ n * rowSize
-    from p read (closed xs) e = cells-of beliefLimit (gameOf p) (beliefVerdict (gameOf p) (automatonOf (partsOf (p .formula)) xs)) n r (belief-right p (read-within source p read .few) xs e)
-    from p read over e = λ q. absurd (refused-no-table refusal.TooManyStates n r q)
+module _ (source : List ℕ) (n r : ℕ) where
+  beliefs-cells : (p : Problem) (read : readProblem source ≡ accepted p) (xs : List PatternSet) (listed : problemStates p ≡ closed xs)
+      → (l : Listing Belief) → all-beliefs source p read [] xs listed ≡ l
+      → let s = solutionOf (A source p read [] xs listed) sameSet (gameOf p .choices) (gameOf p .observations) l in
+      solvedOf s ≡ Table n r → length (cellsOf s) ≡ n * rowSize
+  beliefs-cells p read xs listed (closed all) e = verdict-cells beliefLimit (gameOf p) (answer source p read [] xs listed all) n r
+      (belief-right p (read-within source p read .few) xs listed all e)
+  beliefs-cells p read xs listed over e = λ q. absurd (refused-no-table refusal.TooManyBeliefs n r q)
 
-    at : (o : Outcome) → readProblem source ≡ o → solvedFrom o ≡ Table n r → length (cellsFrom o) ≡ n * rowSize
-    at (accepted p) read = from p read (problemStates p) refl
-    at (refused x) read = λ q. absurd (refused-no-table x n r q)
+  problem-cells : (p : Problem) → readProblem source ≡ accepted p → (l : Listing PatternSet) → problemStates p ≡ l
+      → solvedOf (solutionFrom p l) ≡ Table n r → length (cellsOf (solutionFrom p l)) ≡ n * rowSize
+  problem-cells p read (closed xs) e = beliefs-cells p read xs e (all-beliefs source p read [] xs e) refl
+  problem-cells p read over e = λ q. absurd (refused-no-table refusal.TooManyStates n r q)
+
+  pub cells-count : solvedFrom (readProblem source) ≡ Table n r → length (cellsFrom (readProblem source)) ≡ n * rowSize
+  cells-count = at (readProblem source) refl
+    where
+      at : (o : Outcome) → readProblem source ≡ o → solvedFrom o ≡ Table n r → length (cellsFrom o) ≡ n * rowSize
+      at (accepted p) read = problem-cells p read (problemStates p) refl
+      at (refused x) read = λ q. absurd (refused-no-table x n r q)

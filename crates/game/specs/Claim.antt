@@ -1,42 +1,49 @@
 -- What the whole call answers, what it leaves in lent memory, and what its answer means: demand 3, from a source's bytes to whole plays.
 -- Assumes nothing.
-use Prim.Native.Nat.{ℕ, suc, _*_, _≤_, _<_}
+use Prim.Native.Nat.{ℕ, suc, _*_}
 use mathlib.Core.Path.{_≡_}
 use mathlib.Core.Bool.{Bool, cond, _||_}
-use mathlib.Core.List.{List, _++_}
+use mathlib.Core.List.{List, []}
 use lib.Dec.{ltb}
-use lib.ListN.{length, take, drop, replicate}
-use Rattle.rules.specs.declared.refusal.Refusal.the-variants as refusal
+use lib.ListN.{length, take, replicate}
+use Rattle.lines.specs.declared.refusal.Refusal.the-variants as refusal
 use Rattle.rules.specs.Judge.{countsIn}
 use Rattle.rules.specs.Limits.{workSize}
-use Rattle.rules.specs.Parts.{partsOf}
-use Rattle.rules.specs.Problem.{Problem, Outcome, accepted, refused, readProblem}
+use Rattle.formula.specs.Parts.{partsOf}
+use Rattle.rules.specs.Problem.{Problem, Outcome as Reading, accepted, refused, readProblem}
 use Rattle.rules.specs.Denotes.{Denotes}
-use Rattle.states.specs.Letters.{lettersOf}
-use Rattle.states.specs.Limits.{stateLimit}
-use Rattle.states.specs.Lists.{_∈_, Distinct}
-use Rattle.states.specs.PatternSet.{PatternSet}
-use Rattle.states.specs.Reach.{closed, AtLeast}
-use Rattle.states.specs.ReachableSets.{sameSet}
+use Rattle.obligations.specs.Letters.{lettersOf}
+use Rattle.search.specs.Limits.{stateLimit}
+use Rattle.basics.specs.Member.{_∈_, Distinct}
+use Rattle.search.specs.PatternSet.{PatternSet}
+use Rattle.basics.specs.Reach.{closed, AtLeast}
+use Rattle.search.specs.ReachableSets.{sameSet}
 use Rattle.states.specs.States.{IsState}
+use Rattle.tables.specs.declared.answering.Outcome.{Outcome}
+use Rattle.tables.specs.declared.answering.Outcome.the-variants as outcome
 use Rattle.game.specs.declared.solving.Solved.{Solved}
 use Rattle.game.specs.declared.solving.Solved.the-variants.{Table, Refused}
-use Rattle.game.specs.Limits.{beliefLimit, rowSize, tableSize}
-use Rattle.game.specs.Game.{Optimal, Unrealizable}
-use Rattle.game.specs.Belief.{beliefs, firstBelief}
-use Rattle.game.specs.Table.{tableStrategy, Laid}
-use Rattle.game.specs.Answer.{solved, unrealizable, tooMany, moves}
-use Rattle.game.specs.Solution.{gameOf, automatonOf, problemStates, Solution, tooManyStates, verdict, solution}
+use Rattle.play.specs.Limits.{beliefLimit, rowSize, tableSize}
+use Rattle.play.specs.Game.{Unrealizable}
+use Rattle.play.specs.Belief.{beliefs, firstBelief}
+use Rattle.basics.specs.Lists.{written}
+use Rattle.play.specs.Answer.{moves, cellsOf as verdictCells, Solves}
+use Rattle.tables.specs.Outcome.{outcomeOf}
+use Rattle.game.specs.Solution.{gameOf, automatonOf, problemStates, Solution, tooManyStates, tooManyBeliefs, verdict, solution}
 
 -- ---- the answer
 
+-- for an outcome, for a solution, for a text
+abbrev pub solvedAs : Outcome → Solved
+solvedAs (outcome.Table n r) = Table n r
+solvedAs outcome.Unrealizable = Refused refusal.Unrealizable
+
 abbrev pub solvedOf : Solution → Solved
-solvedOf (verdict (solved n r cells)) = Table n r
-solvedOf (verdict unrealizable) = Refused refusal.Unrealizable
-solvedOf (verdict tooMany) = Refused refusal.TooManyBeliefs
+solvedOf (verdict v) = solvedAs (outcomeOf v)
+solvedOf tooManyBeliefs = Refused refusal.TooManyBeliefs
 solvedOf tooManyStates = Refused refusal.TooManyStates
 
-abbrev pub solvedFrom : Outcome → Solved
+abbrev pub solvedFrom : Reading → Solved
 solvedFrom (accepted p) = solvedOf (solution p)
 solvedFrom (refused r) = Refused r
 
@@ -51,17 +58,13 @@ solvedBy work table source = cond (isShort work table) (Refused refusal.ShortMem
 
 -- only the used rows change
 abbrev pub cellsOf : Solution → List ℕ
-cellsOf (verdict (solved n r cells)) = cells
-cellsOf (verdict unrealizable) = List.[]
-cellsOf (verdict tooMany) = List.[]
-cellsOf tooManyStates = List.[]
+cellsOf (verdict v) = verdictCells v
+cellsOf tooManyBeliefs = []
+cellsOf tooManyStates = []
 
-abbrev pub cellsFrom : Outcome → List ℕ
+abbrev pub cellsFrom : Reading → List ℕ
 cellsFrom (accepted p) = cellsOf (solution p)
-cellsFrom (refused r) = List.[]
-
-abbrev pub written : List ℕ → List ℕ → List ℕ
-written cells table = cells ++ drop (length cells) table
+cellsFrom (refused r) = []
 
 unfoldable pub tableAfter : ℕ → List ℕ → List ℕ → List ℕ
 tableAfter work source table = cond (isShort work (length table)) table (written (cellsFrom (readProblem source)) table)
@@ -93,21 +96,12 @@ Small p = (¬ ManyStates p) × (¬ ManyBeliefs p)
 abbrev pub NoProblem : List ℕ → Type 0
 NoProblem source = (p : Problem) → ¬ Denotes source p
 
--- A table of n rows with worst case r, for a problem within the limits: read as a strategy it wins, its worst case is r, and no winning
--- strategy has a smaller one; the worst case is below the row count, the row count within the limit, and each row has the right cells.
-pub record Solves (p : Problem) (n r : ℕ) (cells : List ℕ) : Type 0 where
-  pub small : Small p
-  pub optimal : Optimal (gameOf p) (tableStrategy cells) r
-  pub below : r < n
-  pub within : n ≤ beliefLimit
-  pub laid : Laid (gameOf p .choices) (gameOf p .observations) n cells
-
--- A table solves the problem.
--- Unrealizable: no strategy wins. The formula is the one that the source denotes by the written grammar. Each refusal is given only
+-- A table solves the game of a problem within the limits. Unrealizable: no strategy wins. The formula is the one that the source
+-- denotes by the written grammar. Each refusal is given only
 -- where it is due, so each is given exactly there; the last four never are.
 abbrev pub Claim : List ℕ → Solved → List ℕ → Type 0
 Claim source (Table n r) table =
-    (p : Problem) × Denotes source p × Solves p n r (take (n * rowSize) table)
+    (p : Problem) × Denotes source p × Small p × Solves beliefLimit (gameOf p) n r (take (n * rowSize) table)
 Claim source (Refused refusal.Unrealizable) table = (p : Problem) × Denotes source p × Small p × Unrealizable (gameOf p)
 Claim source (Refused refusal.TooManyStates) table = (p : Problem) × Denotes source p × ManyStates p
 Claim source (Refused refusal.TooManyBeliefs) table = (p : Problem) × Denotes source p × ManyBeliefs p

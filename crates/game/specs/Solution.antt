@@ -1,22 +1,26 @@
 -- The game of a problem, the states behind it by number, and what is answered for it.
 -- Assumes nothing.
-use Prim.Native.Nat.{_+_, _*_, _^_}
+use Prim.Native.Nat.{ℕ, _+_, _*_, _^_}
+use mathlib.Core.Bool.{Bool}
 use mathlib.Core.List.{List, []}
+use lib.Dec.{eqb}
 use lib.ListN.{length, getD}
 use Rattle.rules.specs.Judge.{countsIn}
-use Rattle.rules.specs.Parts.{Part, partsOf}
+use Rattle.formula.specs.declared.parts.Part.{Part}
+use Rattle.formula.specs.Parts.{partsOf}
 use Rattle.rules.specs.Problem.{Problem}
-use Rattle.rules.specs.Semantics.{holds}
-use Rattle.states.specs.Limits.{stateLimit}
-use Rattle.states.specs.Letters.{lettersOf}
-use Rattle.states.specs.PatternSet.{PatternSet, accepts}
-use Rattle.states.specs.Reach.{Listing, closed, over, indexIn}
-use Rattle.states.specs.ReachableSets.{sameSet}
+use Rattle.formula.specs.Semantics.{holds}
+use Rattle.search.specs.Limits.{stateLimit}
+use Rattle.obligations.specs.Letters.{lettersOf}
+use Rattle.search.specs.PatternSet.{PatternSet, accepts}
+use Rattle.basics.specs.Reach.{Listing, closed, over, indexIn}
+use Rattle.search.specs.ReachableSets.{sameSet}
 use Rattle.states.specs.States.{nextState, statesOf}
-use Rattle.game.specs.Limits.{beliefLimit}
-use Rattle.game.specs.Game.{Game}
-use Rattle.game.specs.Belief.{Automaton, beliefs}
-use Rattle.game.specs.Answer.{Verdict, positions, answerFrom}
+use Rattle.play.specs.Limits.{beliefLimit}
+use Rattle.play.specs.Game.{Game}
+use Rattle.play.specs.Rank.{Arena}
+use Rattle.play.specs.Belief.{Automaton, beliefs}
+use Rattle.play.specs.Answer.{Verdict, positions, numbered, verdictOf}
 
 -- the controller sets the output signals; a step brings values of the observed and of the hidden ones
 abbrev pub gameOf : Problem → Game
@@ -43,16 +47,23 @@ automatonOf ps xs =
 abbrev pub problemStates : Problem → Listing PatternSet
 problemStates p = statesOf (partsOf (p .formula)) (lettersOf (countsIn (p .signals))) stateLimit
 
--- what is answered for a problem: too many states, or the verdict from its beliefs
+-- what is answered for a problem: too many states, too many beliefs, or the verdict from its beliefs
 pub data Solution : Type 0 where
   tooManyStates : Solution
+  tooManyBeliefs : Solution
   verdict : Verdict → Solution
 
-abbrev pub beliefVerdict : Game → Automaton → Verdict
-beliefVerdict G M = answerFrom (beliefs G M) sameSet (G .choices) (G .observations) (positions (beliefs G M) sameSet (G .choices) (G .observations) beliefLimit)
+-- from the positions counted, by their numbers
+abbrev pub solutionOf : (A : Arena) (same : A .K → A .K → Bool) (choices observations : ℕ) → Listing (A .K) → Solution
+solutionOf A same choices observations (closed all) = verdict (verdictOf (numbered A same all) eqb choices observations (length all))
+solutionOf A same choices observations over = tooManyBeliefs
+
+abbrev pub beliefSolution : Game → Automaton → Solution
+beliefSolution G M = solutionOf (beliefs G M) sameSet (G .choices) (G .observations)
+    (positions (beliefs G M) sameSet (G .choices) (G .observations) beliefLimit)
 
 abbrev pub solutionFrom : Problem → Listing PatternSet → Solution
-solutionFrom p (closed xs) = verdict (beliefVerdict (gameOf p) (automatonOf (partsOf (p .formula)) xs))
+solutionFrom p (closed xs) = beliefSolution (gameOf p) (automatonOf (partsOf (p .formula)) xs)
 solutionFrom p over = tooManyStates
 
 abbrev pub solution : Problem → Solution

@@ -12,11 +12,11 @@ use Rattle.grammar.specs.Lex.{tokenAt, tokens}
 use Rattle.grammar.specs.Tree.{Tree, leaf, pre, bin}
 use Rattle.grammar.specs.Grammar.{Grammar, Derives, tighter, to-left, to-right, prefixed, plain, grouped}
 use Rattle.grammar.specs.Parse.{Res, some, close, parse, grow}
-use Rattle.grammar.proofs.Cases.{false-true, on-true, bind-some}
-use Rattle.grammar.proofs.Tokens.{ends}
-use Rattle.grammar.proofs.Inside.{Laws}
-use Rattle.grammar.proofs.Exact.{Exact, goesOn}
-use Rattle.grammar.proofs.Steps.{parse-bin, parse-atom, parse-pre, grow-stop, grow-left, grow-right, atom-leaf, atom-group}
+use Rattle.grammar.proofs.ParseCases.{false-true, on-true, bind-some}
+use Rattle.grammar.proofs.LexLaws.{ends}
+use Rattle.grammar.proofs.ReadsInside.{Laws}
+use Rattle.grammar.proofs.GrammarLaws.{Exact, goesOn}
+use Rattle.grammar.proofs.ParseLaws.{parse-bin, parse-atom, parse-pre, grow-stop, grow-left, grow-right, atom-leaf, atom-group}
 use Rattle.grammar.proofs.Spelt.{first, first-token, head-is, tail-is}
 
 or-left : (a b : Bool) → (a || b) ≡ false → a ≡ false
@@ -44,17 +44,19 @@ module _ {G : Grammar} (L : Laws G) (X : Exact G) where
       after : tokens text next ≡ rest
 
     -- no operator of the level follows
-    stop : (r : ℕ) (res : Res) (a : Tree) (rest : List Token) → suc r ≤ G .top → G .isOp r (first rest) ≡ false → Grown res r a rest → Found res a rest
+    stop : (r : ℕ) (res : Res) (a : Tree) (rest : List Token) → suc r ≤ G .top → G .isOp (suc r) (first rest) ≡ false → Grown res r a rest → Found res a rest
     stop r res a rest hr o g =
         record {
           next = g .next;
           inside = g .inside;
           after = g .after;
-          found = g .grown ∙ grow-stop L text (g .next) (g .inside) r hr a (ap (G .isOp r) (sym (first-token text (g .next) (g .inside)) ∙ ap first (g .after)) ∙ o);
+          found = g .grown ∙ grow-stop L text (g .next) (g .inside) r hr a
+              (ap (G .isOp (suc r)) (sym (first-token text (g .next) (g .inside)) ∙ ap first (g .after)) ∙ o);
         }
 
     -- a phrase of level r is where the reader of level suc r begins
-    begin : (r at : ℕ) (a : Tree) (rest : List Token) → at ≤ length text → suc r ≤ G .top → Found (parse G text r at) a rest → Grown (parse G text (suc r) at) r a rest
+    begin : (r at : ℕ) (a : Tree) (rest : List Token) → at ≤ length text → suc r ≤ G .top → Found (parse G text r at) a rest
+        → Grown (parse G text (suc r) at) r a rest
     begin r at a rest h hr f =
         record {
           next = f .next;
@@ -63,13 +65,13 @@ module _ {G : Grammar} (L : Laws G) (X : Exact G) where
           grown = parse-bin L text at h r hr ∙ bind-some _ _ a (f .next) (f .found);
         }
 
-    module _ (r : ℕ) (res : Res) (a b : Tree) (t : Token) (us rest : List Token) (hr : suc r ≤ G .top) (o : G .isOp r (t .kind) ≡ true)
+    module _ (r : ℕ) (res : Res) (a b : Tree) (t : Token) (us rest : List Token) (hr : suc r ≤ G .top) (o : G .isOp (suc r) (t .kind) ≡ true)
         (g : Grown res r a (t ∷ us ++ rest)) where
       op-here : tokenAt text (g .next) ≡ t
       op-here = head-is text (g .next) (g .inside) t (us ++ rest) (g .after)
 
-      op-is : G .isOp r (tokenAt text (g .next) .kind) ≡ true
-      op-is = ap (λ (x : Token). G .isOp r (x .kind)) op-here ∙ o
+      op-is : G .isOp (suc r) (tokenAt text (g .next) .kind) ≡ true
+      op-is = ap (λ (x : Token). G .isOp (suc r) (x .kind)) op-here ∙ o
 
       op-tail : tokens text (tokenAt text (g .next) .next) ≡ us ++ rest
       op-tail = tail-is text (g .next) (g .inside) t (us ++ rest) (g .after)
@@ -77,7 +79,7 @@ module _ {G : Grammar} (L : Laws G) (X : Exact G) where
       op-in : tokenAt text (g .next) .next ≤ length text
       op-in = ends text (g .next) (g .inside) .high
 
-      join-left : G .leftward r ≡ true → Found (parse G text r (tokenAt text (g .next) .next)) b rest → Grown res r (bin t a b) rest
+      join-left : G .leftward (suc r) ≡ true → Found (parse G text r (tokenAt text (g .next) .next)) b rest → Grown res r (bin t a b) rest
       join-left l f =
           record {
             next = f .next;
@@ -87,7 +89,7 @@ module _ {G : Grammar} (L : Laws G) (X : Exact G) where
                 ∙ ap (λ x. grow G text r (bin x a b) (f .next)) op-here;
           }
 
-      join-right : G .leftward r ≡ false → Found (parse G text (suc r) (tokenAt text (g .next) .next)) b rest → Found res (bin t a b) rest
+      join-right : G .leftward (suc r) ≡ false → Found (parse G text (suc r) (tokenAt text (g .next) .next)) b rest → Found res (bin t a b) rest
       join-right l f =
           record {
             next = f .next;
@@ -100,19 +102,22 @@ module _ {G : Grammar} (L : Laws G) (X : Exact G) where
     -- what is shown of a phrase, by induction on how it is derived: read by itself, and, at a level that groups to the left, before further operators
     abbrev Whole : ℕ → List Token → Tree → Type 0
     Whole l us a =
-        (at : ℕ) (rest : List Token) → at ≤ length text → l ≤ G .top → tokens text at ≡ us ++ rest → goesOn G l (first rest) ≡ false → Found (parse G text l at) a rest
+        (at : ℕ) (rest : List Token) → at ≤ length text → l ≤ G .top → tokens text at ≡ us ++ rest → goesOn G l (first rest) ≡ false
+        → Found (parse G text l at) a rest
 
     abbrev Left : ℕ → List Token → Tree → Type 0
     Left zero us a = Unit {0}
     Left (suc r) us a =
-        (at : ℕ) (rest : List Token) → at ≤ length text → suc r ≤ G .top → G .leftward r ≡ true → tokens text at ≡ us ++ rest → goesOn G r (first rest) ≡ false
+        (at : ℕ) (rest : List Token) → at ≤ length text → suc r ≤ G .top → G .leftward (suc r) ≡ true → tokens text at ≡ us ++ rest
+        → goesOn G r (first rest) ≡ false
         → Grown (parse G text (suc r) at) r a rest
 
     done : {l : ℕ} {us : List Token} {a : Tree} → Derives G l us a → Whole l us a × Left l us a
     unfolding goesOn first close
     done (tighter {r = r} {a = a} d) =
         let i = done d in (
-          λ at rest h hl e s. stop r _ a rest (omega arith) (or-left (G .isOp r (first rest)) (goesOn G r (first rest)) s) (begin r at a rest h (omega arith) (i .0 at rest h (omega arith) e (or-right (G .isOp r (first rest)) (goesOn G r (first rest)) s))),
+          λ at rest h hl e s. stop r _ a rest (omega arith) (or-left (G .isOp (suc r) (first rest)) (goesOn G r (first rest)) s)
+              (begin r at a rest h (omega arith) (i .0 at rest h (omega arith) e (or-right (G .isOp (suc r) (first rest)) (goesOn G r (first rest)) s))),
           λ at rest h hr l e s. begin r at a rest h hr (i .0 at rest h (omega arith) e s),
         )
     done (to-left {r = r} {ts = ts} {us = us} {a = a} {b = b} t l o d d′) =
@@ -122,14 +127,18 @@ module _ {G : Grammar} (L : Laws G) (X : Exact G) where
         (λ at rest h hr l′ e s.
         let g = i .1 at (t ∷ us ++ rest) h hr l (e ∙ append-assoc ts (t ∷ us) rest) (X .apart r (t .kind) o) in
         join-left r _ a b t us rest hr o g l
-        (j .0 _ rest (op-in r _ a b t us rest hr o g) (omega arith) (op-tail r _ a b t us rest hr o g) s)) in
-        (λ at rest h hl e s. stop r _ (bin t a b) rest (omega arith) (or-left (G .isOp r (first rest)) (goesOn G r (first rest)) s) (both at rest h (omega arith) l e (or-right (G .isOp r (first rest)) (goesOn G r (first rest)) s)), both)
+        (j .0 _ rest (op-in r _ a b t us rest hr o g) (omega arith) (op-tail r _ a b t us rest hr o g) s)) in (
+          λ at rest h hl e s. stop r _ (bin t a b) rest (omega arith) (or-left (G .isOp (suc r) (first rest)) (goesOn G r (first rest)) s)
+              (both at rest h (omega arith) l e (or-right (G .isOp (suc r) (first rest)) (goesOn G r (first rest)) s)),
+          both,
+        )
     done (to-right {r = r} {ts = ts} {us = us} {a = a} {b = b} t l o d d′) =
         let i = done d in
         let j = done d′ in (
           λ at rest h hl e s.
               let hr : suc r ≤ G .top = omega arith in
-              let g = begin r at a (t ∷ us ++ rest) h hr (i .0 at (t ∷ us ++ rest) h (omega arith) (e ∙ append-assoc ts (t ∷ us) rest) (X .apart r (t .kind) o)) in
+              let g = begin r at a (t ∷ us ++ rest) h hr
+              (i .0 at (t ∷ us ++ rest) h (omega arith) (e ∙ append-assoc ts (t ∷ us) rest) (X .apart r (t .kind) o)) in
               join-right r _ a b t us rest hr o g l
               (j .0 _ rest (op-in r _ a b t us rest hr o g) hl (op-tail r _ a b t us rest hr o g) s),
           λ at rest h hr l′ e s. false-true (sym l ∙ l′),
@@ -143,7 +152,8 @@ module _ {G : Grammar} (L : Laws G) (X : Exact G) where
                 next = f .next;
                 inside = f .inside;
                 after = f .after;
-                found = parse-pre L text at h (ap (λ (x : Token). G .isPre (x .kind)) q ∙ p) ∙ bind-some _ _ a (f .next) (f .found) ∙ ap (λ x. some (pre x a) (f .next)) q;
+                found = parse-pre L text at h (ap (λ (x : Token). G .isPre (x .kind)) q ∙ p) ∙ bind-some _ _ a (f .next) (f .found)
+                    ∙ ap (λ x. some (pre x a) (f .next)) q;
               },
           tt,
         )
@@ -155,7 +165,8 @@ module _ {G : Grammar} (L : Laws G) (X : Exact G) where
             next = tokenAt text at .next;
             inside = ends text at h .high;
             after = tail-is text at h t rest e;
-            found = parse-atom L text at h (X .leaf-pre (tokenAt text at .kind) k) ∙ atom-leaf L text at h k ∙ ap (λ x. some (leaf x) (tokenAt text at .next)) q;
+            found = parse-atom L text at h (X .leaf-pre (tokenAt text at .kind) k) ∙ atom-leaf L text at h k
+                ∙ ap (λ x. some (leaf x) (tokenAt text at .next)) q;
           },
       tt,
     )
@@ -165,7 +176,8 @@ module _ {G : Grammar} (L : Laws G) (X : Exact G) where
               let e′ = e ∙ ap (λ ts. t ∷ ts) (append-assoc us (c ∷ []) rest) in
               let q = head-is text at h t (us ++ c ∷ rest) e′ in
               let k = ap (λ (x : Token). x .kind) q ∙ o in
-              let f = i .0 (tokenAt text at .next) (c ∷ rest) (ends text at h .high) (le-refl (G .top)) (tail-is text at h t (us ++ c ∷ rest) e′) (rw z (X .close-op)) in
+              let f = i .0 (tokenAt text at .next) (c ∷ rest) (ends text at h .high) (le-refl (G .top)) (tail-is text at h t (us ++ c ∷ rest) e′)
+              (rw z (X .close-op)) in
               let y = head-is text (f .next) (f .inside) c rest (f .after) in
               record {
                 next = tokenAt text (f .next) .next;

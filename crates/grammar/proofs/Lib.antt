@@ -1,14 +1,17 @@
--- What the proofs of several functions use, and the theorems on the grammar.
-pub mod ByteLaws
-pub mod NameLaws
-pub mod Cases
-pub mod Tokens
-pub mod Inside
-pub mod Steps
+-- tokens, names, trees
+pub mod ParseCases
+pub mod LexLaws
 pub mod Spelt
-pub mod Exact
+pub mod NamesLaws
+pub mod TreeLaws
+-- the reader: its equations, and that it finds exactly what the grammar derives
+pub mod ReadsInside
+pub mod ParseLaws
+pub mod GrammarLaws
 pub mod Sound
 pub mod Complete
-pub mod Reading
+pub mod ReadIffDerived
+-- what the code that reads a phrase answers
+pub mod AnswerLaws
+-- the front page
 pub mod Main
-pub mod Reader

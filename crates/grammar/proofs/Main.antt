@@ -7,21 +7,21 @@ use mathlib.Core.List.{List}
 use Rattle.grammar.specs.Tree.{Tree}
 use Rattle.grammar.specs.Grammar.{Derived}
 use Rattle.grammar.specs.Parse.{none, some, parseFormula}
-use Rattle.grammar.proofs.Reading
+use Rattle.grammar.proofs.ReadIffDerived
 
 module _ (text : List ℕ) where
   -- what is read, the grammar derives
   pub correct : (a : Tree) (next : ℕ) → parseFormula text ≡ some a next → Derived text a
-  correct = Reading.sound text
+  correct = ReadIffDerived.sound text
 
   -- what the grammar derives, is read
   pub complete : (a : Tree) → Derived text a → (next : ℕ) × (parseFormula text ≡ some a next)
-  complete = Reading.found text
+  complete = ReadIffDerived.found text
 
   -- what is refused is underivable
   pub refused : (parseFormula text ≡ none) ↔ ((a : Tree) → ¬ Derived text a)
-  refused = Reading.refused-iff text
+  refused = ReadIffDerived.refused-iff text
 
   -- no text has two trees
   pub unambiguous : (a b : Tree) → Derived text a → Derived text b → a ≡ b
-  unambiguous = Reading.one-reading text
+  unambiguous = ReadIffDerived.one-reading text

@@ -7,14 +7,15 @@ use borrow.Author.Tests.{eqb-true}
 use lib.ListN.{length}
 use lib.Dec.{eqb}
 use Rattle.grammar.specs.declared.lex.Token.{Token}
-use Rattle.grammar.specs.Lex.{tokenAt, tokens}
+use Rattle.grammar.specs.Lex.{closeKind, tokenAt, tokens}
 use Rattle.grammar.specs.Tree.{Tree, leaf, pre, bin}
 use Rattle.grammar.specs.Grammar.{Grammar, Derives, tighter, to-left, to-right, prefixed, plain, grouped}
 use Rattle.grammar.specs.Parse.{some, parseF, growF, atomF, close}
-use Rattle.grammar.proofs.Cases.{none-some, false-true, on-elim, bind-elim}
-use Rattle.grammar.proofs.Tokens.{ends}
-use Rattle.grammar.proofs.Inside.{Laws, parse-in, some-one, some-two}
-use Rattle.grammar.proofs.Exact.{Exact}
+use Rattle.grammar.proofs.ParseCases.{none-some, false-true, on-elim, bind-elim}
+use Rattle.grammar.proofs.LexLaws.{ends}
+use Rattle.grammar.proofs.ReadsInside.{Laws, parse-in, some-one, some-two}
+use Rattle.grammar.proofs.GrammarLaws.{Exact}
+use Rattle.grammar.proofs.ParseLaws.{isOpen}
 use Rattle.grammar.proofs.Spelt.{tokens-test}
 
 -- the tokens from `at` up to `next` are a phrase of level l with the tree a
@@ -23,11 +24,8 @@ pub record Phrase (G : Grammar) (text : List ℕ) (l at : ℕ) (a : Tree) (next 
   pub derives : Derives G l us a
   pub spells : tokens text at ≡ us ++ tokens text next
 
-isOpen : ℕ → Bool
-isOpen k = eqb k 40
-
 isClose : ℕ → Bool
-isClose k = eqb k 41
+isClose k = eqb k closeKind
 
 to : {G : Grammar} (text : List ℕ) (l at : ℕ) (a b : Tree) (m n : ℕ) → some a m ≡ some b n → Phrase G text l at a m → Phrase G text l at b n
 to {G} text l at a b m n e i = subst₂ (λ x y. Phrase G text l at x y) (some-one a b m n e) (some-two a b m n e) i
@@ -56,13 +54,13 @@ module _ {G : Grammar} (L : Laws G) (X : Exact G) where
           grow-sound k r b at m a next (parse-in L text k r at b m h eb .high) (λ _. i)
           (record { us = i .us; derives = tighter (i .derives); spells = i .spells }) es)
 
-      grow-sound : (k r : ℕ) (b : Tree) (from at : ℕ) (a : Tree) (next : ℕ) → at ≤ length text → (G .leftward r ≡ false → Phrase G text r from b at)
+      grow-sound : (k r : ℕ) (b : Tree) (from at : ℕ) (a : Tree) (next : ℕ) → at ≤ length text → (G .leftward (suc r) ≡ false → Phrase G text r from b at)
           → Phrase G text (suc r) from b at → growF G k text r b at ≡ some a next → Phrase G text (suc r) from a next
       grow-sound zero r b from at a next h tight loose e = none-some a next e
       grow-sound (suc k) r b from at a next h tight loose e =
           on-elim _ _ _ _ e
           (λ o e₁. let u = ends text at h .high in
-          let here = tokens-test text at h (G .isOp r) (L .op-end r) o in
+          let here = tokens-test text at h (G .isOp (suc r)) (L .op-end (suc r)) o in
           on-elim _ _ _ _ e₁
           (λ l e₂. bind-elim _ _ _ _ e₂ (λ c m ec es.
           let i = parse-sound k r (tokenAt text at .next) c m u ec in
@@ -86,7 +84,8 @@ module _ {G : Grammar} (L : Laws G) (X : Exact G) where
           joined : (us vs : List Token) (from at m : ℕ) → tokens text from ≡ us ++ tokens text at
               → tokens text at ≡ tokenAt text at ∷ tokens text (tokenAt text at .next) → tokens text (tokenAt text at .next) ≡ vs ++ tokens text m
               → tokens text from ≡ (us ++ tokenAt text at ∷ vs) ++ tokens text m
-          joined us vs from at m p q s = p ∙ ap (λ ts. us ++ ts) (q ∙ ap (λ ts. tokenAt text at ∷ ts) s) ∙ sym (append-assoc us (tokenAt text at ∷ vs) (tokens text m))
+          joined us vs from at m p q s = p ∙ ap (λ ts. us ++ ts) (q ∙ ap (λ ts. tokenAt text at ∷ ts) s)
+              ∙ sym (append-assoc us (tokenAt text at ∷ vs) (tokens text m))
 
       atom-sound : (k at : ℕ) (a : Tree) (next : ℕ) → at ≤ length text → atomF G k text at ≡ some a next → Phrase G text zero at a next
       atom-sound zero at a next h e = none-some a next e

@@ -1,6 +1,5 @@
 -- The tokens of a formula text. A token is looked for from a position: spaces are passed over, and a word is read as long as
--- possible. A token's kind is a byte: 0 for the end of the text, 1 for what is no token, 97 (`a`) for a name, 116 (`t`) for
--- `true`, 102 (`f`) for `false`, 45 (`-`) for `->`; any other sign is its own byte.
+-- possible. A token's kind is a byte; that of a sign of one byte is the sign.
 -- Assumes nothing.
 use Prim.Native.Nat.{ℕ, zero, suc, _+_, _-_}
 use mathlib.Core.List.{List, [], _∷_}
@@ -8,7 +7,34 @@ use mathlib.Core.Bool.{Bool, true, false, _&&_, cond}
 use lib.ListN.{length, getD}
 use lib.Dec.{eqb, leb, ltb}
 use Rattle.grammar.specs.declared.lex.Token.{Token}
-use Rattle.grammar.specs.Bytes.{lower, wordByte, isSpace, past, between, bytesOf, sameBytes}
+use Rattle.basics.specs.Bytes.{lower, wordByte, isSpace, past, between, bytesOf, sameBytes}
+
+-- the end of the text, and what is no token
+abbrev pub endKind : ℕ
+endKind = 0
+
+abbrev pub noKind : ℕ
+noKind = 1
+
+-- a name, `true`, `false`
+abbrev pub nameKind : ℕ
+nameKind = 97
+
+abbrev pub trueKind : ℕ
+trueKind = 116
+
+abbrev pub falseKind : ℕ
+falseKind = 102
+
+-- `->`, `(`, `)`
+abbrev pub impliesKind : ℕ
+impliesKind = 45
+
+abbrev pub openKind : ℕ
+openKind = 40
+
+abbrev pub closeKind : ℕ
+closeKind = 41
 
 abbrev pub skip : List ℕ → ℕ → ℕ
 skip = past isSpace
@@ -18,21 +44,21 @@ wordEnd = past wordByte
 
 -- the kind of a word
 unfoldable pub wordKind : List ℕ → ℕ
-wordKind w = cond (sameBytes w (bytesOf "true")) 116 (cond (sameBytes w (bytesOf "false")) 102 97)
+wordKind w = cond (sameBytes w (bytesOf "true")) trueKind (cond (sameBytes w (bytesOf "false")) falseKind nameKind)
 
 unfoldable pub pick : Bool → Token → Token → Token
 pick true x y = x
 pick false x y = y
 
--- the token that starts at place i; a `-` with no `>` and the byte 0 are none
+-- the token that starts at place i; a `-` (45) with no `>` (62) behind it and the byte 0 are none
 unfoldable pub tokenFrom : List ℕ → ℕ → Token
 tokenFrom text i =
-    pick (leb (length text) i) (record { kind = 0; from = i; next = i })
+    pick (leb (length text) i) (record { kind = endKind; from = i; next = i })
     (pick (lower (getD text i 0)) (record { kind = wordKind (between text i (wordEnd text i)); from = i; next = wordEnd text i })
     (pick (eqb (getD text i 0) 45) (pick (ltb (i + 1) (length text) && eqb (getD text (i + 1) 0) 62)
-    (record { kind = 45; from = i; next = i + 2 })
-    (record { kind = 1; from = i; next = i + 1 }))
-    (pick (eqb (getD text i 0) 0) (record { kind = 1; from = i; next = i + 1 })
+    (record { kind = impliesKind; from = i; next = i + 2 })
+    (record { kind = noKind; from = i; next = i + 1 }))
+    (pick (eqb (getD text i 0) 0) (record { kind = noKind; from = i; next = i + 1 })
     (record { kind = getD text i 0; from = i; next = i + 1 }))))
 
 -- the token at or after a position
@@ -46,7 +72,7 @@ more false t f = t ∷ f tt
 -- the tokens of a text from a position on, up to its end
 unfoldable pub tokensF : ℕ → List ℕ → ℕ → List Token
 tokensF zero text at = []
-tokensF (suc k) text at = more (eqb (tokenAt text at .kind) 0) (tokenAt text at) (λ _. tokensF k text (tokenAt text at .next))
+tokensF (suc k) text at = more (eqb (tokenAt text at .kind) endKind) (tokenAt text at) (λ _. tokensF k text (tokenAt text at .next))
 
 unfoldable pub tokens : List ℕ → ℕ → List Token
 tokens text at = tokensF (suc (length text - at)) text at

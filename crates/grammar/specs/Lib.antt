@@ -1,7 +1,4 @@
--- The text of a formula (a rule in document 01), from bytes to a tree of tokens. In reading order:
--- Bytes, classes of bytes; Lex, tokens; Tree, trees and their parts; Grammar, the written grammar as derivations; Parse, the
--- reader; Names, the numbers of signals; Answer, what the code answers.
-pub mod Bytes
+-- The text of a formula (a rule in document 01), from its bytes to a tree of tokens and its cells. In reading order:
 pub mod Lex
 pub mod Tree
 pub mod Grammar

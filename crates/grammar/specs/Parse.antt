@@ -6,7 +6,7 @@ use mathlib.Core.List.{List}
 use mathlib.Core.Bool.{Bool, true, false}
 use lib.ListN.{length}
 use lib.Dec.{eqb}
-use Rattle.grammar.specs.Lex.{tokenAt}
+use Rattle.grammar.specs.Lex.{endKind, openKind, closeKind, tokenAt}
 use Rattle.grammar.specs.Tree.{Tree, leaf, pre, bin}
 use Rattle.grammar.specs.Grammar.{Grammar, ltlf}
 
@@ -25,7 +25,7 @@ on false f g = g tt
 
 -- after a formula in parentheses its `)`
 unfoldable pub close : List ℕ → Tree → ℕ → Res
-close text a at = on (eqb (tokenAt text at .kind) 41) (λ _. some a (tokenAt text at .next)) (λ _. none)
+close text a at = on (eqb (tokenAt text at .kind) closeKind) (λ _. some a (tokenAt text at .next)) (λ _. none)
 
 -- the reader, with a bound on how deep its calls go
 module _ (G : Grammar) where
@@ -41,8 +41,8 @@ module _ (G : Grammar) where
     pub growF : ℕ → List ℕ → ℕ → Tree → ℕ → Res
     growF zero text r a at = none
     growF (suc k) text r a at =
-        on (G .isOp r (tokenAt text at .kind))
-        (λ _. on (G .leftward r)
+        on (G .isOp (suc r) (tokenAt text at .kind))
+        (λ _. on (G .leftward (suc r))
         (λ _. bind (parseF k text r (tokenAt text at .next)) (λ b next. growF k text r (bin (tokenAt text at) a b) next))
         (λ _. bind (parseF k text (suc r) (tokenAt text at .next)) (λ b next. some (bin (tokenAt text at) a b) next)))
         (λ _. some a at)
@@ -52,7 +52,7 @@ module _ (G : Grammar) where
     atomF (suc k) text at =
         on (G .isLeaf (tokenAt text at .kind))
         (λ _. some (leaf (tokenAt text at)) (tokenAt text at .next))
-        (λ _. on (eqb (tokenAt text at .kind) 40)
+        (λ _. on (eqb (tokenAt text at .kind) openKind)
         (λ _. bind (parseF k text (G .top) (tokenAt text at .next)) (close text))
         (λ _. none))
 
@@ -75,4 +75,4 @@ module _ (G : Grammar) where
 
 -- a whole formula: a phrase of the loosest level, and nothing after it
 unfoldable pub parseFormula : List ℕ → Res
-parseFormula text = bind (parse ltlf text 4 0) (λ a next. on (eqb (tokenAt text next .kind) 0) (λ _. some a next) (λ _. none))
+parseFormula text = bind (parse ltlf text 4 0) (λ a next. on (eqb (tokenAt text next .kind) endKind) (λ _. some a next) (λ _. none))

@@ -1,8 +1,7 @@
--- The tree of a formula text, and the list of parts (document 01's term) that stands for it: each part after its operands.
+-- The tree of a formula text, and the list of cells that stands for it: one for each part (document 01's term), after its operands'.
 -- Assumes nothing.
-use Prim.Native.Nat.{ℕ, _+_, _-_, _%_}
-use mathlib.Core.List.{List}
-use lib.ListN.{set}
+use Prim.Native.Nat.{ℕ, _+_, _*_, _%_}
+use mathlib.Core.List.{List, [], _∷_, _++_}
 use Rattle.grammar.specs.declared.lex.Token.{Token}
 
 pub data Tree : Type 0 where
@@ -16,21 +15,18 @@ size (leaf t) = 1
 size (pre t a) = size a + 1
 size (bin t a b) = size a + size b + 1
 
--- three lists of numbers: the kinds of the parts, and the indices of their operands
-pub record Parts : Type 0 where
-  pub ks : List ℕ
-  pub ls : List ℕ
-  pub rs : List ℕ
+-- A cell is one number, and does not tell its place: the part's kind, and beside it a leaf's value, or that there is one operand,
+-- which ends just before it, or that there are two, one behind the other, and how many parts the right one has.
+abbrev pub cell : ℕ → ℕ → ℕ
+cell k x = k + 256 * x
 
-abbrev pub lists : List ℕ → List ℕ → List ℕ → Parts
-lists a b c = record { ks = a; ls = b; rs = c }
+abbrev pub oneSided : ℕ
+oneSided = 256
 
--- part n of three lists; past their end nothing is stored
-abbrev pub store : Parts → ℕ → ℕ → ℕ → ℕ → Parts
-store p n k l r = lists (set (p .ks) n k) (set (p .ls) n (l % 256)) (set (p .rs) n (r % 256))
+abbrev pub twoSided : ℕ → ℕ
+twoSided s = 512 + s % 256
 
--- The parts of a tree, written from place n on. A leaf's part holds its value, an operator's the places of its operands.
-unfoldable pub emit : (Token → ℕ) → Tree → ℕ → Parts → Parts
-emit val (leaf t) n p = store p n (t .kind) (val t) 0
-emit val (pre t a) n p = store (emit val a n p) (n + size a) (t .kind) (n + size a - 1) 0
-emit val (bin t a b) n p = store (emit val b (n + size a) (emit val a n p)) (n + size a + size b) (t .kind) (n + size a - 1) (n + size a + size b - 1)
+unfoldable pub cells : (Token → ℕ) → Tree → List ℕ
+cells val (leaf t) = cell (t .kind) (val t % 256) ∷ []
+cells val (pre t a) = cells val a ++ (cell (t .kind) oneSided ∷ [])
+cells val (bin t a b) = cells val a ++ (cells val b ++ (cell (t .kind) (twoSided (size b)) ∷ []))

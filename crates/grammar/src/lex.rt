@@ -1,14 +1,31 @@
-// the tokens of a formula text.
+// The tokens of a formula text.
 ghost use mathlib.Core.Path.{_≡_};
 ghost use Prim.Native.Nat.{_≤_};
 ghost use lib.ListN.{length};
 ghost use Rattle.grammar.specs.Lex.{wordKind, tokenAt};
-use crate::bytes::Class;
-use crate::bytes::is_lower;
-use crate::bytes::past;
-use crate::bytes::same;
+use basics::Class;
+use basics::is_lower;
+use basics::past;
+use basics::same;
 
-// A token: its kind (0 end, 1 no token, else a byte that names it), where it starts, and where the next one is looked for.
+// The kinds of tokens; that of any other sign is its byte.
+pub(crate) const END: u8 = 0;
+
+const NO_TOKEN: u8 = 1;
+
+pub(crate) const NAME: u8 = 97;
+
+pub(crate) const TRUE: u8 = 116;
+
+pub(crate) const FALSE: u8 = 102;
+
+pub(crate) const IMPLIES: u8 = 45;
+
+pub(crate) const OPEN: u8 = 40;
+
+pub(crate) const CLOSE: u8 = 41;
+
+// A token: its kind, where it starts, and where the next one is looked for.
 pub struct Token {
     pub kind: u8,
     pub from: usize,
@@ -19,12 +36,12 @@ fn word_kind(word: &[u8]) -> u8
     ensures { λ r. ⌜ r ≡ wordKind (now (word .entry)) ⌝ }
 {
     if same(word, b"true") {
-        return 116;
+        return TRUE;
     }
     if same(word, b"false") {
-        return 102;
+        return FALSE;
     }
-    97
+    NAME
 }
 
 // The token at or after `at`.
@@ -35,7 +52,7 @@ pub fn token_at(text: &[u8], at: usize) -> Token
     let i = past(text, at, Class::Space);
     if text.len() <= i {
         return Token {
-            kind: 0,
+            kind: END,
             from: i,
             next: i,
         };
@@ -50,25 +67,25 @@ pub fn token_at(text: &[u8], at: usize) -> Token
             next: j,
         };
     }
-    if b == 45 {
+    if b == b'-' {
         if i + 1 < text.len() {
-            if text[i + 1] == 62 {
+            if text[i + 1] == b'>' {
                 return Token {
-                    kind: 45,
+                    kind: IMPLIES,
                     from: i,
                     next: i + 2,
                 };
             }
         }
         return Token {
-            kind: 1,
+            kind: NO_TOKEN,
             from: i,
             next: i + 1,
         };
     }
     if b == 0 {
         return Token {
-            kind: 1,
+            kind: NO_TOKEN,
             from: i,
             next: i + 1,
         };

@@ -1,15 +1,45 @@
-// the phrases of a formula, read by a cycle of functions, one for each level of the grammar, and written as parts.
+// The phrases of a formula, read by a cycle of functions and written as cells, one for each part.
 ghost use mathlib.Core.Path.{_≡_};
-ghost use Prim.Native.Nat.{_+_, _%_, _^_, _<_};
-ghost use lib.ListN.{length, set};
-ghost use Rattle.grammar.specs.Tree.{lists, store};
-ghost use Rattle.grammar.specs.Grammar.{ltlf, isOp, isPre, isLeaf};
+ghost use mathlib.Core.Bool.{cond};
+ghost use Prim.Native.Nat.{_≤_};
+ghost use lib.ListN.{length};
+ghost use Rattle.grammar.specs.Grammar.{ltlf, isOp, isPre, isLeaf, leftward};
 ghost use Rattle.grammar.specs.Parse.{parse, atom, parseFormula};
 ghost use Rattle.grammar.specs.Names.{namesIn, Spans, leafValue};
-ghost use Rattle.grammar.specs.Answer.{Reads, Room, Whole};
-use crate::lex::Token;
+ghost use Rattle.grammar.specs.Answer.{answer, Reads, Room, cellsAfter};
+use crate::cells::ONE_SIDED;
+use crate::cells::clear_cells;
+use crate::cells::put;
+use crate::cells::put_leaf;
+use crate::cells::put_two;
+use crate::lex::CLOSE;
+use crate::lex::END;
+use crate::lex::FALSE;
+use crate::lex::IMPLIES;
+use crate::lex::NAME;
+use crate::lex::OPEN;
+use crate::lex::TRUE;
 use crate::lex::token_at;
 use crate::names::leaf_value;
+
+// The operators' tokens, beside `->`.
+const UNTIL: u8 = 85;
+
+const RELEASE: u8 = 82;
+
+const AND: u8 = 38;
+
+const OR: u8 = 124;
+
+const NOT: u8 = 33;
+
+const NEXT: u8 = 88;
+
+const WEAK_NEXT: u8 = 78;
+
+const EVENTUALLY: u8 = 70;
+
+const ALWAYS: u8 = 71;
 
 // What reading a phrase gives: where it ends and how many parts are written then, or that there is none.
 pub enum Read {
@@ -17,216 +47,85 @@ pub enum Read {
     Bad,
 }
 
-fn put(a: &mut [u8], i: usize, v: u8)
-    ensures { λ _. ⌜ now (a .exit) ≡ set (now (a .entry)) i v ⌝ }
+// Whether an operator makes phrases of level l.
+fn is_op(l: usize, k: u8) -> bool
+    ensures { λ x. ⌜ x ≡ isOp l k ⌝ }
 {
-    if i < a.len() {
-        a[i] = v;
-    }
+    (((k == UNTIL) | (k == RELEASE)) & (l == 1))
+        | ((k == AND) & (l == 2))
+        | ((k == OR) & (l == 3))
+        | ((k == IMPLIES) & (l == 4))
 }
 
-fn low(v: usize) -> u8
-    ensures { λ r. ⌜ r ≡ v % 256 ⌝ }
+// The level of a right operand in phrases of level l, where r is the level below.
+fn right_level(l: usize, r: usize) -> usize
+    ensures { λ x. ⌜ x ≡ cond (leftward l) r l ⌝ }
 {
-    (v % 256) as u8
-}
-
-// Part n of the three lists; past their end nothing is written.
-pub fn part(ks: &mut [u8], ls: &mut [u8], rs: &mut [u8], n: usize, k: u8, l: usize, r: usize)
-    ensures { λ _. ⌜ lists (now (ks .exit)) (now (ls .exit)) (now (rs .exit))
-        ≡ store (lists (now (ks .entry)) (now (ls .entry)) (now (rs .entry))) n k l r ⌝ }
-{
-    put(ks, n, k);
-    put(ls, n, low(l));
-    put(rs, n, low(r));
-}
-
-// A whole formula, `->` and all that binds tighter.
-fn read_imp(
-    source: &[u8],
-    spans: &[usize],
-    text: &[u8],
-    at: usize,
-    n: usize,
-    ks: &mut [u8],
-    ls: &mut [u8],
-    rs: &mut [u8],
-) -> Read
-    requires { ⌜ Room (now text) at n ⌝ }
-    requires { ⌜ Spans (now source) (now spans) ⌝ }
-    ensures { λ r. ⌜ Reads (leafValue (namesIn (now (source .entry)) (now (spans .entry))) (now (text .entry))) (parse ltlf (now (text .entry)) 4 at) n
-        (lists (now (ks .entry)) (now (ls .entry)) (now (rs .entry)))
-        (lists (now (ks .exit)) (now (ls .exit)) (now (rs .exit))) r ⌝ }
-{
-    let Read::At { next, count } = read_or(source, spans, text, at, n, ks, ls, rs) else {
-        return Read::Bad;
-    };
-    let t = token_at(text, next);
-    let k = t.kind;
-    let after = t.next;
-    if k != 45 {
-        return Read::At { next, count };
+    if (l == 2) | (l == 3) {
+        return r;
     }
-    let Read::At {
-        next: next2,
-        count: count2,
-    } = read_imp(source, spans, text, after, count, ks, ls, rs)
-    else {
-        return Read::Bad;
-    };
-    part(ks, ls, rs, count2, k, count - 1, count2 - 1);
-    Read::At {
-        next: next2,
-        count: count2 + 1,
-    }
-}
-
-fn read_or(
-    source: &[u8],
-    spans: &[usize],
-    text: &[u8],
-    at: usize,
-    n: usize,
-    ks: &mut [u8],
-    ls: &mut [u8],
-    rs: &mut [u8],
-) -> Read
-    requires { ⌜ Room (now text) at n ⌝ }
-    requires { ⌜ Spans (now source) (now spans) ⌝ }
-    ensures { λ r. ⌜ Reads (leafValue (namesIn (now (source .entry)) (now (spans .entry))) (now (text .entry))) (parse ltlf (now (text .entry)) 3 at) n
-        (lists (now (ks .entry)) (now (ls .entry)) (now (rs .entry)))
-        (lists (now (ks .exit)) (now (ls .exit)) (now (rs .exit))) r ⌝ }
-{
-    let Read::At { next, count } = read_and(source, spans, text, at, n, ks, ls, rs) else {
-        return Read::Bad;
-    };
-    let mut to = next;
-    let mut c = count;
-    loop {
-        let t = token_at(text, to);
-        let k = t.kind;
-        let after = t.next;
-        if k != 124 {
-            return Read::At { next: to, count: c };
-        }
-        let Read::At {
-            next: next2,
-            count: count2,
-        } = read_and(source, spans, text, after, c, ks, ls, rs)
-        else {
-            return Read::Bad;
-        };
-        part(ks, ls, rs, count2, k, c - 1, count2 - 1);
-        to = next2;
-        c = count2 + 1;
-    }
-}
-
-fn read_and(
-    source: &[u8],
-    spans: &[usize],
-    text: &[u8],
-    at: usize,
-    n: usize,
-    ks: &mut [u8],
-    ls: &mut [u8],
-    rs: &mut [u8],
-) -> Read
-    requires { ⌜ Room (now text) at n ⌝ }
-    requires { ⌜ Spans (now source) (now spans) ⌝ }
-    ensures { λ r. ⌜ Reads (leafValue (namesIn (now (source .entry)) (now (spans .entry))) (now (text .entry))) (parse ltlf (now (text .entry)) 2 at) n
-        (lists (now (ks .entry)) (now (ls .entry)) (now (rs .entry)))
-        (lists (now (ks .exit)) (now (ls .exit)) (now (rs .exit))) r ⌝ }
-{
-    let Read::At { next, count } = read_until(source, spans, text, at, n, ks, ls, rs) else {
-        return Read::Bad;
-    };
-    let mut to = next;
-    let mut c = count;
-    loop {
-        let t = token_at(text, to);
-        let k = t.kind;
-        let after = t.next;
-        if k != 38 {
-            return Read::At { next: to, count: c };
-        }
-        let Read::At {
-            next: next2,
-            count: count2,
-        } = read_until(source, spans, text, after, c, ks, ls, rs)
-        else {
-            return Read::Bad;
-        };
-        part(ks, ls, rs, count2, k, c - 1, count2 - 1);
-        to = next2;
-        c = count2 + 1;
-    }
-}
-
-fn is_until(k: u8) -> bool
-    ensures { λ r. ⌜ r ≡ isOp 0 k ⌝ }
-{
-    if k == 85 {
-        return true;
-    }
-    k == 82
-}
-
-fn read_until(
-    source: &[u8],
-    spans: &[usize],
-    text: &[u8],
-    at: usize,
-    n: usize,
-    ks: &mut [u8],
-    ls: &mut [u8],
-    rs: &mut [u8],
-) -> Read
-    requires { ⌜ Room (now text) at n ⌝ }
-    requires { ⌜ Spans (now source) (now spans) ⌝ }
-    ensures { λ r. ⌜ Reads (leafValue (namesIn (now (source .entry)) (now (spans .entry))) (now (text .entry))) (parse ltlf (now (text .entry)) 1 at) n
-        (lists (now (ks .entry)) (now (ls .entry)) (now (rs .entry)))
-        (lists (now (ks .exit)) (now (ls .exit)) (now (rs .exit))) r ⌝ }
-{
-    let Read::At { next, count } = read_unary(source, spans, text, at, n, ks, ls, rs) else {
-        return Read::Bad;
-    };
-    let t = token_at(text, next);
-    let k = t.kind;
-    let after = t.next;
-    if !is_until(k) {
-        return Read::At { next, count };
-    }
-    let Read::At {
-        next: next2,
-        count: count2,
-    } = read_until(source, spans, text, after, count, ks, ls, rs)
-    else {
-        return Read::Bad;
-    };
-    part(ks, ls, rs, count2, k, count - 1, count2 - 1);
-    Read::At {
-        next: next2,
-        count: count2 + 1,
-    }
+    l
 }
 
 fn is_prefix(k: u8) -> bool
-    ensures { λ r. ⌜ r ≡ isPre k ⌝ }
+    ensures { λ x. ⌜ x ≡ isPre k ⌝ }
 {
-    if k == 33 {
-        return true;
+    (k == NOT) | (k == NEXT) | (k == WEAK_NEXT) | (k == EVENTUALLY) | (k == ALWAYS)
+}
+
+fn is_leaf(k: u8) -> bool
+    ensures { λ x. ⌜ x ≡ isLeaf k ⌝ }
+{
+    (k == NAME) | (k == TRUE) | (k == FALSE)
+}
+
+// A phrase of level l: one of the level below, and then the level's operators.
+fn read_level(
+    l: usize,
+    source: &[u8],
+    spans: &[usize],
+    text: &[u8],
+    at: usize,
+    n: usize,
+    cells: &mut [u32],
+) -> Read
+    requires { ⌜ Room (now text) at n ⌝ }
+    requires { ⌜ Spans (now source) (now spans) ⌝ }
+    requires { ⌜ l ≤ 4 ⌝ }
+    ensures { λ x. ⌜ Reads (leafValue (namesIn (now (source .entry)) (now (spans .entry))) (now (text .entry)))
+        (parse ltlf (now (text .entry)) l at) n (now (cells .entry)) (now (cells .exit)) x ⌝ }
+{
+    if l == 0 {
+        return read_unary(source, spans, text, at, n, cells);
     }
-    if k == 88 {
-        return true;
+    let r = l - 1;
+    let Read::At { next, count } = read_level(r, source, spans, text, at, n, cells) else {
+        return Read::Bad;
+    };
+    let right = right_level(l, r);
+    let mut to = next;
+    let mut c = count;
+    loop {
+        let t = token_at(text, to);
+        let k = t.kind;
+        let after = t.next;
+        if !is_op(l, k) {
+            return Read::At { next: to, count: c };
+        }
+        let Read::At {
+            next: next2,
+            count: count2,
+        } = read_level(right, source, spans, text, after, c, cells)
+        else {
+            return Read::Bad;
+        };
+        put_two(cells, count2, k, c);
+        to = next2;
+        c = count2 + 1;
+        if right == l {
+            return Read::At { next: to, count: c };
+        }
     }
-    if k == 78 {
-        return true;
-    }
-    if k == 70 {
-        return true;
-    }
-    k == 71
 }
 
 fn read_unary(
@@ -235,42 +134,27 @@ fn read_unary(
     text: &[u8],
     at: usize,
     n: usize,
-    ks: &mut [u8],
-    ls: &mut [u8],
-    rs: &mut [u8],
+    cells: &mut [u32],
 ) -> Read
     requires { ⌜ Room (now text) at n ⌝ }
     requires { ⌜ Spans (now source) (now spans) ⌝ }
-    ensures { λ r. ⌜ Reads (leafValue (namesIn (now (source .entry)) (now (spans .entry))) (now (text .entry))) (parse ltlf (now (text .entry)) 0 at) n
-        (lists (now (ks .entry)) (now (ls .entry)) (now (rs .entry)))
-        (lists (now (ks .exit)) (now (ls .exit)) (now (rs .exit))) r ⌝ }
+    ensures { λ x. ⌜ Reads (leafValue (namesIn (now (source .entry)) (now (spans .entry))) (now (text .entry)))
+        (parse ltlf (now (text .entry)) 0 at) n (now (cells .entry)) (now (cells .exit)) x ⌝ }
 {
     let t = token_at(text, at);
     let k = t.kind;
     let after = t.next;
     if !is_prefix(k) {
-        return read_atom(source, spans, text, at, n, ks, ls, rs);
+        return read_atom(source, spans, text, at, n, cells);
     }
-    let Read::At { next, count } = read_unary(source, spans, text, after, n, ks, ls, rs) else {
+    let Read::At { next, count } = read_unary(source, spans, text, after, n, cells) else {
         return Read::Bad;
     };
-    part(ks, ls, rs, count, k, count - 1, 0);
+    put(cells, count, k, ONE_SIDED);
     Read::At {
         next,
         count: count + 1,
     }
-}
-
-fn is_leaf(k: u8) -> bool
-    ensures { λ r. ⌜ r ≡ isLeaf k ⌝ }
-{
-    if k == 97 {
-        return true;
-    }
-    if k == 116 {
-        return true;
-    }
-    k == 102
 }
 
 fn read_atom(
@@ -279,70 +163,56 @@ fn read_atom(
     text: &[u8],
     at: usize,
     n: usize,
-    ks: &mut [u8],
-    ls: &mut [u8],
-    rs: &mut [u8],
+    cells: &mut [u32],
 ) -> Read
     requires { ⌜ Room (now text) at n ⌝ }
     requires { ⌜ Spans (now source) (now spans) ⌝ }
-    ensures { λ r. ⌜ Reads (leafValue (namesIn (now (source .entry)) (now (spans .entry))) (now (text .entry))) (atom ltlf (now (text .entry)) at) n
-        (lists (now (ks .entry)) (now (ls .entry)) (now (rs .entry)))
-        (lists (now (ks .exit)) (now (ls .exit)) (now (rs .exit))) r ⌝ }
+    ensures { λ x. ⌜ Reads (leafValue (namesIn (now (source .entry)) (now (spans .entry))) (now (text .entry)))
+        (atom ltlf (now (text .entry)) at) n (now (cells .entry)) (now (cells .exit)) x ⌝ }
 {
     let t = token_at(text, at);
     let k = t.kind;
     let after = t.next;
     if is_leaf(k) {
         let from = t.from;
-        let v = leaf_value(source, spans, text, k, from, after);
-        part(ks, ls, rs, n, k, v, 0);
+        put_leaf(cells, n, k, leaf_value(source, spans, text, k, from, after));
         return Read::At {
             next: after,
             count: n + 1,
         };
     }
-    if k != 40 {
+    if k != OPEN {
         return Read::Bad;
     }
-    let Read::At { next, count } = read_imp(source, spans, text, after, n, ks, ls, rs) else {
+    let Read::At { next, count } = read_level(4, source, spans, text, after, n, cells) else {
         return Read::Bad;
     };
     let u = token_at(text, next);
     let close = u.kind;
     let end = u.next;
-    if close != 41 {
+    if close != CLOSE {
         return Read::Bad;
     }
     Read::At { next: end, count }
 }
 
-// A whole formula text. It is read twice: the first time the parts go nowhere, so that a text that is no formula leaves the lists as they were.
-pub fn read_formula(
-    source: &[u8],
-    spans: &[usize],
-    text: &[u8],
-    n: usize,
-    ks: &mut [u8],
-    ls: &mut [u8],
-    rs: &mut [u8],
-) -> Read
-    requires { ⌜ n + length (now text) < 2 ^ 32 ⌝ }
+// A whole formula text: its parts' cells, one behind another. Where the text is no formula, all cells are cleared.
+pub fn read_formula(source: &[u8], spans: &[usize], text: &[u8], cells: &mut [u32]) -> Read
     requires { ⌜ Spans (now source) (now spans) ⌝ }
-    ensures { λ r. ⌜ Whole (leafValue (namesIn (now (source .entry)) (now (spans .entry))) (now (text .entry))) (parseFormula (now (text .entry))) n
-        (lists (now (ks .entry)) (now (ls .entry)) (now (rs .entry)))
-        (lists (now (ks .exit)) (now (ls .exit)) (now (rs .exit))) r ⌝ }
+    requires { ⌜ length (now text) ≤ length (now cells) ⌝ }
+    ensures { λ r. ⌜ r ≡ answer (parseFormula (now (text .entry))) 0 ⌝ }
+    ensures { λ _. ⌜ now (cells .exit) ≡ cellsAfter (leafValue (namesIn (now (source .entry)) (now (spans .entry))) (now (text .entry)))
+        (parseFormula (now (text .entry))) (now (cells .entry)) ⌝ }
 {
-    let mut k0 = [0u8; 1];
-    let mut l0 = [0u8; 1];
-    let mut r0 = [0u8; 1];
-    let Read::At { next, count: _ } = read_imp(source, spans, text, 0, n, &mut k0, &mut l0, &mut r0)
-    else {
+    let Read::At { next, count } = read_level(4, source, spans, text, 0, 0, cells) else {
+        clear_cells(cells);
         return Read::Bad;
     };
     let t = token_at(text, next);
     let k = t.kind;
-    if k != 0 {
+    if k != END {
+        clear_cells(cells);
         return Read::Bad;
     }
-    read_imp(source, spans, text, 0, n, ks, ls, rs)
+    Read::At { next, count }
 }

@@ -1,30 +1,11 @@
--- What the proofs of several functions use.
-pub mod Says
-pub mod Agreement
-pub mod BitLaws
-pub mod OpLaws
-pub mod ListLaws
-pub mod PartLaws
-pub mod TemporalLaws
-pub mod RowLaws
-pub mod StoredLaws
-pub mod StepLaws
+-- reading a problem: what it denotes, within which limits, and which numbers it may be refused with
+pub mod DenotesLaws
+pub mod JoinedFormulas
+pub mod WithinLimits
+pub mod ReadingNumbers
+pub mod ReadingLaws
+-- judging a trace
 pub mod TraceLaws
-pub mod LineLaws
-pub mod SignalLaws
-pub mod DeclareLaws
-pub mod EffectLaws
-pub mod Denotation
-pub mod StoreLaws
-pub mod JoinLaws
-pub mod TreeLaws
-pub mod NameLaws
-pub mod TextLaws
-pub mod StateLaws
-pub mod FieldLaws
-pub mod LimitLaws
-pub mod NumberLaws
-pub mod ReadLaws
 pub mod JudgeLaws
-pub mod Examples
+-- the front page
 pub mod Main

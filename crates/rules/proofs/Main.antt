@@ -3,19 +3,17 @@ use Prim.Native.Nat.{ℕ, _<_}
 use mathlib.Core.Path.{_≡_}
 use mathlib.Core.Logic.{_↔_}
 use mathlib.Core.Bool.{true}
-use mathlib.Core.List.{List, map}
+use mathlib.Core.List.{List}
 use lib.ListN.{length}
-use Rattle.grammar.specs.Bytes.{bytesOf}
-use Rattle.rules.specs.Formula.{Formula}
-use Rattle.rules.specs.Semantics.{Trace, Sat, holds}
+use Rattle.formula.specs.Formula.{Formula}
+use Rattle.formula.specs.Semantics.{Trace, Sat, holds}
 use Rattle.rules.specs.Problem.{Problem, accepted, readProblem}
 use Rattle.rules.specs.Denotes.{Denotes}
 use Rattle.rules.specs.Judge.{judgedBy, Means}
-use Rattle.rules.proofs.Agreement
-use Rattle.rules.proofs.Denotation
-use Rattle.rules.proofs.LimitLaws
+use Rattle.formula.proofs.Agreement
+use Rattle.rules.proofs.DenotesLaws
+use Rattle.rules.proofs.WithinLimits
 use Rattle.rules.proofs.JudgeLaws
-use Rattle.rules.proofs.Examples
 
 -- the evaluator is the published relation
 pub evaluator : (φ : Formula) (π : Trace) → 0 < length π → (holds φ π ≡ true) ↔ Sat π 0 φ
@@ -23,20 +21,16 @@ evaluator = Agreement.holds-iff-Sat
 
 -- a problem is read exactly where its text denotes it by the written grammar
 pub reading : (source : List ℕ) (p : Problem) → (readProblem source ≡ accepted p) ↔ Denotes source p
-reading = Denotation.read-iff-denotes
+reading = DenotesLaws.read-iff-denotes
 
 -- a text denotes one problem
 pub one-problem : (source : List ℕ) (p q : Problem) → Denotes source p → Denotes source q → p ≡ q
-one-problem = Denotation.one-problem
+one-problem = DenotesLaws.one-problem
 
 -- a problem that is read is within the limits
-pub limits : (source : List ℕ) (p : Problem) → readProblem source ≡ accepted p → LimitLaws.Within p
-limits = LimitLaws.read-within
+pub limits : (source : List ℕ) (p : Problem) → readProblem source ≡ accepted p → WithinLimits.Within p
+limits = WithinLimits.read-within
 
 -- a verdict is true or false exactly as the trace satisfies the formula that the text denotes
 pub verdict : (source : List ℕ) (π : Trace) → Means source π (judgedBy (readProblem source) π)
 verdict = JudgeLaws.judged-means
-
--- examples I, J and K
-pub examples : map (λ c. judgedBy (readProblem (bytesOf (c .source))) (c .trace)) Examples.cases ≡ map (λ c. c .verdict) Examples.cases
-examples = Examples.judged-right

@@ -4,26 +4,27 @@ use Prim.Native.Nat.{ℕ, suc, _+_, _*_, _/_, _%_, _^_, _≤_, _<_}
 use native.Mathlib.Nat.{one-mul}
 use native.Mathlib.Numerals.{add-one}
 use native.Mathlib.Omega.{arith}
-use mathlib.Core.Path.{_≡_, refl, sym, _∙_}
+use mathlib.Core.Path.{_≡_, refl, sym, ap, _∙_}
 use mathlib.Core.Bool.{Bool, true, false, _&&_, _||_, false≢true}
 use mathlib.Core.Option.{Option, none, some}
-use mathlib.Core.List.{List, [], _∷_}
+use mathlib.Core.List.{[], _∷_}
 use lib.Bits.{bitAnd, and-mask}
 use lib.Dec.{eqb, ltb, lit<}
-use lib.ListN.{length, getD, drop, drop-of-length-le, length-map}
+use lib.ListN.{length, getD, drop, drop-of-length-le}
 use lib.Pow.{shl-exact}
 use lib.Seq.{drop-cons}
 use Rattle.rules.specs.declared.judging.Verdict.{Verdict}
 use Rattle.rules.specs.declared.judging.Verdict.the-variants.{True, False, Refused}
-use Rattle.rules.specs.declared.refusal.Refusal.the-variants.{BadTrace}
-use Rattle.rules.specs.Formula.{Formula}
-use Rattle.rules.specs.Limits.{kindLimit, traceLimit}
-use Rattle.rules.specs.Semantics.{Trace, holds}
-use Rattle.rules.specs.Parts.{partsOf, kindsOf, leftsOf, rightsOf}
-use Rattle.rules.specs.Row.{storedParts, judgedTrue}
-use Rattle.rules.specs.Trace.{Counts, isLetter, badStep, pickStep, stepNumber, pickVerdict, orBadStep, verdictOn}
-use Rattle.rules.proofs.RowLaws.{judged-holds}
-use Rattle.rules.proofs.StoredLaws.{stored-parts}
+use Rattle.lines.specs.declared.refusal.Refusal.the-variants.{BadTrace}
+use Rattle.formula.specs.Formula.{Formula}
+use Rattle.lines.specs.Limits.{kindLimit}
+use Rattle.rules.specs.Limits.{traceLimit}
+use Rattle.formula.specs.Semantics.{Trace, holds}
+use Rattle.formula.specs.Parts.{partsOf}
+use Rattle.formula.specs.Row.{judgedTrue}
+use Rattle.rules.specs.Trace.{badStep, pickStep, stepNumber, pickVerdict, orBadStep, verdictOn}
+use Rattle.formula.specs.Letter.{Counts, isLetter}
+use Rattle.formula.proofs.RowLaws.{judged-holds}
 
 -- ---- a letter
 
@@ -91,13 +92,16 @@ module _ (c : Counts) (π : Trace) (b : Bool) where
   unfolding verdictOn
   verdict-step n l e h = rw l (bad-some (badStep c 1 π) n _ e h)
 
--- judging by the numbers of a formula's parts
-module _ (φ : Formula) (ks ls rs : List ℕ) (w : ℕ) (π : Trace) (f : length ks ≤ w) (long : badLength π ≡ false) (k : ks ≡ kindsOf (partsOf φ))
-    (l : ls ≡ leftsOf (partsOf φ)) (r : rs ≡ rightsOf (partsOf φ)) where
-  judged-stored : judgedTrue (storedParts ks ls rs) w π ≡ holds φ π
-  judged-stored = rw (k, l, r, stored-parts) (judged-holds φ w π (rw (k, length-map) at f) (some-steps π long))
-
-  pub verdict-judged : (c : Counts) (n : ℕ) (b : Bool) → n ≡ stepNumber (badStep c 1 π) → n ≡ 0 → b ≡ judgedTrue (storedParts ks ls rs) w π
-      → verdictOn c π (holds φ π) ≡ pickVerdict b True False
+  pub verdict-judged : (n : ℕ) (v : Bool) → badLength π ≡ false → n ≡ stepNumber (badStep c 1 π) → n ≡ 0 → v ≡ b
+      → verdictOn c π b ≡ pickVerdict v True False
   unfolding verdictOn
-  verdict-judged c n b e z t = rw (long, bad-none c 0 π (sym e ∙ z), t, judged-stored)
+  verdict-judged n v l e z t = rw (l, bad-none c 0 π (sym e ∙ z), t)
+
+-- judging by a formula's parts
+pub verdict-holds : (c : Counts) (π : Trace) (φ : Formula) (w : ℕ) → length (partsOf φ) ≤ w
+    → verdictOn c π (judgedTrue (partsOf φ) w π) ≡ verdictOn c π (holds φ π)
+verdict-holds c π φ w f = go (badLength π) refl
+  where
+    go : (b : Bool) → badLength π ≡ b → verdictOn c π (judgedTrue (partsOf φ) w π) ≡ verdictOn c π (holds φ π)
+    go true l = verdict-length c π _ l ∙ sym (verdict-length c π _ l)
+    go false l = ap (verdictOn c π) (judged-holds φ w π f (some-steps π l))

@@ -11,12 +11,13 @@ use Rattle.grammar.specs.Lex.{tokens}
 use Rattle.grammar.specs.Tree.{Tree}
 use Rattle.grammar.specs.Grammar.{Derived}
 use Rattle.grammar.specs.Names.{leafValue}
-use Rattle.rules.specs.declared.problem.Kind.{Kind}
-use Rattle.rules.specs.declared.problem.Word.the-variants.{Declare, Rule}
+use Rattle.lines.specs.declared.problem.Kind.{Kind}
+use Rattle.lines.specs.declared.problem.Word.the-variants.{Declare, Rule}
 use Rattle.rules.specs.Limits.{sourceLimit}
-use Rattle.rules.specs.Formula.{Formula}
-use Rattle.rules.specs.Lines.{SourceLine, ended, lines, hasTab, firstField, secondField, wordOf, isName, isText}
-use Rattle.rules.specs.Problem.{isDeclared, isFull, formulaOf, allDeclared, sizeIn, operatorsIn, isLarge, Draft, withDeclared, withFormula, Problem, blank}
+use Rattle.formula.specs.Formula.{Formula}
+use Rattle.lines.specs.Lines.{SourceLine, ended, lines, hasTab, firstField, secondField, wordOf, isName, isText}
+use Rattle.rules.specs.Problem.{sizeIn, operatorsIn, Draft, withDeclared, withFormula, Problem, blank}
+use Rattle.lines.specs.Effect.{isDeclared, isFull, formulaOf, allDeclared, isLarge}
 
 -- the formula of a tree that is derived from a text
 abbrev formulaIn : Draft → List ℕ → Tree → Formula

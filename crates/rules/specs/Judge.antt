@@ -5,14 +5,16 @@ use mathlib.Core.Bool.{Bool, true, false}
 use mathlib.Core.List.{List}
 use lib.Dec.{ltb}
 use lib.ListN.{length, replicate}
-use Rattle.rules.specs.declared.refusal.Refusal.the-variants.{ShortMemory}
+use Rattle.lines.specs.declared.refusal.Refusal.the-variants.{ShortMemory}
 use Rattle.rules.specs.declared.judging.Verdict.{Verdict}
 use Rattle.rules.specs.declared.judging.Verdict.the-variants.{True, False, Refused}
 use Rattle.rules.specs.Limits.{workSize}
-use Rattle.rules.specs.Semantics.{Trace, Sat, holds}
-use Rattle.rules.specs.Problem.{Signals, Problem, Outcome, accepted, refused, readProblem}
+use Rattle.formula.specs.Semantics.{Trace, Sat, holds}
+use Rattle.rules.specs.Problem.{Problem, Outcome, accepted, refused, readProblem}
+use Rattle.lines.specs.Effect.{Signals}
 use Rattle.rules.specs.Denotes.{Denotes}
-use Rattle.rules.specs.Trace.{Counts, pickVerdict, verdictOn}
+use Rattle.rules.specs.Trace.{pickVerdict, verdictOn}
+use Rattle.formula.specs.Letter.{Counts}
 
 abbrev pub countsIn : Signals → Counts
 countsIn g = record { outputs = g .outputs; observed = g .observed; hidden = g .hidden }

@@ -1,30 +1,21 @@
 -- Judging a recorded trace (a run in document 01): which traces are refused, and the verdict on the others.
 -- Assumes nothing.
-use Prim.Native.Nat.{ℕ, suc, _/_, _%_, _^_}
-use mathlib.Core.Bool.{Bool, true, false, _&&_, _||_}
+use Prim.Native.Nat.{ℕ, suc}
+use mathlib.Core.Bool.{Bool, true, false, _||_}
 use mathlib.Core.Option.{Option, none, some}
 use mathlib.Core.List.{[], _∷_}
 use lib.Dec.{eqb, ltb}
 use lib.ListN.{length}
-use Rattle.rules.specs.declared.refusal.Refusal.the-variants.{BadTrace}
+use Rattle.lines.specs.declared.refusal.Refusal.the-variants.{BadTrace}
 use Rattle.rules.specs.declared.judging.Verdict.{Verdict}
 use Rattle.rules.specs.declared.judging.Verdict.the-variants.{True, False, Refused}
-use Rattle.rules.specs.declared.problem.Sizes.{Sizes}
+use Rattle.lines.specs.declared.problem.Sizes.{Sizes}
 use Rattle.rules.specs.Limits.{traceLimit}
-use Rattle.rules.specs.Semantics.{Trace}
-
--- how many signals of each kind a letter is over
-pub record Counts : Type 0 where
-  pub outputs : ℕ
-  pub observed : ℕ
-  pub hidden : ℕ
+use Rattle.formula.specs.Letter.{Counts, isLetter}
+use Rattle.formula.specs.Semantics.{Trace}
 
 abbrev pub countsOf : Sizes → Counts
 countsOf s = record { outputs = s .outputs; observed = s .observed; hidden = s .hidden }
-
--- no bit of the letter is without a signal: output signals in bits 0 to 3, observed ones in 4 to 7, hidden ones from 8 on
-unfoldable pub isLetter : Counts → ℕ → Bool
-isLetter c a = ltb (a % 16) (2 ^ c .outputs) && (ltb (a / 16 % 16) (2 ^ c .observed) && ltb (a / 256) (2 ^ c .hidden))
 
 abbrev pub pickStep : Bool → Option ℕ → Option ℕ → Option ℕ
 pickStep true a b = a

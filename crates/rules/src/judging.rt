@@ -2,21 +2,20 @@
 ghost use mathlib.Core.Path.{_≡_};
 ghost use Prim.Native.Nat.{_≤_, _<_};
 ghost use lib.ListN.{length};
-ghost use Rattle.rules.specs.Formula.{Formula};
-ghost use Rattle.rules.specs.Semantics.{holds};
-ghost use Rattle.rules.specs.Parts.{partsOf, kindsOf, leftsOf, rightsOf};
-ghost use Rattle.rules.specs.Row.{Aligned};
-ghost use Rattle.rules.specs.Limits.{kindLimit};
-ghost use Rattle.rules.specs.Trace.{countsOf, isLetter, badStep, stepNumber, verdictOn};
+ghost use Rattle.formula.specs.Codes.{partsIn};
+ghost use Rattle.formula.specs.Row.{judgedTrue};
+ghost use Rattle.lines.specs.Limits.{kindLimit};
+ghost use Rattle.rules.specs.Trace.{countsOf, badStep, stepNumber, verdictOn};
+ghost use Rattle.formula.specs.Letter.{isLetter};
 ghost use Rattle.rules.specs.Problem.{readProblem};
 ghost use Rattle.rules.specs.Judge.{judgedBy, judged, workAfter, Means};
-use crate::evaluate::holds_on;
-use crate::lines::read;
-use crate::memory::clear;
-use crate::problem::Reading;
-use crate::problem::Sizes;
-use crate::refusal::Refusal;
-use crate::state::PART_LIMIT;
+use crate::reader::read;
+use basics::clear;
+use formula::holds_on;
+use lines::PART_LIMIT;
+use lines::Reading;
+use lines::Refusal;
+use lines::Sizes;
 
 // The verdict on a trace, or a refusal.
 pub enum Verdict {
@@ -57,19 +56,13 @@ const TRACE_LIMIT: usize = 1000;
 
 pub const WORK_SIZE: usize = 65536;
 
-// The verdict on a trace by a formula's parts.
-pub fn judge_trace(
-    kinds: &[u8],
-    lefts: &[u8],
-    rights: &[u8],
-    s: Sizes,
-    trace: &[u16],
-    row: &mut [u8],
-) -> Verdict
-    requires { ⌜ 0 < length (now kinds) ⌝ }
-    requires { ⌜ Aligned (now kinds) (now lefts) (now rights) (length (now row)) ⌝ }
+// The verdict on a trace by a formula's parts; the row is room to work in.
+fn judge_trace(parts: &[u32], s: Sizes, trace: &[u16], row: &mut [u8]) -> Verdict
+    requires { ⌜ 0 < length (now parts) ⌝ }
+    requires { ⌜ (length (now parts) ≤ length (now row)) × (256 ≤ length (now row)) ⌝ }
     requires { ⌜ (s .outputs ≤ kindLimit) × (s .observed ≤ kindLimit) × (s .hidden ≤ kindLimit) ⌝ }
-    ensures { λ r. ⌜ ((φ : Formula) → now (kinds .entry) ≡ kindsOf (partsOf φ) → now (lefts .entry) ≡ leftsOf (partsOf φ) → now (rights .entry) ≡ rightsOf (partsOf φ) → r ≡ verdictOn (countsOf s) (now (trace .entry)) (holds φ (now (trace .entry)))) ⌝ }
+    ensures { λ r. ⌜ r ≡ verdictOn (countsOf s) (now (trace .entry))
+        (judgedTrue (partsIn (now (parts .entry))) (length (now (row .entry))) (now (trace .entry))) ⌝ }
 {
     let steps = trace.len();
     if (steps == 0) | (steps > TRACE_LIMIT) {
@@ -79,7 +72,7 @@ pub fn judge_trace(
     if bad != 0 {
         return Verdict::Refused(Refusal::BadTrace(bad));
     }
-    if holds_on(kinds, lefts, rights, trace, row) {
+    if holds_on(parts, trace, row) {
         Verdict::True
     } else {
         Verdict::False
@@ -91,14 +84,12 @@ fn judge_source(source: &[u8], trace: &[u16], row: &mut [u8]) -> Verdict
     requires { ⌜ 256 ≤ length (now row) ⌝ }
     ensures { λ r. ⌜ r ≡ judgedBy (readProblem (now (source .entry))) (now (trace .entry)) ⌝ }
 {
-    let mut kinds = [0u8; PART_LIMIT];
-    let mut lefts = [0u8; PART_LIMIT];
-    let mut rights = [0u8; PART_LIMIT];
-    match read(source, &mut kinds, &mut lefts, &mut rights) {
+    let mut parts = [0u32; PART_LIMIT];
+    match read(source, &mut parts) {
         Reading::Refused(r) => Verdict::Refused(r),
         Reading::Accepted(s) => {
             let n = s.parts;
-            judge_trace(&kinds[..n], &lefts[..n], &rights[..n], s, trace, row)
+            judge_trace(&parts[..n], s, trace, row)
         }
     }
 }

@@ -8,22 +8,23 @@ use mathlib.Core.Logic.{_↔_}
 use mathlib.Core.Bool.{true, false}
 use mathlib.Core.List.{List, [], _∷_, _++_, map, foldr}
 use lib.ListN.{length}
-use Rattle.rules.specs.Bits.{bit}
-use Rattle.rules.specs.Formula.{Formula}
-use Rattle.rules.specs.Semantics.{Trace, Sat, orAtEnd, holds}
-use Rattle.rules.specs.Parts.{Part, byteOf, isTemporal, lastOf, partsOf, partAt, arity, build, formulaAt}
-use Rattle.rules.specs.Row.{owed}
-use Rattle.rules.proofs.Agreement.{holds-iff-Sat}
-use Rattle.rules.proofs.PartLaws.{formulaAt-step, WellFormed, parts-formed, parts-formula, last-below}
-use Rattle.rules.proofs.RowLaws.{asks, holds-build}
-use Rattle.states.specs.Bits.{fromBits}
-use Rattle.states.specs.PatternSet.{member, start, accepts}
-use Rattle.states.specs.Obligation.{operatorsOf, numberOf, spots, valueAt, owedAt, back, dueAt, duePattern}
+use Rattle.basics.specs.Bits.{bit, fromBits}
+use Rattle.formula.specs.Formula.{Formula}
+use Rattle.formula.specs.Semantics.{Trace, Sat, orAtEnd, holds}
+use Rattle.formula.specs.declared.parts.Part.{Part}
+use Rattle.formula.specs.Parts.{lastOf, partsOf, partAt, arity, build, formulaAt}
+use Rattle.formula.specs.Row.{owed}
+use Rattle.formula.proofs.Agreement.{holds-iff-Sat}
+use Rattle.formula.proofs.PartsLaws.{formulaAt-step, WellFormed, parts-formed, parts-formula, last-below}
+use Rattle.formula.proofs.RowLaws.{asks, holds-build}
+use Rattle.search.specs.PatternSet.{member, start, accepts}
+use Rattle.obligations.specs.Obligation.{isOperator, operatorsOf, numberOf, spots, valueAt, owedAt, back, dueAt, duePattern}
 use Rattle.states.specs.States.{startState, stateAfter}
-use Rattle.states.proofs.ListLaws.{map-ext-in}
-use Rattle.states.proofs.PatternSetLaws.{member-setOf, start-rejects, member-after, accepts-after}
-use Rattle.states.proofs.ObligationLaws.{combine-reads, valueAt-step}
-use Rattle.states.proofs.BackLaws.{combine-own, temporal-arity, spot-temporal, pattern-own, pattern-whole, back-fits}
+use Rattle.basics.proofs.ListsLaws.{map-ext-in}
+use Rattle.search.proofs.PatternSetLaws.{member-setOf, start-rejects, member-after, accepts-after}
+use Rattle.obligations.proofs.OperatorSpots.{spot-is}
+use Rattle.obligations.proofs.ObligationLaws.{combine-reads, valueAt-step}
+use Rattle.obligations.proofs.CarriedBack.{combine-own, temporal-arity, pattern-own, pattern-whole, back-fits}
 
 -- ---- at the end of a trace the pattern is all zero
 
@@ -40,7 +41,7 @@ due-end ps = zeros (spots ps)
 
 module _ (ps : List Part) (formed : WellFormed ps) (a : ℕ) (π : Trace) where
   -- what the pattern says of part i
-  own : (i : ℕ) → i < length ps → isTemporal (byteOf (partAt ps i .kind)) ≡ true
+  own : (i : ℕ) → i < length ps → isOperator ps i ≡ true
       → bit (duePattern ps π) (numberOf ps i)
       ≡ orAtEnd false
       (asks (partAt ps i .kind) (formulaAt ps (partAt ps i .left)) (build (partAt ps i .kind) (partAt ps i .left) (formulaAt ps (partAt ps i .left)) (formulaAt ps (partAt ps i .right)))) π
@@ -68,7 +69,7 @@ module _ (ps : List Part) (formed : WellFormed ps) (a : ℕ) (π : Trace) where
   pub value-due : (i : ℕ) → i < length ps → valueAt ps a (duePattern ps π) i ≡ holds (formulaAt ps i) (a ∷ π)
   value-due i h = upTo (length ps) (omega arith) i h
 
-  owed-due : (i : ℕ) → i < length ps → isTemporal (byteOf (partAt ps i .kind)) ≡ true → owedAt ps a (duePattern ps π) i ≡ dueAt ps (a ∷ π) i
+  owed-due : (i : ℕ) → i < length ps → isOperator ps i ≡ true → owedAt ps a (duePattern ps π) i ≡ dueAt ps (a ∷ π) i
   unfolding owedAt dueAt WellFormed
   owed-due i h t =
       let l : partAt ps i .left < i = formed i h .left-earlier (temporal-arity (partAt ps i .kind) t) in
@@ -80,7 +81,7 @@ module _ (ps : List Part) (formed : WellFormed ps) (a : ℕ) (π : Trace) where
   back-due h =
       ap₂ (λ bs b. fromBits (bs ++ (b ∷ [])))
       (map-ext-in (owedAt ps a (duePattern ps π)) (dueAt ps (a ∷ π)) (spots ps)
-      (λ i m. let s = spot-temporal ps i m in owed-due i (s .0) (s .1)))
+      (λ i m. let s = spot-is ps i m in owed-due i (s .0) (s .1)))
       (value-due (lastOf ps) h)
 
 -- ---- the theorems, for any parts that stand after their operands

@@ -2,12 +2,12 @@
 -- Assumes nothing.
 use Prim.Native.Nat.{ℕ}
 use mathlib.Core.List.{List}
-use Rattle.rules.specs.Parts.{Part}
-use Rattle.rules.specs.Semantics.{Trace}
-use Rattle.states.specs.PatternSet.{PatternSet, start, next, after}
-use Rattle.states.specs.Obligation.{operatorsOf, back}
-use Rattle.states.specs.Reach.{Listing}
-use Rattle.states.specs.ReachableSets.{reachableSets, IsReachable}
+use Rattle.formula.specs.declared.parts.Part.{Part}
+use Rattle.formula.specs.Semantics.{Trace}
+use Rattle.search.specs.PatternSet.{PatternSet, start, next, after}
+use Rattle.obligations.specs.Obligation.{operatorsOf, back}
+use Rattle.basics.specs.Reach.{Listing}
+use Rattle.search.specs.ReachableSets.{reachableSets, IsReachable}
 
 -- before any letter
 unfoldable pub startState : List Part → PatternSet

@@ -2,24 +2,25 @@
 ghost use mathlib.Core.Path.{_≡_};
 ghost use Prim.Native.Nat.{_+_, _*_, _≤_, _<_};
 ghost use lib.ListN.{length, replicate};
-ghost use Rattle.rules.specs.Parts.{temporals};
-ghost use Rattle.rules.specs.Row.{storedParts};
+ghost use Rattle.formula.specs.Codes.{partsIn};
 ghost use Rattle.rules.specs.Trace.{countsOf};
-ghost use Rattle.states.specs.Limits.{stateLimit, letterLimit, setSize, mapSize};
-ghost use Rattle.states.specs.Lists.{padded};
-ghost use Rattle.states.specs.Letters.{counts, letterCount, lettersOf};
-ghost use Rattle.states.specs.Obligation.{back};
+ghost use Rattle.search.specs.Limits.{stateLimit, letterLimit, setSize, mapSize};
+ghost use Rattle.basics.specs.Lists.{padded};
+ghost use Rattle.obligations.specs.Letters.{counts, letterCount, lettersOf};
+ghost use Rattle.obligations.specs.Obligation.{operatorsOf, back};
 ghost use Rattle.states.specs.States.{statesOf};
-ghost use Rattle.states.specs.Maps.{Stored, Sized, planesOf, MapsOf};
-ghost use Rattle.states.specs.Slots.{exploredOf};
-ghost use Rattle.states.specs.Memory.{setsOf, successorsOf};
+ghost use Rattle.obligations.specs.Values.{Stored};
+ghost use Rattle.search.specs.Maps.{planesOf};
+ghost use Rattle.states.specs.Planes.{Sized, MapsOf};
+ghost use Rattle.search.specs.Slots.{exploredOf};
+ghost use Rattle.search.specs.Memory.{setsOf, successorsOf};
 use crate::blocks::put_planes;
-use crate::letters::list_letters;
 use crate::maps::classify;
-use crate::search::Explored;
-use crate::search::search;
-use crate::sizes::BLOCK;
-use rules::Sizes;
+use lines::Sizes;
+use obligations::BLOCK;
+use obligations::list_letters;
+use search::Explored;
+use search::search;
 
 // How many planes of 64 patterns d operators take.
 fn planes_of(d: usize) -> usize
@@ -31,9 +32,7 @@ fn planes_of(d: usize) -> usize
 
 // Writes the maps of all letters, and answers how many letters there are.
 fn prepare(
-    kinds: &[u8],
-    lefts: &[u8],
-    rights: &[u8],
+    parts: &[u32],
     outputs: usize,
     observed: usize,
     hidden: usize,
@@ -41,8 +40,8 @@ fn prepare(
     maps: &mut [u8],
     firsts: &mut [u16],
 ) -> usize
-    requires { ⌜ Stored (now kinds) (now lefts) (now rights) ⌝ }
-    requires { ⌜ d ≡ temporals (now kinds) ⌝ }
+    requires { ⌜ Stored (now parts) ⌝ }
+    requires { ⌜ d ≡ operatorsOf (partsIn (now parts)) ⌝ }
     requires { ⌜ outputs ≤ 4 ⌝ }
     requires { ⌜ observed ≤ 4 ⌝ }
     requires { ⌜ hidden ≤ 4 ⌝ }
@@ -50,47 +49,31 @@ fn prepare(
     requires { ⌜ length (now maps) ≡ letterLimit * mapSize ⌝ }
     requires { ⌜ length (now firsts) ≡ letterLimit ⌝ }
     ensures { λ r. ⌜ r ≡ letterCount (counts outputs observed hidden) ⌝ }
-    ensures { λ r. ⌜ MapsOf (storedParts (now (kinds .entry)) (now (lefts .entry)) (now (rights .entry))) (lettersOf (counts outputs observed hidden)) d r
+    ensures { λ r. ⌜ MapsOf (partsIn (now (parts .entry))) (lettersOf (counts outputs observed hidden)) d r
         (now (maps .exit)) (now (firsts .exit)) ⌝ }
 {
     let mut letters = [0u16; 512];
     let mut words = [0u64; 8192];
     let n = list_letters(outputs, observed, hidden, &mut letters);
     let m = planes_of(d);
-    put_planes(
-        kinds,
-        lefts,
-        rights,
-        d,
-        &letters,
-        (n + (BLOCK - 1)) / BLOCK,
-        m,
-        &mut words,
-    );
+    put_planes(parts, d, &letters, (n + (BLOCK - 1)) / BLOCK, m, &mut words);
     classify(&words, n, m, maps, firsts);
     n
 }
 
 // All states, and the number of the state that each letter leads to from each, into memory that is all zero for the latter;
 // nothing but the answer where they are too many.
-pub fn explore(
-    kinds: &[u8],
-    lefts: &[u8],
-    rights: &[u8],
-    sizes: Sizes,
-    mem: &mut [u8],
-    successors: &mut [u8],
-) -> Explored
-    requires { ⌜ Stored (now kinds) (now lefts) (now rights) ⌝ }
-    requires { ⌜ Sized (now kinds) sizes ⌝ }
+pub fn explore(parts: &[u32], sizes: Sizes, mem: &mut [u8], successors: &mut [u8]) -> Explored
+    requires { ⌜ Stored (now parts) ⌝ }
+    requires { ⌜ Sized (now parts) sizes ⌝ }
     requires { ⌜ length (now mem) ≡ (stateLimit + 1) * setSize ⌝ }
     requires { ⌜ now successors ≡ replicate (stateLimit * letterLimit) 0 ⌝ }
-    ensures { λ r. ⌜ r ≡ exploredOf (statesOf (storedParts (now (kinds .entry)) (now (lefts .entry)) (now (rights .entry))) (lettersOf (countsOf sizes)) stateLimit) ⌝ }
+    ensures { λ r. ⌜ r ≡ exploredOf (statesOf (partsIn (now (parts .entry))) (lettersOf (countsOf sizes)) stateLimit) ⌝ }
     ensures { λ _. ⌜ now (mem .exit) ≡ padded (length (now (mem .entry)))
-        (setsOf (statesOf (storedParts (now (kinds .entry)) (now (lefts .entry)) (now (rights .entry))) (lettersOf (countsOf sizes)) stateLimit)) ⌝ }
+        (setsOf (statesOf (partsIn (now (parts .entry))) (lettersOf (countsOf sizes)) stateLimit)) ⌝ }
     ensures { λ _. ⌜ now (successors .exit) ≡ padded (length (now (successors .entry)))
-        (successorsOf (sizes .operators) (back (storedParts (now (kinds .entry)) (now (lefts .entry)) (now (rights .entry)))) (lettersOf (countsOf sizes))
-        (statesOf (storedParts (now (kinds .entry)) (now (lefts .entry)) (now (rights .entry))) (lettersOf (countsOf sizes)) stateLimit)) ⌝ }
+        (successorsOf (sizes .operators) (back (partsIn (now (parts .entry)))) (lettersOf (countsOf sizes))
+        (statesOf (partsIn (now (parts .entry))) (lettersOf (countsOf sizes)) stateLimit)) ⌝ }
 {
     let mut maps = [0u8; 65536];
     let mut firsts = [0u16; 512];
@@ -98,16 +81,6 @@ pub fn explore(
     let observed = sizes.observed;
     let hidden = sizes.hidden;
     let d = sizes.operators;
-    let n = prepare(
-        kinds,
-        lefts,
-        rights,
-        outputs,
-        observed,
-        hidden,
-        d,
-        &mut maps,
-        &mut firsts,
-    );
+    let n = prepare(parts, outputs, observed, hidden, d, &mut maps, &mut firsts);
     search(&maps, &firsts, d, n, mem, successors)
 }

@@ -3,57 +3,49 @@ ghost use mathlib.Core.Path.{_≡_};
 ghost use mathlib.Core.List.{_++_};
 ghost use Prim.Native.Nat.{_<_, _≤_, _*_};
 ghost use lib.ListN.{length, take, drop};
-ghost use Rattle.rules.specs.Parts.{temporals};
-ghost use Rattle.rules.specs.Row.{storedParts};
-ghost use Rattle.states.specs.Limits.{blockSize, slotSize, planeSize, letterLimit};
-ghost use Rattle.states.specs.Obligation.{spotsTo};
-ghost use Rattle.states.specs.Maps.{Stored, numbersOf, carriedLane, plane, Carried};
-use crate::lanes::owed_lanes;
-use crate::numbering::number_parts;
-use crate::sizes::BLOCK;
-use crate::sizes::PLANE;
-use crate::sizes::SLOT;
-use crate::values::put_values;
-use rules::op_of;
+ghost use Rattle.formula.specs.Codes.{partsIn};
+ghost use Rattle.search.specs.Limits.{letterLimit};
+ghost use Rattle.obligations.specs.Obligation.{operatorsOf, spots as spotsOf};
+ghost use Rattle.obligations.specs.Values.{Stored, numbersOf, blockSize, valuesTo};
+ghost use Rattle.states.specs.Planes.{slotSize, planeSize, carriedLane, plane, planesTo};
+use formula::part_at;
+use obligations::BLOCK;
+use obligations::number_parts;
+use obligations::owed_lanes;
+use obligations::put_values;
+
+// Words of a letter in a plane.
+pub(crate) const SLOT: usize = 8;
+
+// Words of a plane.
+pub(crate) const PLANE: usize = 4096;
 
 // Word k of the block's letter x: an operator's obligation, then the whole formula's, then none.
-fn carried_lane(
-    kinds: &[u8],
-    lefts: &[u8],
-    spots: &[u8],
-    d: usize,
-    v: &[u64],
-    x: usize,
-    k: usize,
-) -> u64
-    requires { ⌜ length (now lefts) ≡ length (now kinds) ⌝ }
-    requires { ⌜ 0 < length (now kinds) ⌝ }
-    requires { ⌜ length (now kinds) ≤ 256 ⌝ }
-    requires { ⌜ d ≡ temporals (now kinds) ⌝ }
-    requires { ⌜ take d (now spots) ≡ spotsTo (now kinds) (length (now kinds)) ⌝ }
+fn carried_lane(parts: &[u32], spots: &[u8], d: usize, v: &[u64], x: usize, k: usize) -> u64
+    requires { ⌜ 0 < length (now parts) ⌝ }
+    requires { ⌜ length (now parts) ≤ 256 ⌝ }
+    requires { ⌜ d ≡ operatorsOf (partsIn (now parts)) ⌝ }
+    requires { ⌜ take d (now spots) ≡ spotsOf (partsIn (now parts)) ⌝ }
     requires { ⌜ length (now v) ≡ 256 * blockSize ⌝ }
     requires { ⌜ x < blockSize ⌝ }
-    ensures { λ r. ⌜ r ≡ carriedLane (now (kinds .entry)) (now (lefts .entry)) (now (spots .entry)) d (now (v .entry)) x k ⌝ }
+    ensures { λ r. ⌜ r ≡ carriedLane (partsIn (now (parts .entry))) (now (spots .entry)) d (now (v .entry)) x k ⌝ }
 {
     if k < d {
         let i = spots[k] as usize;
-        return owed_lanes(
-            op_of(kinds[i]),
-            v[(lefts[i] as usize) * BLOCK + x],
-            v[i * BLOCK + x],
-        );
+        let part = part_at(parts, i);
+        let op = part.kind;
+        let left = (part.left as usize) * BLOCK;
+        return owed_lanes(op, v[left + x], v[i * BLOCK + x]);
     }
     if k == d {
-        return v[(kinds.len() - 1) * BLOCK + x];
+        return v[(parts.len() - 1) * BLOCK + x];
     }
     0
 }
 
 // Writes the words of a block of letters, for block w of patterns.
 fn put_block(
-    kinds: &[u8],
-    lefts: &[u8],
-    rights: &[u8],
+    parts: &[u32],
     numbers: &[u8],
     spots: &[u8],
     d: usize,
@@ -62,28 +54,27 @@ fn put_block(
     v: &mut [u64],
     words: &mut [u64],
 )
-    requires { ⌜ Stored (now kinds) (now lefts) (now rights) ⌝ }
-    requires { ⌜ d ≡ temporals (now kinds) ⌝ }
-    requires { ⌜ take (length (now kinds)) (now numbers) ≡ numbersOf (now kinds) ⌝ }
-    requires { ⌜ take d (now spots) ≡ spotsTo (now kinds) (length (now kinds)) ⌝ }
+    requires { ⌜ Stored (now parts) ⌝ }
+    requires { ⌜ d ≡ operatorsOf (partsIn (now parts)) ⌝ }
+    requires { ⌜ take (length (now parts)) (now numbers) ≡ numbersOf (partsIn (now parts)) ⌝ }
+    requires { ⌜ take d (now spots) ≡ spotsOf (partsIn (now parts)) ⌝ }
     requires { ⌜ length (now letters) ≡ blockSize ⌝ }
     requires { ⌜ length (now v) ≡ 256 * blockSize ⌝ }
     requires { ⌜ length (now words) ≡ blockSize * slotSize ⌝ }
-    ensures { λ _. ⌜ now (words .exit) ≡ plane (storedParts (now (kinds .entry)) (now (lefts .entry)) (now (rights .entry))) (now (letters .entry)) w (blockSize * slotSize) ⌝ }
+    ensures { λ _. ⌜ now (words .exit) ≡ plane (partsIn (now (parts .entry))) (now (letters .entry)) w (blockSize * slotSize) ⌝ }
+    ensures { λ _. ⌜ now (v .exit) ≡ valuesTo (partsIn (now (parts .entry))) (now (letters .entry)) w (length (now (parts .entry))) (now (v .entry)) ⌝ }
 {
-    put_values(kinds, lefts, rights, numbers, letters, w, kinds.len(), v);
+    put_values(parts, numbers, letters, w, parts.len(), v);
     let mut y = 0;
     while y < BLOCK * SLOT {
-        words[y] = carried_lane(kinds, lefts, spots, d, v, y / SLOT, y % SLOT);
+        words[y] = carried_lane(parts, spots, d, v, y / SLOT, y % SLOT);
         y += 1;
     }
 }
 
 // Writes the words of all letters, in so many blocks, for block w of patterns.
 fn put_plane(
-    kinds: &[u8],
-    lefts: &[u8],
-    rights: &[u8],
+    parts: &[u32],
     numbers: &[u8],
     spots: &[u8],
     d: usize,
@@ -92,14 +83,14 @@ fn put_plane(
     w: usize,
     words: &mut [u64],
 )
-    requires { ⌜ Stored (now kinds) (now lefts) (now rights) ⌝ }
-    requires { ⌜ d ≡ temporals (now kinds) ⌝ }
-    requires { ⌜ take (length (now kinds)) (now numbers) ≡ numbersOf (now kinds) ⌝ }
-    requires { ⌜ take d (now spots) ≡ spotsTo (now kinds) (length (now kinds)) ⌝ }
+    requires { ⌜ Stored (now parts) ⌝ }
+    requires { ⌜ d ≡ operatorsOf (partsIn (now parts)) ⌝ }
+    requires { ⌜ take (length (now parts)) (now numbers) ≡ numbersOf (partsIn (now parts)) ⌝ }
+    requires { ⌜ take d (now spots) ≡ spotsOf (partsIn (now parts)) ⌝ }
     requires { ⌜ length (now letters) ≡ letterLimit ⌝ }
     requires { ⌜ blocks * blockSize ≤ letterLimit ⌝ }
     requires { ⌜ length (now words) ≡ planeSize ⌝ }
-    ensures { λ _. ⌜ now (words .exit) ≡ plane (storedParts (now (kinds .entry)) (now (lefts .entry)) (now (rights .entry))) (now (letters .entry)) w (blocks * blockSize * slotSize)
+    ensures { λ _. ⌜ now (words .exit) ≡ plane (partsIn (now (parts .entry))) (now (letters .entry)) w (blocks * blockSize * slotSize)
         ++ drop (blocks * blockSize * slotSize) (now (words .entry)) ⌝ }
 {
     let mut v = [0u64; 4096];
@@ -108,9 +99,7 @@ fn put_plane(
         let from = b * BLOCK;
         let at = from * SLOT;
         put_block(
-            kinds,
-            lefts,
-            rights,
+            parts,
             numbers,
             spots,
             d,
@@ -124,34 +113,30 @@ fn put_plane(
 }
 
 // Writes the words of all letters in m planes.
-pub fn put_planes(
-    kinds: &[u8],
-    lefts: &[u8],
-    rights: &[u8],
+pub(crate) fn put_planes(
+    parts: &[u32],
     d: usize,
     letters: &[u16],
     blocks: usize,
     m: usize,
     words: &mut [u64],
 )
-    requires { ⌜ Stored (now kinds) (now lefts) (now rights) ⌝ }
-    requires { ⌜ d ≡ temporals (now kinds) ⌝ }
+    requires { ⌜ Stored (now parts) ⌝ }
+    requires { ⌜ d ≡ operatorsOf (partsIn (now parts)) ⌝ }
     requires { ⌜ length (now letters) ≡ letterLimit ⌝ }
     requires { ⌜ blocks * blockSize ≤ letterLimit ⌝ }
     requires { ⌜ m ≤ 2 ⌝ }
     requires { ⌜ length (now words) ≡ 2 * planeSize ⌝ }
-    ensures { λ _. ⌜ Carried (storedParts (now (kinds .entry)) (now (lefts .entry)) (now (rights .entry))) (now (letters .entry)) m (blocks * blockSize) (now (words .exit)) ⌝ }
+    ensures { λ _. ⌜ now (words .exit) ≡ planesTo (partsIn (now (parts .entry))) (now (letters .entry)) (blocks * blockSize) m (now (words .entry)) ⌝ }
 {
     let mut numbers = [0u8; 96];
     let mut spots = [0u8; 8];
-    number_parts(kinds, &mut numbers, &mut spots);
+    number_parts(parts, &mut numbers, &mut spots);
     let mut w = 0;
     while w < m {
         let at = w * PLANE;
         put_plane(
-            kinds,
-            lefts,
-            rights,
+            parts,
             &numbers,
             &spots,
             d,

@@ -4,12 +4,12 @@ ghost use mathlib.Core.Path.{_≡_};
 ghost use Prim.Native.Nat.{_<_, _≤_, _*_, _+_};
 ghost use mathlib.Core.List.{_++_};
 ghost use lib.ListN.{length, drop};
-ghost use Rattle.states.specs.Limits.{slotSize, planeSize, mapSize, letterLimit};
-ghost use Rattle.states.specs.Lists.{firstThat};
-ghost use Rattle.states.specs.Maps.{laneOf, mapOf, sameWords, Classified};
-use crate::sizes::MAP;
-use crate::sizes::PLANE;
-use crate::sizes::SLOT;
+ghost use Rattle.search.specs.Limits.{mapSize, letterLimit};
+ghost use Rattle.basics.specs.Lists.{tabulate};
+ghost use Rattle.states.specs.Planes.{slotSize, planeSize, laneOf, mapOf, sameWords, firstOf, mapsTo};
+use crate::blocks::PLANE;
+use crate::blocks::SLOT;
+use search::MAP;
 
 // Whether letters a and b have the same words.
 fn same_words(words: &[u64], a: usize, b: usize) -> bool
@@ -33,7 +33,7 @@ fn same_words(words: &[u64], a: usize, b: usize) -> bool
 fn first_same(words: &[u64], a: usize) -> usize
     requires { ⌜ length (now words) ≡ 2 * planeSize ⌝ }
     requires { ⌜ a < letterLimit ⌝ }
-    ensures { λ r. ⌜ r ≡ firstThat (sameWords (now (words .entry)) a) a ⌝ }
+    ensures { λ r. ⌜ r ≡ firstOf (now (words .entry)) a ⌝ }
 {
     let mut b = 0;
     while b < a {
@@ -77,13 +77,14 @@ fn put_map(words: &[u64], a: usize, m: usize, map: &mut [u8])
 }
 
 // Writes for each of n letters the first with the same words, and the maps of those that are first.
-pub fn classify(words: &[u64], n: usize, m: usize, maps: &mut [u8], firsts: &mut [u16])
+pub(crate) fn classify(words: &[u64], n: usize, m: usize, maps: &mut [u8], firsts: &mut [u16])
     requires { ⌜ length (now words) ≡ 2 * planeSize ⌝ }
     requires { ⌜ n ≤ letterLimit ⌝ }
     requires { ⌜ m ≤ 2 ⌝ }
     requires { ⌜ length (now maps) ≡ letterLimit * mapSize ⌝ }
     requires { ⌜ length (now firsts) ≡ letterLimit ⌝ }
-    ensures { λ _. ⌜ Classified m n (now (words .entry)) (now (maps .exit)) (now (firsts .exit)) ⌝ }
+    ensures { λ _. ⌜ now (maps .exit) ≡ mapsTo (now (words .entry)) m n (now (maps .entry)) ⌝ }
+    ensures { λ _. ⌜ now (firsts .exit) ≡ tabulate n (firstOf (now (words .entry))) ++ drop n (now (firsts .entry)) ⌝ }
 {
     let mut a = 0;
     while a < n {

@@ -2,9 +2,8 @@
 -- Assumes nothing.
 use lib.ListN.{length}
 use borrow.Author.Needs.{needs}
-use Rattle.cabinet.specs.WellFormed.{isSized, isRow}
-use Rattle.cabinet.proofs.CheckLaws.{guard-fails, guard-left, guarded}
-use Rattle.cabinet.proofs.SizedLaws.{sized-says}
+use Rattle.printer.specs.WellFormed.{isSized, isRow}
+use Rattle.printer.proofs.WellFormedLaws.{guard-fails, guard-left, guarded, sized-says}
 use Rattle.cabinet.proofs.position.is_standing.Statement.{statement}
 use Rattle.cabinet.proofs.position.is_standing.Tie as tie
 

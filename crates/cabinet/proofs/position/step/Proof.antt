@@ -47,7 +47,7 @@ use denote.Exit.{yes}
 use Rattle.cabinet.specs.Position.{stepOf}
 use Rattle.cabinet.specs.declared.position.Position.{Position}
 use Rattle.cabinet.specs.declared.position.Moved.{Moved}
-use Rattle.cabinet.proofs.WalkLaws.{R, RS, RE, mach, word, position-is, answer-is}
+use Rattle.cabinet.proofs.position.Walk.{R, RS, RE, mach, word, position-is, answer-is}
 use Rattle.cabinet.proofs.position.Position as T
 use Rattle.cabinet.proofs.position.Position.Laws as T′
 use Rattle.cabinet.proofs.position.Answer as E

@@ -3,7 +3,7 @@
 use Prim.Native.Nat.{_+_, _*_}
 use native.Mathlib.Omega.{arith}
 use borrow.Author.Needs.{needs}
-use Rattle.game.specs.Limits.{rowSize}
+use Rattle.play.specs.Limits.{rowSize}
 use Rattle.cabinet.proofs.PositionLaws.{Stands, stands, Goes, goes, step-nowhere, step-astray, step-stopped, step-unseen, step-cell, step-row, step-moves}
 use Rattle.cabinet.proofs.position.is_standing.Reads as is-standing-reads
 use Rattle.cabinet.proofs.position.refuse.Reads as refuse-reads

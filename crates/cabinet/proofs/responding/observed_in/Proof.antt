@@ -9,12 +9,6 @@ use Rattle.cabinet.proofs.responding.observed_in.Tie as tie
 slice-aggregate-read : tie.Need-slice-aggregate-read
 slice-aggregate-read c = search needs
 
-slice-aggregate-read-2 : tie.Need-slice-aggregate-read-2
-slice-aggregate-read-2 c = search needs
-
-slice-aggregate-read-3 : tie.Need-slice-aggregate-read-3
-slice-aggregate-read-3 c = search needs
-
 read-requires : tie.Need-read-requires
 read-requires c κs = search needs
 
@@ -26,14 +20,14 @@ enum-told c = search needs
 
 returns : tie.Need-returns
 returns c =
-    let source = c .before .before .before .before .before .before .before .before .before .before .before .args .source .now in
-    let read = c .before .before .before .before .before .before .read in
+    let source = c .before .before .before .before .before .before .before .args .source .now in
+    let read = c .before .before .before .before .read in
     observed-accepted (readProblem source) (read .result) (c .before .s .given .0 .0) (read .ensures .0) (c .before .s .given .1)
 
 returns-2 : tie.Need-returns-2
 returns-2 c =
-    let source = c .before .before .before .before .before .before .before .before .before .before .args .source .now in
-    let read = c .before .before .before .before .before .read in
+    let source = c .before .before .before .before .before .before .args .source .now in
+    let read = c .before .before .before .read in
     observed-refused (readProblem source) (read .result) (c .enum-told .given .0 .0) (read .ensures .0) (c .enum-told .given .1)
 
 pub observed-in-spec : {M : Type 1} → statement M
@@ -41,8 +35,6 @@ observed-in-spec =
     tie.close
     (tie.spec
     slice-aggregate-read
-    slice-aggregate-read-2
-    slice-aggregate-read-3
     read-requires
     enum-known-s
     enum-told

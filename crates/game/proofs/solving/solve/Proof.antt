@@ -2,7 +2,7 @@
 -- Assumes nothing.
 use mathlib.Core.Path.{sym, _∙_}
 use lib.Seq.{length-take-le, length-front}
-use Rattle.game.proofs.CallLaws.{short-right, long-work, long-table, long-right}
+use Rattle.game.proofs.solving.WholeCall.{short-right, long-work, long-table, long-right}
 use borrow.Author.Needs.{needs}
 use Rattle.game.proofs.solving.solve.Statement.{statement}
 use Rattle.game.proofs.solving.solve.Tie as tie

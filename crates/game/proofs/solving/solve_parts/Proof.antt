@@ -1,9 +1,10 @@
 -- `game::solving::solve_parts` meets its contract, by those of `explore` and `solve_states`.
 -- Assumes nothing.
-use Rattle.game.specs.Claim.{solvedOf, cellsOf, written}
+use Rattle.basics.specs.Lists.{written}
+use Rattle.game.specs.Claim.{solvedOf, cellsOf}
 use mathlib.Core.Path.{_≡_, refl, sym, ap, _∙_}
 use native.Mathlib.Omega.{arith}
-use Rattle.game.proofs.ProblemLaws.{solved-many, widths-right, states-successors, states-few, states-some, solved-some}
+use Rattle.game.proofs.solving.FromStates.{solved-many, widths-right, states-successors, states-few, states-some, solved-some}
 use borrow.Author.Needs.{needs}
 use Rattle.game.proofs.solving.solve_parts.Statement.{statement}
 use Rattle.game.proofs.solving.solve_parts.Tie as tie
@@ -13,7 +14,7 @@ slice-aggregate-explore c = search needs
 
 explore-requires : tie.Need-explore-requires
 explore-requires c κs =
-    let p = c .before .before .before .before .before .before .before .pre in
+    let p = c .before .before .before .before .before .pre in
     (p .0, (p .1 .0, (p .1 .1 .0, refl)))
 
 enum-known-n : tie.Need-enum-known-n
@@ -33,33 +34,19 @@ shl-solve-states-3 c = search needs
 
 solve-states-requires : tie.Need-solve-states-requires
 solve-states-requires c κs =
-    let p = c .before .before .before .before .before .before .before .before .before .before .before .before .before .before .before .before .before .pre in
-    let a = c .before .before .before .before .before .before .before .before .before .before .before .before .before .before .before .before .before .args in
+    let p = c .before .before .before .before .before .before .before .before .before .before .before .before .before .before .before .pre in
+    let a = c .before .before .before .before .before .before .before .before .before .before .before .before .before .before .before .args in
     let explore = c .before .before .before .before .before .before .before .before .before .explore in
-    let n = c .before .before .before .before .n in (
-      omega (arith, explore .kept .1 .1 .1 .1 .0, p .1 .1 .0),
-      (
-        explore .kept .1 .1 .1 .1 .1 .0,
-        (
-          states-some (a .kinds .now) (a .lefts .now) (a .rights .now)
-              (a .sizes) (p .0) (p .1 .0) _ _ (explore .last .1 .1 .1 .1 .0) (explore .last .1 .1 .1 .1 .1 .0) (explore .ensures .1 .0) (explore .ensures .1 .1)
-              (n .given .0 .0) (sym (n .given .1) ∙ explore .ensures .0),
-          (
-            states-few (a .kinds .now) (a .lefts .now) (a .rights .now) (a .sizes) (p .0) (p .1 .0)
-                _ _ (explore .last .1 .1 .1 .1 .0) (explore .last .1 .1 .1 .1 .1 .0) (explore .ensures .1 .0) (explore .ensures .1 .1) (n .given .0 .0) (sym (n .given .1)
-                ∙ explore .ensures .0),
-            (
-              widths-right (a .kinds .now) (a .lefts .now) (a .rights .now) (a .sizes) (p .1 .0),
-              (
-                states-successors (a .kinds .now) (a .lefts .now) (a .rights .now) (a .sizes) (p .0) (p .1 .0) _ _ (explore .last .1 .1 .1 .1 .0) (explore .last .1 .1 .1 .1 .1 .0) (explore .ensures .1 .0) (explore .ensures .1 .1) (n .given .0 .0) (sym (n .given .1)
-                    ∙ explore .ensures .0),
-                p .1 .1 .1,
-              ),
-            ),
-          ),
-        ),
-      ),
-    )
+    let n = c .before .before .before .before .n in
+    let found = sym (n .given .1) ∙ explore .ensures .0 in
+    let sets = explore .last .1 .1 .0 in
+    let successors = explore .last .1 .1 .1 .0 in
+    let (sets-are, successors-are) = explore .ensures .1 in
+    let some = states-some (a .parts .now) (a .sizes) (p .1 .0) _ _ sets successors sets-are successors-are (n .given .0 .0) found in
+    let few = states-few (a .parts .now) (a .sizes) (p .1 .0) _ _ sets successors sets-are successors-are (n .given .0 .0) found in
+    let right = states-successors (a .parts .now) (a .sizes) (p .1 .0) _ _ sets successors sets-are successors-are (n .given .0 .0) found in
+    let widths = widths-right (a .parts .now) (a .sizes) (p .1 .0) in
+    (omega (arith, explore .kept .1 .1 .0, p .1 .1 .0), (explore .kept .1 .1 .1 .0, (some, (few, (widths, (right, p .1 .1 .1))))))
 
 enum-told : tie.Need-enum-told
 enum-told c = search needs
@@ -72,17 +59,16 @@ same-length-2 c = search needs
 
 returns : tie.Need-returns
 returns c =
-    let a = c .before .before .before .before .before .before .before .before .before .before .before .before .before .before .before .before .before .before .before .before .args in
-    let p′ = c .before .before .before .before .before .before .before .before .before .before .before .before .before .before .before .before .before .before .before .before .pre in
-    let explore = c .before .before .before .before .before .before .before .before .before .before .before .before .explore in
-    let n = c .before .before .before .before .before .before .before .n in (
-      λ p e f. solved-some (a .kinds .now) (a .lefts .now) (a .rights .now) (a .sizes) (p′ .0) (p′ .1 .0) _ _ (explore .last .1 .1 .1 .1 .0) (explore .last .1 .1 .1 .1 .1 .0)
-          (explore .ensures .1 .0) (explore .ensures .1 .1) (n .given .0 .0) (sym (n .given .1) ∙ explore .ensures .0) p e f (λ x. c .before .before .solve-states .result ≡
-          solvedOf x) (λ G M t. c .before .before .solve-states .ensures .0 G M t),
-      λ p e f. solved-some (a .kinds .now) (a .lefts .now) (a .rights .now) (a .sizes)
-          (p′ .0) (p′ .1 .0) _ _ (explore .last .1 .1 .1 .1 .0) (explore .last .1 .1 .1 .1 .1 .0) (explore .ensures .1 .0) (explore .ensures .1 .1) (n .given .0 .0)
-          (sym (n .given .1) ∙ explore .ensures .0) p e f (λ x. c .before .before .solve-states .last .1 .1 .1 .1 .1 .1 .0 ≡ written (cellsOf x) (a .table .now))
-          (λ G M t. c .before .before .solve-states .ensures .1 G M t),
+    let t = c .before .before .before .before .before .before .before .before .before .before .before .before in
+    let a = t .before .before .before .before .before .before .args in
+    let s = t .before .before .before .before .before .before .pre .1 .0 in
+    let explore = t .explore in
+    let n = c .before .before .before .before .before .before .before .n in
+    let solved = c .before .before .solve-states in
+    let all = solved-some (a .parts .now) (a .sizes) s _ _ (explore .last .1 .1 .0) (explore .last .1 .1 .1 .0)
+    (explore .ensures .1 .0) (explore .ensures .1 .1) (n .given .0 .0) (sym (n .given .1) ∙ explore .ensures .0) in (
+      λ p e f. all p e f (λ x. solved .result ≡ solvedOf x) (λ G M t. solved .ensures .0 G M t),
+      λ p e f. all p e f (λ x. solved .last .1 .1 .1 .1 .1 .1 .0 ≡ written (cellsOf x) (a .table .now)) (λ G M t. solved .ensures .1 G M t),
     )
 
 same-length-3 : tie.Need-same-length-3
@@ -90,11 +76,11 @@ same-length-3 c = search needs
 
 returns-2 : tie.Need-returns-2
 returns-2 c =
-    let a = c .before .before .before .before .before .before .before .before .before .before .before .before .before .args in
-    let explore = c .before .before .before .before .before .explore in (
-      λ p e f. sym (ap solvedOf (solved-many (a .kinds .now) (a .lefts .now) (a .rights .now) (a .sizes) p e f (sym (c .enum-told .given .1) ∙ explore .ensures .0))),
-      λ p e f. sym (ap (λ x. written (cellsOf x) (a .table .now)) (solved-many (a .kinds .now) (a .lefts .now) (a .rights .now) (a .sizes) p e f (sym (c .enum-told .given .1)
-          ∙ explore .ensures .0))),
+    let a = c .before .before .before .before .before .before .before .before .before .before .before .args in
+    let explore = c .before .before .before .before .before .explore in
+    let many = sym (c .enum-told .given .1) ∙ explore .ensures .0 in (
+      λ p e f. sym (ap solvedOf (solved-many (a .parts .now) (a .sizes) p e f many)),
+      λ p e f. sym (ap (λ x. written (cellsOf x) (a .table .now)) (solved-many (a .parts .now) (a .sizes) p e f many)),
     )
 
 pub solve-parts-spec : {M : Type 1} → statement M

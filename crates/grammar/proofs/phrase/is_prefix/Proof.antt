@@ -1,27 +1,11 @@
-use borrow.Author.Tests.{eq-eqb, ne-eqb}
+use mathlib.Core.Path.{refl}
 use Rattle.grammar.specs.Grammar.{isPre}
 use Rattle.grammar.proofs.phrase.is_prefix.Statement.{statement}
 use Rattle.grammar.proofs.phrase.is_prefix.Tie as tie
 
 returns : tie.Need-returns
 unfolding isPre
-returns c = rw (eq-eqb _ _ (c .if1 .taken))
-
-returns-2 : tie.Need-returns-2
-unfolding isPre
-returns-2 c = rw (ne-eqb _ _ (c .before .if1 .left), eq-eqb _ _ (c .if2 .taken))
-
-returns-3 : tie.Need-returns-3
-unfolding isPre
-returns-3 c = rw (ne-eqb _ _ (c .before .before .if1 .left), ne-eqb _ _ (c .before .if2 .left), eq-eqb _ _ (c .if3 .taken))
-
-returns-4 : tie.Need-returns-4
-unfolding isPre
-returns-4 c = rw (ne-eqb _ _ (c .before .before .before .if1 .left), ne-eqb _ _ (c .before .before .if2 .left), ne-eqb _ _ (c .before .if3 .left), eq-eqb _ _ (c .if4 .taken))
-
-returns-5 : tie.Need-returns-5
-unfolding isPre
-returns-5 c = rw (ne-eqb _ _ (c .before .before .before .if1 .left), ne-eqb _ _ (c .before .before .if2 .left), ne-eqb _ _ (c .before .if3 .left), ne-eqb _ _ (c .if4 .left))
+returns c = refl
 
 pub is-prefix-spec : {M : Type 1} → statement M
-is-prefix-spec = tie.close (tie.spec returns returns-2 returns-3 returns-4 returns-5)
+is-prefix-spec = tie.close (tie.spec returns)

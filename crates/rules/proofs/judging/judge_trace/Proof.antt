@@ -1,28 +1,28 @@
--- `rules::judge::judge_trace` meets its contract, by those of `bad_step` and `holds_on`.
+-- `rules::judging::judge_trace` meets its contract, by those of `bad_step` and `holds_on`.
 -- Assumes nothing.
 use borrow.Author.Needs.{needs}
 use mathlib.Core.Path.{sym, ap, _∙_}
-use lib.ListN.{length}
 use Rattle.rules.specs.declared.judging.Verdict.the-variants.{True, False}
-use Rattle.rules.specs.Semantics.{holds}
 use Rattle.rules.specs.Trace.{countsOf, pickVerdict}
 use Rattle.rules.proofs.TraceLaws.{verdict-length, verdict-step, verdict-judged}
 use Rattle.rules.proofs.judging.judge_trace.Statement.{statement}
 use Rattle.rules.proofs.judging.judge_trace.Tie as tie
 
 returns : tie.Need-returns
-returns c φ k l r =
-    let a = c .before .before .before .before .before .before .args in
-    sym (verdict-length (countsOf (a .s)) (a .trace .now) (holds φ (a .trace .now)) (c .if1 .taken))
+returns c =
+    let start = c .before .before .before .before in
+    let a = start .args in
+    sym (verdict-length (countsOf (a .s)) (a .trace .now) _ (c .if1 .taken))
 
 bad-step-requires : tie.Need-bad-step-requires
 bad-step-requires c κs = search needs
 
 returns-2 : tie.Need-returns-2
-returns-2 c φ k l r =
-    let a = c .before .before .before .before .before .before .before .before .args in
+returns-2 c =
+    let start = c .before .before .before .before .before .before in
+    let a = start .args in
     let bad = c .before .bad-step in
-    sym (verdict-step (countsOf (a .s)) (a .trace .now) (holds φ (a .trace .now)) (bad .result) (c .before .before .if1 .left) (bad .ensures) (c .if2 .taken))
+    sym (verdict-step (countsOf (a .s)) (a .trace .now) _ _ (c .before .before .if1 .left) (bad .ensures) (c .if2 .taken))
 
 holds-on-requires : tie.Need-holds-on-requires
 holds-on-requires c κs = search needs
@@ -31,28 +31,26 @@ same-length : tie.Need-same-length
 same-length c = search needs
 
 returns-3 : tie.Need-returns-3
-returns-3 c φ k l r =
-    let s = c .before .before .before .before .before .before .before .before .before .before .before .before .before in
-    let a = s .args in
-    let bad = c .before .before .before .before .before .before .bad-step in
-    let value = c .before .before .before .holds-on in
-    sym
-    (verdict-judged φ (a .kinds .now) (a .lefts .now) (a .rights .now) (length (a .row .now)) (a .trace .now) (s .pre .1 .0 .fits) (c .before .before .before .before .before .before .before .if1 .left) k l r
-    (countsOf (a .s)) (bad .result) (value .result) (bad .ensures) (c .before .before .before .before .before .if2 .left) (value .ensures)
+returns-3 c =
+    let at-holds-on = c .before .before .before in
+    let at-bad-step = at-holds-on .before .before .before in
+    let start = at-bad-step .before .before .before .before .before in
+    let a = start .args in
+    sym (verdict-judged (countsOf (a .s)) (a .trace .now) _ _ _
+    (at-bad-step .before .if1 .left) (at-bad-step .bad-step .ensures) (at-holds-on .before .before .if2 .left) (at-holds-on .holds-on .ensures .0)
     ∙ ap (λ b. pickVerdict b True False) (c .if3 .taken))
 
 same-length-2 : tie.Need-same-length-2
 same-length-2 c = search needs
 
 returns-4 : tie.Need-returns-4
-returns-4 c φ k l r =
-    let s = c .before .before .before .before .before .before .before .before .before .before .before .before .before in
-    let a = s .args in
-    let bad = c .before .before .before .before .before .before .bad-step in
-    let value = c .before .before .before .holds-on in
-    sym
-    (verdict-judged φ (a .kinds .now) (a .lefts .now) (a .rights .now) (length (a .row .now)) (a .trace .now) (s .pre .1 .0 .fits) (c .before .before .before .before .before .before .before .if1 .left) k l r
-    (countsOf (a .s)) (bad .result) (value .result) (bad .ensures) (c .before .before .before .before .before .if2 .left) (value .ensures)
+returns-4 c =
+    let at-holds-on = c .before .before .before in
+    let at-bad-step = at-holds-on .before .before .before in
+    let start = at-bad-step .before .before .before .before .before in
+    let a = start .args in
+    sym (verdict-judged (countsOf (a .s)) (a .trace .now) _ _ _
+    (at-bad-step .before .if1 .left) (at-bad-step .bad-step .ensures) (at-holds-on .before .before .if2 .left) (at-holds-on .holds-on .ensures .0)
     ∙ ap (λ b. pickVerdict b True False) (c .if3 .left))
 
 pub judge-trace-spec : {M : Type 1} → statement M

@@ -4,12 +4,12 @@ use Prim.Native.Nat.{ℕ, _≤_}
 use mathlib.Core.Path.{refl, sym, _∙_, subst}
 use lib.ListN.{length-replicate}
 use borrow.Author.Needs.{needs}
-use Rattle.rules.specs.Row.{storedParts}
+use Rattle.formula.specs.Codes.{partsIn}
 use Rattle.rules.specs.Trace.{countsOf}
-use Rattle.states.specs.Letters.{lettersOf}
-use Rattle.states.proofs.StoredLaws.{operators-small, operators-stored}
-use Rattle.states.proofs.PrepareLaws.{count-letters}
-use Rattle.states.proofs.AutomatonLaws.{explored, letters-few}
+use Rattle.obligations.specs.Letters.{lettersOf}
+use Rattle.obligations.proofs.StoredParts.{operators-small}
+use Rattle.states.proofs.automaton.Prepared.{count-letters}
+use Rattle.states.proofs.ExploredStates.{explored, letters-few}
 use Rattle.states.proofs.automaton.explore.Statement.{statement}
 use Rattle.states.proofs.automaton.explore.Tie as tie
 
@@ -21,7 +21,7 @@ slice-aggregate-prepare-2 c = search needs
 
 prepare-requires : tie.Need-prepare-requires
 prepare-requires c κs =
-    let p = c .before .before .before .before .before .before .before .pre in
+    let p = c .before .before .before .before .before .pre in
     let s = p .1 .0 in
     (p .0, (s .operators-are, (s .outputs-few, (s .observed-few, (s .hidden-few, (letters-few _ (s .signals-few), (refl, refl)))))))
 
@@ -34,11 +34,11 @@ slice-aggregate-search-2 c = search needs
 search-requires : tie.Need-search-requires
 search-requires c κs =
     let made = c .before .before .before .before .before .before .prepare in
-    let s = c .before .before .before .before .before .before .before .before .before .before .before .before .before .before in
+    let s = c .before .before .before .before .before .before .before .before .before .before .before .before in
     let p = s .pre in
     let sizes = p .1 .0 in
-    let kept = made .kept .1 .1 .1 .1 .1 .1 .1 in
-    let small = operators-small _ _ _ (p .0) _ (sizes .operators-are) in
+    let kept = made .kept .1 .1 .1 .1 .1 in
+    let small = operators-small _ (p .0) _ (sizes .operators-are) in
     let maps = kept .0 ∙ length-replicate {A = ℕ} 65536 0 in
     let firsts = kept .1 .0 ∙ length-replicate {A = ℕ} 512 0 in
     let few = subst (λ x. x ≤ 512) (sym (made .ensures .0)) (letters-few (countsOf (s .args .sizes)) (sizes .signals-few)) in
@@ -56,14 +56,14 @@ returns c =
     let left = found .last .1 .1 .1 .1 in
     let t = c .before .before .before .before .before .before .before .before .before .before .before in
     let made = t .prepare in
-    let maps = made .last .1 .1 .1 .1 .1 .1 .1 in
-    let a = t .before .before .before .before .before .before .before .before .args in
-    let p = t .before .before .before .before .before .before .before .before .pre in
-    let parts = storedParts (a .kinds .now) (a .lefts .now) (a .rights .now) in
+    let maps = made .last .1 .1 .1 .1 .1 in
+    let a = t .before .before .before .before .before .before .args in
+    let p = t .before .before .before .before .before .before .pre in
+    let parts = partsIn (a .parts .now) in
     let signals = countsOf (a .sizes) in
-    let operators = p .1 .0 .operators-are ∙ operators-stored _ _ _ (p .0) in
-    explored parts (lettersOf signals) (a .sizes .operators) (made .result) (maps .0) (maps .1 .0) operators (made .ensures .0 ∙ count-letters signals)
-    (made .ensures .1) (found .result) _ _ (left .0) (left .1 .0) (found .ensures .0) (found .ensures .1 .0) (found .ensures .1 .1)
+    explored parts (lettersOf signals) (a .sizes .operators) (made .result) (maps .0) (maps .1 .0) (p .1 .0 .operators-are)
+    (made .ensures .0 ∙ count-letters signals) (made .ensures .1)
+    (found .result) _ _ (left .0) (left .1 .0) (found .ensures .0) (found .ensures .1 .0) (found .ensures .1 .1)
 
 pub explore-spec : {M : Type 1} → statement M
 explore-spec =

@@ -1,7 +1,7 @@
 -- `states::automaton::planes_of` meets its contract.
 -- Assumes nothing.
 use borrow.Author.Needs.{needs}
-use Rattle.states.proofs.PrepareLaws.{planes-few, planes-more}
+use Rattle.states.proofs.automaton.Prepared.{planes-few, planes-more}
 use Rattle.states.proofs.automaton.planes_of.Statement.{statement}
 use Rattle.states.proofs.automaton.planes_of.Tie as tie
 

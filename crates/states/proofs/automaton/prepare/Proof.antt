@@ -5,9 +5,9 @@ use native.Mathlib.Omega.{arith}
 use mathlib.Core.Path.{_≡_, refl, sym, _∙_, subst}
 use lib.ListN.{length, length-replicate}
 use borrow.Author.Needs.{needs}
-use Rattle.states.specs.Letters.{counts, lettersOf}
-use Rattle.states.proofs.StoredLaws.{operators-small}
-use Rattle.states.proofs.PrepareLaws.{planes-two, prepared-all, count-letters}
+use Rattle.obligations.specs.Letters.{counts, lettersOf}
+use Rattle.obligations.proofs.StoredParts.{operators-small}
+use Rattle.states.proofs.automaton.Prepared.{planes-two, prepared-all, count-letters}
 use Rattle.states.proofs.automaton.prepare.Statement.{statement}
 use Rattle.states.proofs.automaton.prepare.Tie as tie
 
@@ -34,13 +34,13 @@ slice-aggregate-put-planes-2 c = search needs
 
 put-planes-requires : tie.Need-put-planes-requires
 put-planes-requires c κs =
-    let s = c .before .before .before .before .before .before .before .before .before .before .before in
+    let s = c .before .before .before .before .before .before .before .before .before in
     let p = s .pre in
     let d = s .args .d in
     let list = c .before .before .before .before .list-letters in
     let few = list .ensures .0 in
     let long : length (list .last .1 .1 .1 .0) ≡ 512 = list .kept .1 .1 .1 .0 ∙ length-replicate {A = ℕ} 512 0 in
-    let two = subst (λ x. x ≤ 2) (sym (c .before .before .planes-of .ensures)) (planes-two d (operators-small _ _ _ (p .0) d (p .1 .0))) in
+    let two = subst (λ x. x ≤ 2) (sym (c .before .before .planes-of .ensures)) (planes-two d (operators-small _ (p .0) d (p .1 .0))) in
     (p .0, (p .1 .0, (long, (omega (arith, few, p .1 .1 .1 .1 .1 .0), (two, refl)))))
 
 slice-aggregate-classify : tie.Need-slice-aggregate-classify
@@ -48,14 +48,14 @@ slice-aggregate-classify c = search needs
 
 classify-requires : tie.Need-classify-requires
 classify-requires c κs =
-    let s = c .before .before .before .before .before .before .before .before .before .before .before .before .before .before .before .before in
+    let s = c .before .before .before .before .before .before .before .before .before .before .before .before .before .before in
     let p = s .pre in
     let q = p .1 .1 .1 .1 .1 in
     let d = s .args .d in
-    let long = c .before .before .before .before .put-planes .kept .1 .1 .1 .1 .1 .1 .1 .0 ∙ length-replicate {A = ℕ} 8192 0 in
+    let long = c .before .before .before .before .put-planes .kept .1 .1 .1 .1 .1 .0 ∙ length-replicate {A = ℕ} 8192 0 in
     let few = subst (λ x. x ≤ 512) (sym (c .before .before .before .before .before .before .before .before .before .list-letters .ensures .0)) (q .0) in
     let planes = c .before .before .before .before .before .before .before .planes-of in
-    let two = subst (λ x. x ≤ 2) (sym (planes .ensures)) (planes-two d (operators-small _ _ _ (p .0) d (p .1 .0))) in
+    let two = subst (λ x. x ≤ 2) (sym (planes .ensures)) (planes-two d (operators-small _ (p .0) d (p .1 .0))) in
     (long, (few, (two, (q .1 .0, q .1 .1))))
 
 same-length : tie.Need-same-length
@@ -71,13 +71,14 @@ returns c =
     let planes = c .before .before .before .before .before .before .before .before .before .before .before .before .planes-of in
     let t = c .before .before .before .before .before .before .before .before .before .before .before .before .before .before in
     let list = t .list-letters in
-    let a = t .before .before .before .before .before .before .before .args in
-    let p = t .before .before .before .before .before .before .before .pre in
+    let a = t .before .before .before .before .before .args in
+    let p = t .before .before .before .before .before .pre in
     let signals = counts (a .outputs) (a .observed) (a .hidden) in (
       list .ensures .0,
-      prepared-all (a .kinds .now) (a .lefts .now) (a .rights .now) (p .0) (lettersOf signals) _ (list .last .1 .1 .1 .0) _
-          (done .last .1 .1 .1 .0) (done .last .1 .1 .1 .1 .0) (a .d) (planes .result) (list .result) _ (p .1 .0) (planes .ensures)
-          (list .ensures .0 ∙ count-letters signals) (omega arith) (list .ensures .1) (words .ensures) (done .ensures),
+      prepared-all (a .parts .now) (p .0) (lettersOf signals) _ (list .last .1 .1 .1 .0) (list .ensures .1)
+          (a .d) (planes .result) (list .result) _ (p .1 .0) (planes .ensures) (list .ensures .0 ∙ count-letters signals) (omega arith)
+          (omega (arith, list .ensures .0, p .1 .1 .1 .1 .1 .0)) _ _ (length-replicate {A = ℕ} 8192 0) (words .ensures)
+          (a .maps .now) (done .last .1 .1 .1 .0) (done .last .1 .1 .1 .1 .0) _ (p .1 .1 .1 .1 .1 .1 .0) (done .ensures .0) (done .ensures .1),
     )
 
 pub prepare-spec : {M : Type 1} → statement M

@@ -7,24 +7,24 @@ use mathlib.Core.List.{_++_}
 use lib.ListN.{length, drop, length-replicate}
 use borrow.Author.Needs.{needs}
 use borrow.Rule.Slice.PartMut.{same-len-mid}
-use Rattle.rules.specs.Row.{storedParts}
-use Rattle.states.specs.Maps.{plane}
-use Rattle.states.proofs.MidLaws.{part-length}
-use Rattle.states.proofs.PlaneLaws.{plane-none, plane-block}
+use Rattle.formula.specs.Codes.{partsIn}
+use Rattle.states.specs.Planes.{plane}
+use Rattle.basics.proofs.LentPart.{part-length}
+use Rattle.states.proofs.PlanesLaws.{plane-none, plane-block}
 use Rattle.states.proofs.blocks.put_plane.Statement.{statement}
 use Rattle.states.proofs.blocks.put_plane.Tie as tie
 
 abbrev Inv-loop : tie.InvT-loop
-Inv-loop kinds lefts rights numbers spots d letters blocks w words₀ v₀ b₀ words v b =
+Inv-loop parts numbers spots d letters blocks w words₀ v₀ b₀ words v b =
     (b ≤ blocks) × (length v ≡ 4096) × (length words ≡ length words₀)
-    × (words ≡ plane (storedParts kinds lefts rights) letters w (b * 16 * 8) ++ drop (b * 16 * 8) words₀)
+    × (words ≡ plane (partsIn parts) letters w (b * 16 * 8) ++ drop (b * 16 * 8) words₀)
 
 abbrev μ-loop : tie.MeasureT-loop
-μ-loop kinds lefts rights numbers spots d letters blocks w words₀ v₀ b₀ words v b = blocks - b
+μ-loop parts numbers spots d letters blocks w words₀ v₀ b₀ words v b = blocks - b
 
 loop-holds : tie.Need-loop-holds Inv-loop μ-loop
 loop-holds c =
-    let a = c .before .before .before .before .before .before .before .args in
+    let a = c .before .before .before .before .before .args in
     (omega arith, length-replicate {A = ℕ} 4096 0, refl, plane-none _ _ _ (a .words .now))
 
 mul-from : tie.Need-mul-from Inv-loop μ-loop
@@ -71,10 +71,12 @@ part-put-block-end-2 c = search needs
 
 put-block-requires : tie.Need-put-block-requires Inv-loop μ-loop
 put-block-requires c κs =
-    let a = c .before .before .before .before .before .before .before .before .before .before .before .before .args in
-    let p = c .before .before .before .before .before .before .before .before .before .before .before .before .pre in
+    let a = c .before .before .before .before .before .before .before .before .before .before .args in
+    let p = c .before .before .before .before .before .before .before .before .before .before .pre in
     let l = c .before .before .before .before .loop in
-    (p .0, (p .1 .0, (p .1 .1 .0, (p .1 .1 .1 .0, (part-length (l .b * 16) 16 (a .letters .now) (omega arith), (l .inv .1, part-length (l .b * 16 * 8) 128 (l .words) (omega arith)))))))
+    let letters = part-length (l .b * 16) 16 (a .letters .now) (omega arith) in
+    let words = part-length (l .b * 16 * 8) 128 (l .words) (omega arith) in
+    (p .0, (p .1 .0, (p .1 .1 .0, (p .1 .1 .1 .0, (letters, (l .inv .1, words))))))
 
 add-b : tie.Need-add-b Inv-loop μ-loop
 add-b c = search needs
@@ -84,12 +86,13 @@ loop-less c = search needs
 
 loop-again : tie.Need-loop-again Inv-loop μ-loop
 loop-again c =
-    let a = c .before .before .before .before .before .before .before .before .before .before .before .before .before .before .before .before .args in
+    let a = c .before .before .before .before .before .before .before .before .before .before .before .before .before .before .args in
     let l = c .before .before .before .before .before .before .before .before .loop in
     let call = c .before .before .before .put-block in
     let at = l .b * 16 * 8 in
-    let kept = same-len-mid at (at + 128 - at) (l .words) (call .last .1 .1 .1 .1 .1 .1 .1 .1 .1 .0) (call .kept .1 .1 .1 .1 .1 .1 .1 .1 .1 .0) in
-    (omega arith, call .kept .1 .1 .1 .1 .1 .1 .1 .1 .0 ∙ l .inv .1, kept ∙ l .inv .2, plane-block _ _ _ (l .b) (a .words .now) (l .words) _ (l .inv .3) (call .ensures))
+    let kept = same-len-mid at (at + 128 - at) (l .words) (call .last .1 .1 .1 .1 .1 .1 .1 .0) (call .kept .1 .1 .1 .1 .1 .1 .1 .0) in
+    let words = plane-block _ _ _ (l .b) (a .words .now) (l .words) _ (l .inv .3) (call .ensures .0) in
+    (omega arith, call .kept .1 .1 .1 .1 .1 .1 .0 ∙ l .inv .1, kept ∙ l .inv .2, words)
 
 same-length : tie.Need-same-length Inv-loop μ-loop
 same-length c = search needs
@@ -97,9 +100,9 @@ same-length c = search needs
 returns : tie.Need-returns Inv-loop μ-loop
 returns c =
     let l = c .before .loop in
-    let a = c .before .before .before .before .before .before .before .before .before .args in
+    let a = c .before .before .before .before .before .before .before .args in
     let e : l .b ≡ a .blocks = omega arith in
-    l .inv .3 ∙ ap (λ n. plane (storedParts (a .kinds .now) (a .lefts .now) (a .rights .now)) (a .letters .now) (a .w) (n * 16 * 8) ++ drop (n * 16 * 8) (a .words .now)) e
+    l .inv .3 ∙ ap (λ n. plane (partsIn (a .parts .now)) (a .letters .now) (a .w) (n * 16 * 8) ++ drop (n * 16 * 8) (a .words .now)) e
 
 pub put-plane-spec : {M : Type 1} → statement M
 put-plane-spec =

@@ -2,24 +2,24 @@
 -- Assumes nothing.
 use Prim.Native.Nat.{_+_, _-_, _*_, _≤_}
 use native.Mathlib.Omega.{arith}
-use mathlib.Core.Path.{_≡_, refl, sym, _∙_, subst}
+use mathlib.Core.Path.{_≡_, refl, sym, ap, _∙_}
 use lib.ListN.{length}
 use borrow.Author.Needs.{needs}
 use borrow.Rule.Slice.PartMut.{same-len-mid}
-use Rattle.rules.specs.Row.{storedParts}
-use Rattle.states.specs.Maps.{Carried}
-use Rattle.states.proofs.MidLaws.{part-length}
-use Rattle.states.proofs.NumberLaws.{numbers-front, spots-front}
-use Rattle.states.proofs.PlaneLaws.{carried-none, carried-more}
+use Rattle.formula.specs.Codes.{partsIn}
+use Rattle.states.specs.Planes.{planesTo}
+use Rattle.basics.proofs.LentPart.{part-length}
+use Rattle.obligations.proofs.NumberedParts.{numbers-front, spots-front}
+use Rattle.states.proofs.PlanesLaws.{planes-none, planes-more}
 use Rattle.states.proofs.blocks.put_planes.Statement.{statement}
 use Rattle.states.proofs.blocks.put_planes.Tie as tie
 
 abbrev Inv-loop : tie.InvT-loop
-Inv-loop kinds lefts rights d letters blocks m words₀ numbers spots w₀ words w =
-    (w ≤ m) × (length words ≡ length words₀) × Carried (storedParts kinds lefts rights) letters w (blocks * 16) words
+Inv-loop parts d letters blocks m words₀ numbers spots w₀ words w =
+    (w ≤ m) × (length words ≡ length words₀) × (words ≡ planesTo (partsIn parts) letters (blocks * 16) w words₀)
 
 abbrev μ-loop : tie.MeasureT-loop
-μ-loop kinds lefts rights d letters blocks m words₀ numbers spots w₀ words w = m - w
+μ-loop parts d letters blocks m words₀ numbers spots w₀ words w = m - w
 
 slice-aggregate-number-parts : tie.Need-slice-aggregate-number-parts Inv-loop μ-loop
 slice-aggregate-number-parts c = search needs
@@ -29,11 +29,11 @@ slice-aggregate-number-parts-2 c = search needs
 
 number-parts-requires : tie.Need-number-parts-requires Inv-loop μ-loop
 number-parts-requires c κs =
-    let s = c .before .before .before .before .before .before .before .pre .0 in
+    let s = c .before .before .before .before .before .pre .0 in
     (s .few, (omega arith, omega (arith, s .operators)))
 
 loop-holds : tie.Need-loop-holds Inv-loop μ-loop
-loop-holds c = (omega arith, refl, carried-none _ _ _ _)
+loop-holds c = (omega arith, refl, planes-none _ _ _ _)
 
 mul-at : tie.Need-mul-at Inv-loop μ-loop
 mul-at c = search needs
@@ -61,17 +61,17 @@ part-put-plane-end c = search needs
 
 put-plane-requires : tie.Need-put-plane-requires Inv-loop μ-loop
 put-plane-requires c κs =
-    let a = c .before .before .before .before .before .before .before .before .before .before .before .before .before .before .before .args in
-    let p = c .before .before .before .before .before .before .before .before .before .before .before .before .before .before .before .pre in
+    let a = c .before .before .before .before .before .before .before .before .before .before .before .before .before .args in
+    let p = c .before .before .before .before .before .before .before .before .before .before .before .before .before .pre in
     let l = c .before .before .before .before .loop in
     let made = c .before .before .before .before .before .before .before .number-parts in (
       p .0,
       (
         p .1 .0,
         (
-          numbers-front (a .kinds .now) _ _ (made .ensures .0),
+          numbers-front (a .parts .now) _ _ (made .ensures .0),
           (
-            spots-front (a .kinds .now) _ _ (a .d) (p .1 .0) (made .ensures .1),
+            spots-front (partsIn (a .parts .now)) _ _ (a .d) (p .1 .0) (made .ensures .1),
             (p .1 .1 .0, (p .1 .1 .1 .0, part-length (l .w * 4096) 4096 (l .words) (omega arith))),
           ),
         ),
@@ -86,24 +86,24 @@ loop-less c = search needs
 
 loop-again : tie.Need-loop-again Inv-loop μ-loop
 loop-again c =
-    let a = c .before .before .before .before .before .before .before .before .before .before .before .before .before .before .before .before .before .before .args in
-    let p = c .before .before .before .before .before .before .before .before .before .before .before .before .before .before .before .before .before .before .pre .1 .1 .1 in
+    let a = c .before .before .before .before .before .before .before .before .before .before .before .before .before .before .before .before .args in
+    let p = c .before .before .before .before .before .before .before .before .before .before .before .before .before .before .before .before .pre .1 .1 .1 in
     let l = c .before .before .before .before .before .before .before .loop in
     let call = c .before .before .put-plane in
     let at = l .w * 4096 in
-    let kept = same-len-mid at (at + 4096 - at) (l .words) (call .last .1 .1 .1 .1 .1 .1 .1 .1 .1 .0) (call .kept .1 .1 .1 .1 .1 .1 .1 .1 .1 .0) in
+    let kept = same-len-mid at (at + 4096 - at) (l .words) (call .last .1 .1 .1 .1 .1 .1 .1 .0) (call .kept .1 .1 .1 .1 .1 .1 .1 .0) in
     let room : at + 4096 ≤ length (l .words) = omega (arith, p .1 .0, p .1 .1) in
-    (omega arith, kept ∙ l .inv .1, carried-more _ _ (a .blocks * 16) (l .w) (l .words) _ (l .inv .2) room (omega (arith, p .0)) (call .ensures))
+    (omega arith, kept ∙ l .inv .1, planes-more _ _ (a .blocks * 16) (a .words .now) (l .w) (l .words) _ (l .inv .2) room (omega (arith, p .0)) (call .ensures))
 
 same-length : tie.Need-same-length Inv-loop μ-loop
 same-length c = search needs
 
 returns : tie.Need-returns Inv-loop μ-loop
 returns c =
-    let a = c .before .before .before .before .before .before .before .before .before .before .before .before .args in
+    let a = c .before .before .before .before .before .before .before .before .before .before .args in
     let l = c .before .loop in
     let e : l .w ≡ a .m = omega arith in
-    subst (λ n. Carried (storedParts (a .kinds .now) (a .lefts .now) (a .rights .now)) (a .letters .now) n (a .blocks * 16) (l .words)) e (l .inv .2)
+    l .inv .2 ∙ ap (λ n. planesTo (partsIn (a .parts .now)) (a .letters .now) (a .blocks * 16) n (a .words .now)) e
 
 pub put-planes-spec : {M : Type 1} → statement M
 put-planes-spec =

@@ -4,20 +4,27 @@ use Prim.Native.Nat.{_+_, _*_, _≤_, _<_, _-_}
 use native.Mathlib.Omega.{arith}
 use mathlib.Core.Path.{_≡_, refl, ap, _∙_}
 use mathlib.Core.Logic.{⊎-elim}
-use lib.ListN.{length, length-set}
+use mathlib.Core.List.{_++_}
+use lib.ListN.{length, drop, length-set}
 use borrow.Author.Needs.{needs}
-use Rattle.states.proofs.MapLaws.{Kept, kept-none, kept-to, kept-other, kept-first, first-small}
+use Rattle.basics.specs.Lists.{tabulate}
+use Rattle.states.specs.Planes.{firstOf, mapsTo}
+use Rattle.basics.proofs.Filling.{table-more}
+use Rattle.states.proofs.maps.MapLoops.{maps-first, maps-other, first-small}
 use Rattle.states.proofs.maps.classify.Statement.{statement}
 use Rattle.states.proofs.maps.classify.Tie as tie
 
 abbrev Inv-loop : tie.InvT-loop
-Inv-loop words n m maps₀ firsts₀ a₀ maps firsts a = (a ≤ n) × (length maps ≡ length maps₀) × (length firsts ≡ length firsts₀) × Kept m a words maps firsts
+Inv-loop words n m maps₀ firsts₀ a₀ maps firsts a =
+    (a ≤ n) × (length maps ≡ length maps₀) × (length firsts ≡ length firsts₀) × (maps ≡ mapsTo words m a maps₀)
+    × (firsts ≡ tabulate a (firstOf words) ++ drop a firsts₀)
 
 abbrev μ-loop : tie.MeasureT-loop
 μ-loop words n m maps₀ firsts₀ a₀ maps firsts a = n - a
 
 loop-holds : tie.Need-loop-holds Inv-loop μ-loop
-loop-holds c = (search needs, refl, refl, kept-none _ _ _ _)
+unfolding mapsTo
+loop-holds c = (search needs, refl, refl, refl, refl)
 
 first-same-requires : tie.Need-first-same-requires Inv-loop μ-loop
 first-same-requires c κs = search needs
@@ -66,20 +73,23 @@ loop-again c =
     let m = s .args .m in
     let w = s .args .words .now in
     let below : l .a < s .args .n = c .before .before .loop-test .taken in
-    let fits : l .a < length (l .firsts) = omega (arith, below, l .inv .2, s .pre .1 .0, s .pre .1 .1 .1 .1) in
+    let fits : l .a < length (s .args .firsts .now) = omega (arith, below, s .pre .1 .0, s .pre .1 .1 .1 .1) in
     let room : l .a * 128 + 128 ≤ length (l .maps) = omega (arith, below, l .inv .1, s .pre .1 .0, s .pre .1 .1 .1 .0) in
+    let firsts = table-more (l .a) (firstOf w) (s .args .firsts .now) (l .firsts) (f .result) fits (l .inv .4) (f .ensures) in
     ⊎-elim
     (λ t. (
       omega arith,
       ap length (t .5) ∙ t .3 .given .1 ∙ l .inv .1,
       simp length-set (l .inv .2),
-      kept-first m (l .a) (f .result) w (l .firsts) fits (f .ensures) (l .maps) (t .2 .last .1 .1 .1 .0) room (s .pre .1 .1 .0) (t .2 .ensures) (c .if1 .maps) (t .5) (l .inv .3),
+      t .5 ∙ maps-first w m (l .a) (s .args .maps .now) (f .result) (f .ensures) (l .maps) (l .inv .3) (t .0 .taken) (s .pre .1 .1 .0) room _ (t .2 .ensures),
+      firsts,
     ))
     (λ t. (
       omega arith,
       ap length (t .1) ∙ l .inv .1,
       simp length-set (l .inv .2),
-      kept-other m (l .a) (f .result) w (l .firsts) fits (f .ensures) (l .maps) (c .if1 .maps) (t .1) (t .0 .left) (l .inv .3),
+      t .1 ∙ maps-other w m (l .a) (s .args .maps .now) (f .result) (f .ensures) (l .maps) (l .inv .3) (t .0 .left),
+      firsts,
     ))
     (c .if1 .came)
 
@@ -92,8 +102,11 @@ same-length-2 c = search needs
 returns : tie.Need-returns Inv-loop μ-loop
 returns c =
     let l = c .before .loop in
-    let e : l .a ≡ c .before .before .before .before .before .args .n = omega arith in
-    kept-to _ (l .a) _ _ _ _ e (c .before .before .before .before .before .pre .1 .1 .0) (l .inv .3)
+    let a = c .before .before .before .before .before .args in
+    let e : l .a ≡ a .n = omega arith in (
+      l .inv .3 ∙ ap (λ k. mapsTo (a .words .now) (a .m) k (a .maps .now)) e,
+      l .inv .4 ∙ ap (λ k. tabulate k (firstOf (a .words .now)) ++ drop k (a .firsts .now)) e,
+    )
 
 pub classify-spec : {M : Type 1} → statement M
 classify-spec =

@@ -4,9 +4,9 @@ use Prim.Native.Nat.{_≤_, _-_}
 use native.Mathlib.Omega.{arith}
 use mathlib.Core.Path.{_≡_, sym, _∙_}
 use borrow.Author.Needs.{needs}
-use Rattle.states.specs.Lists.{firstThat}
-use Rattle.states.specs.Maps.{sameWords}
-use Rattle.states.proofs.SearchLaws.{first-none, first-more, first-found, first-end}
+use Rattle.basics.specs.Bounded.{firstThat}
+use Rattle.states.specs.Planes.{sameWords, firstOf}
+use Rattle.basics.proofs.BoundedLaws.{first-none, first-more, first-found, first-end}
 use Rattle.states.proofs.maps.first_same.Statement.{statement}
 use Rattle.states.proofs.maps.first_same.Tie as tie
 
@@ -23,6 +23,7 @@ same-words-requires : tie.Need-same-words-requires Inv-loop μ-loop
 same-words-requires c κs = search needs
 
 returns : tie.Need-returns Inv-loop μ-loop
+unfolding firstOf
 returns c =
     let l = c .before .before .before .loop in
     let a = c .before .before .before .before .before .args in
@@ -40,6 +41,7 @@ loop-again c =
     (omega arith, first-more _ (l .b) (l .inv .1) (sym (c .before .same-words .ensures) ∙ c .if1 .left))
 
 returns-2 : tie.Need-returns-2 Inv-loop μ-loop
+unfolding firstOf
 returns-2 c =
     let l = c .before .loop in
     let a = c .before .before .before .args in

@@ -5,9 +5,8 @@ use native.Mathlib.Omega.{arith}
 use mathlib.Core.Path.{_≡_, _∙_}
 use lib.ListN.{getD}
 use borrow.Author.Needs.{needs}
-use Rattle.states.proofs.BitLaws.{low-lt}
-use Rattle.states.proofs.TableLaws.{tableFrom, byte-none, byte-small, byte-more, byte-done}
-use Rattle.states.proofs.MapLaws.{bitIn, lane-all, lane-digit}
+use Rattle.basics.proofs.BitsLaws.{low-lt, tableFrom, byte-none, byte-small, byte-more, byte-done}
+use Rattle.states.proofs.maps.MapLoops.{bitIn, lane-all, lane-digit}
 use Rattle.states.proofs.maps.lane_of.Statement.{statement}
 use Rattle.states.proofs.maps.lane_of.Tie as tie
 

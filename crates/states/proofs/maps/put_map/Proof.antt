@@ -6,9 +6,9 @@ use mathlib.Core.Path.{_≡_}
 use mathlib.Core.List.{_++_}
 use lib.ListN.{length, drop, length-set}
 use borrow.Author.Needs.{needs}
-use Rattle.rules.specs.Lists.{tabulate}
-use Rattle.states.proofs.FillLaws.{table-more}
-use Rattle.states.proofs.MapLaws.{mapEntry, entry-code, map-all}
+use Rattle.basics.specs.Lists.{tabulate}
+use Rattle.basics.proofs.Filling.{table-more}
+use Rattle.states.proofs.maps.MapLoops.{mapEntry, entry-code, map-all}
 use Rattle.states.proofs.maps.put_map.Statement.{statement}
 use Rattle.states.proofs.maps.put_map.Tie as tie
 

@@ -5,8 +5,8 @@ use native.Mathlib.Omega.{arith}
 use mathlib.Core.Path.{_≡_}
 use mathlib.Core.Bool.{true}
 use borrow.Author.Needs.{needs}
-use Rattle.states.specs.Lists.{agree}
-use Rattle.states.proofs.MapLaws.{wordAt, same-none, same-more, same-fails, same-all}
+use Rattle.basics.specs.Bounded.{agree}
+use Rattle.states.proofs.maps.MapLoops.{wordAt, same-none, same-more, same-fails, same-all}
 use Rattle.states.proofs.maps.same_words.Statement.{statement}
 use Rattle.states.proofs.maps.same_words.Tie as tie
 

@@ -1,0 +1,97 @@
+-- Membership, and lists without repeats.
+-- Assumes nothing.
+use Prim.Native.Nat.{ℕ, zero, suc, _≤_, _<_}
+use native.Mathlib.Nat.{not-suc-le-zero, le-of-suc-le-suc}
+use native.Mathlib.Omega.{arith}
+use mathlib.Core.Path.{_≡_, refl, sym, ap, _∙_, subst}
+use mathlib.Core.Logic.{_↔_, _⊎_, inl, inr}
+use mathlib.Core.List.{List, [], _∷_, _++_, List·Memᴰ·head, List·Memᴰ·tail, List·Memᴰ·not-nil, List·Memᴰ·cases-cons, Memᴰ·cast, List·Memᴰ·append-cases, List·Memᴰ·eq-of-singleton}
+use lib.ListN.{length, getD, take}
+use Rattle.basics.specs.Lists.{tabulate, below}
+use Rattle.basics.proofs.ListsLaws.{length-tabulate, getD-tabulate}
+use Rattle.basics.specs.Member.{_∈_, Distinct, distinct-nil, distinct-cons}
+
+-- an entry has an index, and an index below the length has an entry
+pub index-of {ℓ} : {A : Type ℓ} {x : A} {xs : List A} (d : A) → x ∈ xs → (i : ℕ) × (i < length xs) × (getD xs i d ≡ x)
+index-of d (List·Memᴰ·head e) = (0, omega arith, sym e)
+index-of d (List·Memᴰ·tail m) = let r = index-of d m in (suc (r .0), omega (arith, r .1), r .2)
+
+pub getD-in {ℓ} : {A : Type ℓ} (xs : List A) (i : ℕ) (d : A) → i < length xs → getD xs i d ∈ xs
+getD-in [] i d h = absurd (not-suc-le-zero h)
+getD-in (x ∷ xs) zero d h = List·Memᴰ·head refl
+getD-in (x ∷ xs) (suc i) d h = List·Memᴰ·tail (getD-in xs i d (le-of-suc-le-suc h))
+
+pub in-tabulate {ℓ} : {A : Type ℓ} (n : ℕ) (f : ℕ → A) (x : A) → (x ∈ tabulate n f) ↔ ((i : ℕ) × (i < n) × (f i ≡ x))
+in-tabulate {A = A} n f x = (to, from)
+  where
+    to : x ∈ tabulate n f → (i : ℕ) × (i < n) × (f i ≡ x)
+    to m =
+        let r = index-of (f 0) m in
+        let h : r .0 < n = subst (λ k. r .0 < k) (length-tabulate n f) (r .1) in
+        (r .0, h, sym (getD-tabulate n f (r .0) (f 0) h) ∙ r .2)
+
+    from : (i : ℕ) × (i < n) × (f i ≡ x) → x ∈ tabulate n f
+    from r =
+        Memᴰ·cast (sym (getD-tabulate n f (r .0) (f 0) (r .1) ∙ r .2))
+        (getD-in (tabulate n f) (r .0) (f 0) (subst (λ k. r .0 < k) (sym (length-tabulate n f)) (r .1)))
+
+pub in-below : (n i : ℕ) → (i ∈ below n) ↔ (i < n)
+in-below n i = (λ m. let r = in-tabulate n (λ k. k) i .0 m in subst (λ k. k < n) (r .2) (r .1), λ h. in-tabulate n (λ k. k) i .1 (i, h, refl))
+
+module _ {A : Type 0} where
+  pub distinct-snoc : {xs : List A} (x : A) → Distinct xs → ¬ (x ∈ xs) → Distinct (xs ++ (x ∷ []))
+  distinct-snoc x distinct-nil n = distinct-cons (λ m. List·Memᴰ·not-nil m) distinct-nil
+  distinct-snoc x (distinct-cons {x = y} {xs = ys} fresh d) n = distinct-cons (λ m. new (List·Memᴰ·append-cases ys m)) (distinct-snoc x d (λ m. n (List·Memᴰ·tail m)))
+    where
+      new : (y ∈ ys) ⊎ (y ∈ x ∷ []) → ⊥
+      new (inl m) = fresh m
+      new (inr m) = n (List·Memᴰ·head (sym (List·Memᴰ·eq-of-singleton m)))
+
+  pub in-take : {x : A} (n : ℕ) (xs : List A) → x ∈ take n xs → x ∈ xs
+  in-take zero xs m = absurd (List·Memᴰ·not-nil m)
+  in-take (suc n) [] m = m
+  in-take (suc n) (y ∷ ys) (List·Memᴰ·head e) = List·Memᴰ·head e
+  in-take (suc n) (y ∷ ys) (List·Memᴰ·tail m) = List·Memᴰ·tail (in-take n ys m)
+
+  pub distinct-take : (n : ℕ) {xs : List A} → Distinct xs → Distinct (take n xs)
+  distinct-take zero d = distinct-nil
+  distinct-take (suc n) distinct-nil = distinct-nil
+  distinct-take (suc n) (distinct-cons {xs = ys} fresh d) = distinct-cons (λ m. fresh (in-take n ys m)) (distinct-take n d)
+
+  -- ---- a list without repeats is no longer than one that holds all its entries
+
+  -- ys without one x
+  Without : A → List A → Type 0
+  Without x ys = (zs : List A) × (suc (length zs) ≡ length ys) × ((y : A) → y ∈ ys → (y ≡ x) ⊎ (y ∈ zs))
+
+  without : {x : A} {ys : List A} → x ∈ ys → Without x ys
+  unfolding Without
+  without {x} (List·Memᴰ·head {x = y} {xs = ys} e) = (ys, refl, λ z m. first z (List·Memᴰ·cases-cons m))
+    where
+      first : (z : A) → (z ≡ y) ⊎ (z ∈ ys) → (z ≡ x) ⊎ (z ∈ ys)
+      first z (inl p) = inl (p ∙ sym e)
+      first z (inr m) = inr m
+  without {x} (List·Memᴰ·tail {x = y} {xs = ys} m) = later (without m)
+    where
+      later : Without x ys → Without x (y ∷ ys)
+      later r = (y ∷ r .0, ap suc (r .1), λ z m′. split z (List·Memᴰ·cases-cons m′))
+        where
+          deeper : (z : A) → (z ≡ x) ⊎ (z ∈ r .0) → (z ≡ x) ⊎ (z ∈ y ∷ r .0)
+          deeper z (inl p) = inl p
+          deeper z (inr k) = inr (List·Memᴰ·tail k)
+
+          split : (z : A) → (z ≡ y) ⊎ (z ∈ ys) → (z ≡ x) ⊎ (z ∈ y ∷ r .0)
+          split z (inl p) = inr (List·Memᴰ·head p)
+          split z (inr k) = deeper z (r .2 z k)
+
+  pub distinct-length-le : {xs : List A} → Distinct xs → (ys : List A) → ((x : A) → x ∈ xs → x ∈ ys) → length xs ≤ length ys
+  unfolding Without
+  distinct-length-le distinct-nil ys sub = omega arith
+  distinct-length-le (distinct-cons {x} {xs} fresh d) ys sub = shorter (without (sub x (List·Memᴰ·head refl))) (distinct-length-le d)
+    where
+      shorter : Without x ys → ((zs : List A) → ((y : A) → y ∈ xs → y ∈ zs) → length xs ≤ length zs) → suc (length xs) ≤ length ys
+      shorter r ih = omega (arith, ih (r .0) (λ y m. other y m (r .2 y (sub y (List·Memᴰ·tail m)))), r .1)
+        where
+          other : (y : A) → y ∈ xs → (y ≡ x) ⊎ (y ∈ r .0) → y ∈ r .0
+          other y m (inl e) = absurd (fresh (Memᴰ·cast (sym e) m))
+          other y m (inr k) = k

@@ -1,0 +1,14 @@
+-- What belongs to no layer.
+-- lists, and statements as Booleans
+pub mod Lists
+pub mod Member
+pub mod Says
+-- numbers made of bits, and searches below a bound
+pub mod Bits
+pub mod Bounded
+-- what can be reached by steps, and where they lead
+pub mod Reach
+pub mod Successors
+-- bytes, numbers and lines of text
+pub mod Bytes
+pub mod Text

@@ -1,0 +1,14 @@
+-- Entries of a list, and lists without repeats.
+-- Assumes nothing.
+use Prim.Native.Nat.{_-_}
+use mathlib.Core.List.{List, [], _∷_, List·Memᴰ}
+
+infix 4 _∈_
+-- x is an entry of xs
+abbrev pub _∈_ {ℓ} : {A : Type ℓ} → A → List A → Type ℓ
+x ∈ xs = List·Memᴰ x xs
+
+-- no two entries are equal
+pub data Distinct {A : Type 0} : List A → Type 0 where
+  distinct-nil : Distinct []
+  distinct-cons : {x : A} {xs : List A} → ¬ (x ∈ xs) → Distinct xs → Distinct (x ∷ xs)

@@ -1,0 +1,16 @@
+// What belongs to no layer: lists, bits, Booleans, searches below a bound and what can be reached, as definitions and laws; runs of
+// bytes, lent memory, and numbers and lines of text, as code too. Every function here is proved, and the crate assumes nothing.
+mod bytes;
+mod memory;
+mod text;
+
+pub use bytes::Class;
+pub use bytes::is_lower;
+pub use bytes::past;
+pub use bytes::same;
+pub use memory::clear;
+pub use text::put_byte;
+pub use text::put_bytes;
+pub use text::put_decimal;
+pub use text::put_field;
+pub use text::put_line;

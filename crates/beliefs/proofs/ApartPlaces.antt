@@ -1,0 +1,103 @@
+-- Places that are apart: one alone can hold given bytes. The search for all beliefs keeps its places so.
+-- Assumes nothing.
+use Prim.Native.Nat.{ℕ, zero, suc, _+_, _*_, _≤_, _<_}
+use native.Mathlib.Nat.{le-of-suc-le-suc}
+use native.Mathlib.Omega.{arith}
+use mathlib.Core.Path.{_≡_, sym, _∙_, subst}
+use mathlib.Core.Logic.{inl, inr}
+use mathlib.Core.Bool.{Bool, true, false}
+use mathlib.Core.List.{List, [], Memᴰ·cast, List·Memᴰ·not-nil}
+use lib.ListN.{length, getD}
+use Rattle.basics.specs.Says.{Says}
+use Rattle.search.specs.declared.searching.Explored.the-variants.{Found}
+use Rattle.search.specs.Limits.{stateLimit, setSize}
+use Rattle.basics.specs.Member.{Distinct, distinct-nil, distinct-cons}
+use Rattle.basics.specs.Bounded.{firstThat}
+use Rattle.basics.specs.Reach.{addAll}
+use Rattle.search.specs.ReachableSets.{sameSet}
+use Rattle.search.specs.Slots.{itemIn, itemsIn, HoldsItems, withSet, sameSlot, countUpTo, ExpandedItems}
+use Rattle.basics.specs.Successors.{grownOver}
+use Rattle.search.proofs.KeptItems.{count-found}
+use Rattle.basics.proofs.MemberLaws.{getD-in}
+use Rattle.basics.proofs.BoundedLaws.{agree-at, agree-all, first-is}
+use Rattle.basics.proofs.ReachLaws.{added-all}
+use Rattle.search.proofs.ReachableSetsLaws.{sameSet-says}
+use Rattle.search.proofs.SlotsLaws.{length-itemIn, length-itemsIn, getD-itemsIn, with-before}
+use Rattle.beliefs.specs.BeliefMemory.{packBelief, Apart}
+use Rattle.basics.proofs.Booleans.{test, clash}
+use Rattle.beliefs.proofs.BeliefMemoryLaws.{belief-packing}
+
+-- ---- lists without repeats
+
+-- adding things that are not there yet keeps a list so
+pub distinct-added : {A : Type 0} (same : A → A → Bool) → ((x y : A) → Says (same x y) (x ≡ y)) → (xs ys : List A) → Distinct xs
+    → Distinct (addAll same xs ys)
+distinct-added same says xs ys d = added-all same says ys xs .distinct d
+
+pub distinct-grown : (f : List Bool → ℕ → List Bool) (steps : List ℕ) (xs : List (List Bool)) (s : List Bool) → Distinct xs
+    → Distinct (grownOver sameSet f steps xs s)
+unfolding grownOver
+distinct-grown f steps xs s d = distinct-added sameSet sameSet-says xs _ d
+
+-- one belief is alone, and those that are there after a turn are different again
+pub distinct-one : (n : ℕ) (mem : List ℕ) → Distinct (itemsIn n mem 1)
+unfolding itemsIn
+distinct-one n mem = distinct-cons (λ m. List·Memᴰ·not-nil m) distinct-nil
+
+pub distinct-next : (n limit : ℕ) (f : List Bool → ℕ → List Bool) (steps : List ℕ) (xs : List (List Bool)) (s : List Bool) (m : ℕ)
+    (row mem row′ : List ℕ) → Distinct xs
+    → Found m ≡ countUpTo limit (grownOver sameSet f steps xs s) → ExpandedItems n packBelief limit (grownOver sameSet f steps xs s) row mem row′
+    → Distinct (itemsIn n mem m)
+distinct-next n limit f steps xs s m row mem row′ d e z =
+    let (few, is) = count-found limit (grownOver sameSet f steps xs s) m e in
+    subst (λ k. Distinct (itemsIn n mem k)) (sym is) (subst Distinct (sym (z .items-in few)) (distinct-grown f steps xs s d))
+
+-- entries of such a list differ
+distinct-at : {A : Type 0} {xs : List A} → Distinct xs → (i j : ℕ) (e : A) → i < j → j < length xs → getD xs i e ≡ getD xs j e → ⊥
+distinct-at distinct-nil i j e h l p = absurd (omega arith)
+distinct-at (distinct-cons {xs = xs} fresh d) zero zero e h l p = absurd (omega arith)
+distinct-at (distinct-cons {xs = xs} fresh d) zero (suc j) e h l p = fresh (Memᴰ·cast p (getD-in xs j e (le-of-suc-le-suc l)))
+distinct-at (distinct-cons {xs = xs} fresh d) (suc i) zero e h l p = absurd (omega arith)
+distinct-at (distinct-cons {xs = xs} fresh d) (suc i) (suc j) e h l p = distinct-at d i j e (le-of-suc-le-suc h) (le-of-suc-le-suc l) p
+
+-- ---- places
+
+-- two places hold the same bytes
+abbrev SameBytes : List ℕ → ℕ → ℕ → Type 0
+SameBytes mem n i = (b : ℕ) → b < setSize → getD mem (i * setSize + b) 0 ≡ getD mem (n * setSize + b) 0
+
+same-says : (mem : List ℕ) (n i : ℕ) → Says (sameSlot mem n i) (SameBytes mem n i)
+unfolding sameSlot
+same-says mem n i = (λ e b l. agree-at _ _ setSize b e l, agree-all _ _ setSize)
+
+not-same : (mem : List ℕ) (n i : ℕ) → (SameBytes mem n i → ⊥) → sameSlot mem n i ≡ false
+not-same mem n i ne = elim (test (sameSlot mem n i)) [ inl t ↦ absurd (ne (same-says mem n i .0 t)) | inr f ↦ f ]
+
+-- where all before m are apart, one with the bytes of place m is the first
+pub only-place : (mem : List ℕ) (m g : ℕ) → Apart mem m → g < m → sameSlot mem m g ≡ true → firstThat (sameSlot mem m) m ≡ g
+only-place mem m g a h t = first-is (sameSlot mem m) m g h t (λ j l. not-same mem m j (λ q. clash (earlier j q) (a .apart j g l h)))
+  where
+    earlier : (j : ℕ) → SameBytes mem m j → sameSlot mem g j ≡ true
+    earlier j q = same-says mem g j .1 (λ b k. q b k ∙ sym (same-says mem m g .0 t b k))
+
+-- different beliefs are apart
+pub apart-items : (n : ℕ) → n ≤ stateLimit → (mem : List ℕ) (m : ℕ) → HoldsItems n packBelief mem m → Distinct (itemsIn n mem m) → Apart mem m
+apart-items n small mem m g d = record { apart = λ i j h l. not-same mem j i (λ q. distinct-at d i j [] h (rw length-itemsIn l) (equal i j h l q)) }
+  where
+    equal : (i j : ℕ) → i < j → j < m → SameBytes mem j i → getD (itemsIn n mem m) i [] ≡ getD (itemsIn n mem m) j []
+    equal i j h l q =
+        getD-itemsIn n mem m i [] (omega arith)
+        ∙ belief-packing n small .back (itemIn n mem j) (length-itemIn n mem j) mem i (λ b k. q b k ∙ g .slot j b l k)
+        ∙ sym (getD-itemsIn n mem m j [] l)
+
+-- writing place m changes none before it
+pub apart-written : (mem : List ℕ) (m : ℕ) (bytes : List ℕ) → m * setSize + setSize ≤ length mem → Apart mem m
+    → Apart (withSet mem m bytes) m
+apart-written mem m bytes room a =
+    record { apart = λ i j h l. not-same (withSet mem m bytes) j i (λ q. clash (before i j h l q) (a .apart i j h l)) }
+  where
+    kept : (i b : ℕ) → i < m → b < setSize → getD (withSet mem m bytes) (i * setSize + b) 0 ≡ getD mem (i * setSize + b) 0
+    kept i b h k = with-before mem bytes m room (i * setSize + b) (omega arith)
+
+    before : (i j : ℕ) → i < j → j < m → SameBytes (withSet mem m bytes) j i → sameSlot mem j i ≡ true
+    before i j h l q = same-says mem j i .1 (λ b k. sym (kept i b (omega arith) k) ∙ q b k ∙ kept j b l k)

@@ -1,0 +1,68 @@
+-- The beliefs that are counted: how many they are, how long, and that pairs lead from each to one of them.
+-- Assumes nothing.
+use Prim.Native.Nat.{ℕ, _+_, _*_, _≤_, _<_}
+use native.Mathlib.Omega.{arith}
+use mathlib.Core.Path.{_≡_, refl, sym, ap, _∙_, subst}
+use mathlib.Core.List.{List, Memᴰ·of-map}
+use lib.ListN.{length, getD}
+use Rattle.basics.proofs.ListsLaws.{length-tabulate}
+use Rattle.search.specs.declared.searching.Explored.the-variants.{Found, TooMany}
+use Rattle.basics.specs.Member.{_∈_}
+use Rattle.basics.specs.Lists.{below, padded}
+use Rattle.basics.specs.Reach.{Listing, closed, over, reachable}
+use Rattle.search.specs.ReachableSets.{sameSet}
+use Rattle.search.specs.Slots.{exploredOf}
+use Rattle.basics.specs.Successors.{stepsOver}
+use Rattle.basics.proofs.ReachLaws.{closed-lists, closed-begins}
+use Rattle.search.proofs.ReachableSetsLaws.{sameSet-says}
+use Rattle.play.specs.Limits.{pairLimit}
+use Rattle.play.specs.Belief.{Belief, alone}
+use Rattle.beliefs.specs.BeliefMemory.{beliefAfter, countedBeliefs, movesOf}
+use Rattle.play.proofs.RankedRows.{reached-all}
+use Rattle.beliefs.proofs.NumberedRows.{rows-inside}
+use Rattle.beliefs.proofs.BeliefMemoryLaws.{beliefs-reachable, length-first, length-after}
+
+-- ---- what a count says
+
+not-many : {C : Type 0} (k : ℕ) → Found k ≡ TooMany → C
+not-many k e = let z : _≡_ {A = ℕ} 0 1 = cc in absurd (omega arith)
+
+same-count : (j k : ℕ) → Found j ≡ Found k → j ≡ k
+same-count j k e = cc
+
+pub counted-some : {K : Type 0} (l : Listing K) (k : ℕ) → Found k ≡ exploredOf l → (xs : List K) × (l ≡ closed xs) × (length xs ≡ k)
+counted-some (closed xs) k e = (xs, refl, sym (same-count k (length xs) e))
+counted-some over k e = not-many k e
+
+pub counted-over : {K : Type 0} (l : Listing K) → TooMany ≡ exploredOf l → l ≡ over
+counted-over (closed xs) e = not-many (length xs) (sym e)
+counted-over over e = refl
+
+module _ (successors : List ℕ) (n pairs hiddens limit : ℕ) (bs : List Belief) (counted : countedBeliefs successors n pairs hiddens limit ≡ closed bs) where
+  abbrev after : Belief → ℕ → Belief
+  after = beliefAfter successors n pairs hiddens
+
+  listed : reachable sameSet (stepsOver after (below pairs)) (alone n 0) limit ≡ closed bs
+  listed = sym (beliefs-reachable successors n pairs hiddens limit) ∙ counted
+
+  -- they are not too many, and the first is one of them
+  pub beliefs-few : length bs ≤ limit
+  beliefs-few = closed-lists sameSet sameSet-says _ _ limit bs listed .1
+
+  pub beliefs-some : 0 < length bs
+  beliefs-some = let (ys, e) = closed-begins sameSet sameSet-says _ _ limit bs listed in omega (arith, ap length e)
+
+  -- every belief has an entry for each state
+  pub belief-length : (b : Belief) → b ∈ bs → length b ≡ n
+  belief-length b m =
+      reached-all (λ y. length y ≡ n) (length-first n)
+      (λ y z e k. let r = Memᴰ·of-map (after y) (below pairs) k in ap length (sym (r .2)) ∙ length-after successors n pairs hiddens y (r .0))
+      (closed-lists sameSet sameSet-says _ _ limit bs listed .0 .exact b .0 m)
+
+  -- pairs lead to beliefs that are counted
+  pub beliefs-inside : pairs ≤ pairLimit → (size i q : ℕ) → i < length bs → q < pairs
+      → getD (padded size (movesOf successors n pairs hiddens (closed bs))) (i * pairLimit + q) 0 < length bs
+  beliefs-inside few size i q h l =
+      let count = length-tabulate pairs (λ k. k) in
+      rows-inside sameSet after (below pairs) pairLimit (subst (λ m. m ≤ pairLimit) (sym count) few) bs sameSet-says (alone n 0) limit listed size i q h
+      (subst (λ m. q < m) (sym count) l)

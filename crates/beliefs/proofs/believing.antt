@@ -1,0 +1,2 @@
+-- What the proofs of the functions for beliefs in memory use.
+pub mod MemberLoop

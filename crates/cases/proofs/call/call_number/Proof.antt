@@ -1,0 +1,54 @@
+-- `cases::call::call_number` is safe and ends. Assumes nothing.
+use Prim.Native.Nat.{_≤_, _-_}
+use borrow.Author.Needs.{needs}
+use Rattle.cases.proofs.call.call_number.Statement.{statement}
+use Rattle.cases.proofs.call.call_number.Tie as tie
+
+abbrev Inv-loop : tie.InvT-loop
+Inv-loop name k₀ t3 k = k ≤ 5
+
+abbrev μ-loop : tie.MeasureT-loop
+μ-loop name k₀ t3 k = 5 - k
+
+loop-holds : tie.Need-loop-holds Inv-loop μ-loop
+loop-holds c = search needs
+
+slice-aggregate-field : tie.Need-slice-aggregate-field Inv-loop μ-loop
+slice-aggregate-field c = search needs
+
+field-requires : tie.Need-field-requires Inv-loop μ-loop
+field-requires c κs = search needs
+
+same-requires : tie.Need-same-requires Inv-loop μ-loop
+same-requires c κs = search needs
+
+add-k : tie.Need-add-k Inv-loop μ-loop
+add-k c = search needs
+
+loop-less : tie.Need-loop-less Inv-loop μ-loop
+loop-less c = search needs
+
+loop-again : tie.Need-loop-again Inv-loop μ-loop
+loop-again c = search needs
+
+returns : tie.Need-returns Inv-loop μ-loop
+returns c = search needs
+
+returns-2 : tie.Need-returns-2 Inv-loop μ-loop
+returns-2 c = search needs
+
+pub call-number-spec : {M : Type 1} → statement M
+call-number-spec =
+    tie.close
+    (tie.spec
+    Inv-loop
+    μ-loop
+    loop-holds
+    slice-aggregate-field
+    field-requires
+    same-requires
+    add-k
+    loop-less
+    loop-again
+    returns
+    returns-2)

@@ -1,0 +1,69 @@
+// What a call answers, written as fields behind the case's name.
+use cabinet::Answer;
+use cabinet::Moved;
+use cabinet::Printed;
+use game::Solved;
+use libc::STDOUT_FILENO;
+use rules::Refusal;
+use rules::Verdict;
+
+pub fn say(text: &[u8]) {
+    io::write_all(STDOUT_FILENO, text);
+}
+
+// What is said where a line is not of the form asked for, or memory is not as it should be after a call.
+pub fn wrong() {
+    say(b"\twrong");
+}
+
+fn tell(word: &[u8], n: usize) {
+    say(word);
+    io::print_decimal(STDOUT_FILENO, n as u64);
+}
+
+fn tell_two(word: &[u8], n: usize, m: usize) {
+    tell(word, n);
+    tell(b"\t", m);
+}
+
+fn refused(r: Refusal) {
+    tell_two(b"\trefused\t", rules::number(r), rules::place(r));
+}
+
+pub fn verdict(v: Verdict) {
+    match v {
+        Verdict::True => say(b"\ttrue"),
+        Verdict::False => say(b"\tfalse"),
+        Verdict::Refused(r) => refused(r),
+    }
+}
+
+pub fn solved(s: Solved) {
+    match s {
+        Solved::Table { rows, worst_case } => tell_two(b"\ttable\t", rows, worst_case),
+        Solved::Refused(r) => refused(r),
+    }
+}
+
+pub fn printed(p: Printed) {
+    match p {
+        Printed::Text(n) => tell(b"\ttext\t", n),
+        Printed::Refused(r) => refused(r),
+    }
+}
+
+fn choice(a: Answer) {
+    match a {
+        Answer::Choice(c) => tell(b"\tchoice\t", c as usize),
+        Answer::Stop => say(b"\tstop"),
+        Answer::Refused(r) => refused(r),
+    }
+}
+
+// The answer and the position behind it.
+pub fn moved(m: Moved) {
+    let answer = m.answer;
+    choice(answer);
+    tell(b"\trow\t", m.position.row);
+    tell(b"\tchoice\t", m.position.choice as usize);
+}

@@ -1,0 +1,138 @@
+// The calls, on memory that holds ones before and is looked at afterwards.
+ghost use mathlib.Core.Path.{_≡_};
+ghost use lib.ListN.{length};
+use crate::answer::moved;
+use crate::answer::printed;
+use crate::answer::solved;
+use crate::answer::verdict;
+use crate::answer::wrong;
+use crate::line::argument;
+use crate::line::field;
+use crate::line::read_numbers;
+use crate::line::read_text;
+use cabinet::Position;
+use check::same;
+use game::ROW;
+use game::TABLE_SIZE;
+use rules::WORK_SIZE;
+
+// Says so where memory is not a text with b behind it.
+fn look_at(memory: &[u8], text: &[u8], b: u8) {
+    let mut i = 0;
+    while i < memory.len() {
+        let expected = if i < text.len() { text[i] } else { b };
+        if memory[i] != expected {
+            return wrong();
+        }
+        i += 1;
+    }
+}
+
+// Work memory is all zero after a call, or untouched where memory was short.
+fn look_at_work(work: &[u8], short: bool) {
+    look_at(work, b"", short as u8);
+}
+
+// Says so where a table is not some cells with ones behind them.
+fn look_at_cells(table: &[u16], cells: &[u16]) {
+    let mut i = 0;
+    while i < table.len() {
+        let expected = if i < cells.len() { cells[i] } else { 1 };
+        if table[i] != expected {
+            return wrong();
+        }
+        i += 1;
+    }
+}
+
+fn judge(source: &[u8], trace: &[u16], work: &mut [u8]) {
+    verdict(rules::judge(source, trace, work));
+    look_at_work(work, work.len() < WORK_SIZE);
+}
+
+// Solves a problem, and looks at the memory that was lent.
+fn solve_in(source: &[u8], cells: &[u16], work: &mut [u8], table: &mut [u16]) {
+    solved(game::solve(source, work, table));
+    look_at_work(work, (work.len() < WORK_SIZE) | (table.len() < TABLE_SIZE));
+    look_at_cells(table, cells);
+}
+
+fn solve(line: &[u8], source: &[u8], cells: &[u16], work: &mut [u8]) {
+    let mut table = [1u16; TABLE_SIZE];
+    let n = TABLE_SIZE - argument(line, 5) % TABLE_SIZE;
+    solve_in(source, cells, work, &mut table[..n]);
+}
+
+fn print(line: &[u8], expected: &[u8], table: &[u16], text: &mut [u8]) {
+    let rows = argument(line, 5);
+    let worst = argument(line, 6);
+    let observed = argument(line, 7);
+    printed(cabinet::print(table, rows, worst, observed, text));
+    look_at(text, expected, 1);
+}
+
+// Starts a table, or steps it from a position.
+fn run(line: &[u8], table: &[u16], starts: bool) {
+    let rows = argument(line, 5);
+    let observed = argument(line, 6);
+    let row = argument(line, 7);
+    let choice = argument(line, 8) as u16;
+    let position = Position { row, choice };
+    if starts {
+        return moved(cabinet::start_from(table, rows, observed, position));
+    }
+    let observation = argument(line, 9);
+    moved(cabinet::step_from(table, rows, observed, observation, position));
+}
+
+// The number of a call by its name, from 0; 5 for an unknown one.
+fn call_number(name: &[u8]) -> usize {
+    let mut k = 0;
+    while k < 5 && !same(name, field(b"judge\tsolve\tprint\tstart\tstep", k)) {
+        k += 1;
+    }
+    k
+}
+
+// Makes the call.
+fn call_in(line: &[u8], text: &[u8], cells: &[u16], memory: &mut [u8]) {
+    match call_number(field(line, 1)) {
+        0 => judge(text, cells, memory),
+        1 => solve(line, text, cells, memory),
+        2 => print(line, text, cells, memory),
+        3 => run(line, cells, true),
+        4 => run(line, cells, false),
+        _ => wrong(),
+    }
+}
+
+// Memory to lend.
+fn ones() -> [u8; WORK_SIZE]
+    ensures { λ r. ⌜ 65536 ≡ length r ⌝ }
+{
+    [1; WORK_SIZE]
+}
+
+// Makes the call with as much memory as the line says.
+fn call_with(line: &[u8], text: &[u8], cells: &[u16]) {
+    let mut memory = ones();
+    let n = WORK_SIZE - argument(line, 4);
+    call_in(line, text, cells, &mut memory[..n]);
+}
+
+// Room for one row more than a table may have.
+const CELLS: usize = TABLE_SIZE + ROW;
+
+// Makes the call with the list of numbers.
+fn call_on(line: &[u8], text: &[u8]) {
+    let mut cells = [0u16; CELLS];
+    let n = read_numbers(field(line, 3), &mut cells);
+    call_with(line, text, &cells[..n]);
+}
+
+// Makes the call of a line, with its text, and writes what is answered.
+pub fn call(line: &[u8]) {
+    let mut text = io::large_buffer();
+    let n = read_text(field(line, 2), &mut text);
+    call_on(line, &text[..n]);
+}

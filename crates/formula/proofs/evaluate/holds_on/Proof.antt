@@ -1,0 +1,42 @@
+-- `formula::evaluate::holds_on` meets its contract, by that of `row_at`.
+-- Assumes nothing.
+use borrow.Author.Needs.{needs}
+use mathlib.Core.Path.{_∙_}
+use lib.ListN.{length}
+use Rattle.formula.proofs.evaluate.RowLoop.{judged-last}
+use Rattle.formula.proofs.evaluate.holds_on.Statement.{statement}
+use Rattle.formula.proofs.evaluate.holds_on.Tie as tie
+
+row-at-requires : tie.Need-row-at-requires
+row-at-requires c κs = search needs
+
+sub-value-in : tie.Need-sub-value-in
+sub-value-in c = search needs
+
+slice-read-value-in : tie.Need-slice-read-value-in
+slice-read-value-in c = search needs
+
+value-in-requires : tie.Need-value-in-requires
+value-in-requires c κs = search needs
+
+same-length : tie.Need-same-length
+same-length c = search needs
+
+returns : tie.Need-returns
+returns c =
+    let at-row-at = c .before .before .before .before in
+    let start = at-row-at .before .before .before .before .before in
+    let a = start .args in
+    let done = at-row-at .row-at .ensures in
+    (c .value-in .ensures ∙ judged-last (a .parts .now) (length (a .row .now)) (a .trace .now) _ (start .pre .0) done, done)
+
+pub holds-on-spec : {M : Type 1} → statement M
+holds-on-spec =
+    tie.close
+    (tie.spec
+    row-at-requires
+    sub-value-in
+    slice-read-value-in
+    value-in-requires
+    same-length
+    returns)

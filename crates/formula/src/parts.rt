@@ -1,0 +1,54 @@
+// The parts of a formula, one number for each, read by value.
+ghost use mathlib.Core.Path.{_≡_};
+ghost use Prim.Native.Nat.{_<_};
+ghost use lib.ListN.{length, replicate};
+ghost use Rattle.formula.specs.Parts.{partAt, isTemporal, byteOf};
+ghost use Rattle.formula.specs.Codes.{partOf, partsIn};
+use crate::formula::Op;
+use crate::formula::is_temporal;
+use crate::formula::op_of;
+
+// An operator, and the indices of its operands, which stand before it; a signal's number is its left one.
+pub struct Part {
+    pub kind: Op,
+    pub left: u8,
+    pub right: u8,
+}
+
+// The part that a number holds.
+fn part_of(code: u32) -> Part
+    ensures { λ r. ⌜ r ≡ partOf code ⌝ }
+{
+    Part {
+        kind: op_of((code % 256) as u8),
+        left: (code / 256 % 256) as u8,
+        right: (code / 65536 % 256) as u8,
+    }
+}
+
+// Part i.
+pub fn part_at(parts: &[u32], i: usize) -> Part
+    requires { ⌜ i < length (now parts) ⌝ }
+    ensures { λ r. ⌜ r ≡ partAt (partsIn (now (parts .entry))) i ⌝ }
+{
+    part_of(parts[i])
+}
+
+// Whether part i is a temporal operator.
+pub fn is_temporal_at(parts: &[u32], i: usize) -> bool
+    requires { ⌜ i < length (now parts) ⌝ }
+    ensures { λ r. ⌜ r ≡ isTemporal (byteOf (partAt (partsIn (now (parts .entry))) i .kind)) ⌝ }
+{
+    is_temporal((parts[i] % 256) as u8)
+}
+
+// Sets every number to 0.
+pub fn clear_codes(parts: &mut [u32])
+    ensures { λ _. ⌜ now (parts .exit) ≡ replicate (length (now (parts .entry))) 0 ⌝ }
+{
+    let mut i = 0;
+    while i < parts.len() {
+        parts[i] = 0;
+        i += 1;
+    }
+}

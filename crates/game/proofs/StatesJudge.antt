@@ -1,0 +1,131 @@
+-- A problem's states by number judge its traces, so its beliefs meet the one law.
+-- Assumes nothing.
+use Prim.Native.Nat.{ℕ, suc, _+_, _*_, _/_, _%_, _^_, _<_}
+use native.Mathlib.Nat.{lt-of-lt-of-le, lt-of-le-of-lt}
+use native.Mathlib.Omega.{arith}
+use mathlib.Core.Path.{_≡_, refl, sym, ap, _∙_}
+use mathlib.Core.Bool.{true}
+use mathlib.Core.List.{List, [], _∷_, foldl}
+use lib.Dec.{eqb, ltb}
+use lib.ListN.{length, getD}
+use lib.Pow.{pow-mono, pow-pos}
+use borrow.Author.Tests.{lt-ltb}
+use Rattle.rules.specs.Judge.{countsIn}
+use Rattle.formula.specs.declared.parts.Part.{Part}
+use Rattle.formula.specs.Parts.{partsOf}
+use Rattle.rules.specs.Problem.{Problem}
+use Rattle.formula.specs.Semantics.{holds}
+use Rattle.formula.specs.Letter.{isLetter}
+use Rattle.rules.proofs.WithinLimits.{Few}
+use Rattle.search.specs.Limits.{stateLimit}
+use Rattle.basics.specs.Member.{_∈_}
+use Rattle.obligations.specs.Letters.{lettersOf}
+use Rattle.search.specs.PatternSet.{PatternSet, accepts, start, next, after}
+use Rattle.obligations.specs.Obligation.{operatorsOf, back}
+use Rattle.basics.specs.Reach.{closed}
+use Rattle.search.specs.ReachableSets.{sameSet, nextSets, reachableSets}
+use Rattle.states.specs.States.{startState, nextState, stateAfter, statesOf}
+use Rattle.basics.proofs.MemberLaws.{getD-in}
+use Rattle.search.proofs.ReachableSetsLaws.{sameSet-says}
+use Rattle.states.proofs.Acceptance.{accepts-iff-holds, start-state-rejects}
+use Rattle.states.proofs.NumberedSuccessors.{successor-right}
+use Rattle.obligations.proofs.LettersLaws.{letters-exact}
+use Rattle.play.specs.Limits.{beliefLimit}
+use Rattle.play.specs.Game.{Game}
+use Rattle.play.specs.Belief.{Automaton, Belief, stateFrom, beliefs}
+use Rattle.play.specs.Answer.{positions, verdictOf, numbered, Right}
+use Rattle.game.specs.Solution.{gameOf, automatonOf, problemStates}
+use Rattle.basics.proofs.Booleans.{and-true}
+use Rattle.play.proofs.Plans.{rest, History, letters, Hidden, Possible}
+use Rattle.play.proofs.Optimality.{Knows}
+use Rattle.play.proofs.BeliefsKnow.{Judges, belief-knows}
+use Rattle.basics.proofs.ReachLaws.{closed-begins}
+use Rattle.play.proofs.AnswerLaws.{answer-right}
+
+module _ (p : Problem) (few : Few (p .signals)) where
+  abbrev G : Game
+  G = gameOf p
+
+  abbrev ps : List Part
+  ps = partsOf (p .formula)
+
+  abbrev alphabet : List ℕ
+  alphabet = lettersOf (countsIn (p .signals))
+
+  -- what a step makes is a letter
+  letter-in : (c s x : ℕ) → c < G .choices → s < G .observations → x < G .hiddens → G .letter c s x ∈ alphabet
+  unfolding isLetter
+  letter-in c s x cb sb xb =
+      letters-exact (countsIn (p .signals)) (few .outputs) (few .observed) (few .hidden) (G .letter c s x) .1 is
+    where
+      c-small : c < 16
+      c-small = lt-of-lt-of-le cb (pow-mono {i = p .signals .outputs} {j = 4} (few .outputs))
+
+      s-small : s < 16
+      s-small = lt-of-lt-of-le sb (pow-mono {i = p .signals .observed} {j = 4} (few .observed))
+
+      is : isLetter (countsIn (p .signals)) (c + s * 16 + x * 256) ≡ true
+      is =
+          let low : (c + s * 16 + x * 256) % 16 ≡ c = omega (arith, c-small) in
+          let half : (c + s * 16 + x * 256) / 16 ≡ s + x * 16 = omega (arith, c-small) in
+          let rest-of : (s + x * 16) % 16 ≡ s = omega (arith, s-small) in
+          let mid : (c + s * 16 + x * 256) / 16 % 16 ≡ s = ap (λ y. y % 16) half ∙ rest-of in
+          let top : (c + s * 16 + x * 256) / 256 ≡ x = omega (arith, c-small, s-small) in
+          and-true (ap (λ y. ltb y (2 ^ (p .signals .outputs))) low ∙ lt-ltb c _ cb)
+          (and-true (ap (λ y. ltb y (2 ^ (p .signals .observed))) mid ∙ lt-ltb s _ sb) (ap (λ y. ltb y (2 ^ (p .signals .hidden))) top ∙ lt-ltb x _ xb))
+
+  module _ (xs : List PatternSet) (listed : problemStates p ≡ closed xs) where
+    abbrev M : Automaton
+    M = automatonOf ps xs
+
+    abbrev at : ℕ → PatternSet
+    at i = getD xs i []
+
+    first-state : (0 < length xs) × (at 0 ≡ startState ps)
+    unfolding statesOf reachableSets startState
+    first-state =
+        let (ys, e) = closed-begins sameSet sameSet-says (nextSets (operatorsOf ps) (back ps) alphabet) (start (operatorsOf ps)) stateLimit xs listed in
+        rw e (omega arith, refl)
+
+    step : (i : ℕ) → i < length xs → (c s x : ℕ) → c < G .choices → s < G .observations → x < G .hiddens
+        → (M .next i (G .letter c s x) < length xs) × (at (M .next i (G .letter c s x)) ≡ nextState ps (at i) (G .letter c s x))
+    step i h c s x cb sb xb =
+        successor-right ps alphabet stateLimit xs listed (at i) (getD-in xs i [] h) (G .letter c s x) (letter-in c s x cb sb xb)
+
+    -- a number's state after letters is its state's
+    steps : (h : History) → Possible (G .choices) (G .observations) h → (x : ℕ → ℕ) → Hidden G x → (i : ℕ) → i < length xs
+        → at (stateFrom M i (letters G h x)) ≡ foldl (nextState ps) (at i) (letters G h x)
+    steps [] v x xb i b = refl
+    steps (m ∷ h) v x xb i b =
+        let (b′, e) = step i b (m .0) (m .1) (x 0) (v .0) (v .1) (xb 0) in
+        steps h (v .2) (rest x) (λ j. xb (suc j)) _ b′ ∙ ap (λ s. foldl (nextState ps) s (letters G h (rest x))) e
+
+    judges : (m : ℕ × ℕ) (h : History) → Possible (G .choices) (G .observations) (m ∷ h) → (x : ℕ → ℕ) → Hidden G x
+        → holds (p .formula) (letters G (m ∷ h) x) ≡ accepts (at (stateFrom M 0 (letters G (m ∷ h) x)))
+    unfolding stateAfter after nextState
+    judges m h v x xb =
+        sym (accepts-iff-holds (p .formula) (letters G (m ∷ h) x) (omega arith))
+        ∙ ap accepts (sym (steps (m ∷ h) v x xb 0 (first-state .0) ∙ ap (λ s. foldl (nextState ps) s (letters G (m ∷ h) x)) (first-state .1)))
+
+    states-judge : Judges G M
+    states-judge =
+        record {
+          judges = judges;
+          starts = ap accepts (first-state .1) ∙ start-state-rejects ps;
+          initial-below = first-state .0;
+          next-below = λ i h c r x cb rb xb. step i h c r x cb rb xb .0;
+        }
+
+    some-hidden : 0 < G .hiddens
+    some-hidden = pow-pos (p .signals .hidden)
+
+    pub beliefs-know : Knows G (beliefs G M)
+    beliefs-know = belief-knows G M some-hidden states-judge
+
+    -- the verdict from the beliefs is right
+    pub belief-right : (all : List Belief) → positions (beliefs G M) sameSet (G .choices) (G .observations) beliefLimit ≡ closed all
+        → Right beliefLimit G (verdictOf (numbered (beliefs G M) sameSet all) eqb (G .choices) (G .observations) (length all))
+    belief-right all counted =
+        answer-right G (beliefs G M) sameSet sameSet-says beliefLimit all counted beliefs-know (pow-pos (p .signals .observed)) some-hidden
+        (lt-of-le-of-lt (pow-mono {i = p .signals .outputs} {j = 4} (few .outputs)) (omega arith))
+        (pow-mono {i = p .signals .observed} {j = 4} (few .observed))

@@ -1,0 +1,86 @@
+-- From the list that holds a problem's parts to the answer for its text.
+-- Assumes nothing.
+use Prim.Native.Nat.{ℕ, _≤_, _<_}
+use native.Mathlib.Omega.{arith}
+use mathlib.Core.Path.{_≡_, refl, sym, ap, _∙_, subst}
+use mathlib.Core.List.{List}
+use lib.ListN.{length, take}
+use Rattle.lines.specs.declared.refusal.Refusal.{Refusal}
+use Rattle.lines.specs.declared.problem.Sizes.{Sizes}
+use Rattle.lines.specs.declared.problem.Reading.{Reading}
+use Rattle.lines.specs.declared.problem.Reading.the-variants as reading
+use Rattle.formula.specs.Formula.{operators}
+use Rattle.formula.specs.Limits.{operatorLimit}
+use Rattle.rules.specs.Judge.{countsIn}
+use Rattle.rules.specs.Reading.{readingOf}
+use Rattle.formula.specs.Codes.{partsIn}
+use Rattle.formula.specs.Parts.{partsOf, Earlier}
+use Rattle.rules.specs.Problem.{Problem, Outcome, accepted, refused}
+use Rattle.rules.specs.Trace.{countsOf}
+use Rattle.formula.proofs.CodesLaws.{length-in}
+use Rattle.rules.proofs.JudgeLaws.{Taken, taken-length, taken-parts, some-parts, few-parts, few-signals}
+use Rattle.formula.proofs.PartsLaws.{WellFormed, parts-formed}
+use Rattle.obligations.specs.Obligation.{operatorsOf}
+use Rattle.obligations.specs.Values.{Stored}
+use Rattle.states.specs.Planes.{Sized}
+use Rattle.obligations.proofs.OperatorSpots.{operators-from}
+use Rattle.game.specs.declared.solving.Solved.{Solved}
+use Rattle.game.specs.declared.solving.Solved.the-variants.{Refused}
+use Rattle.game.specs.Solution.{solution}
+use Rattle.basics.specs.Lists.{written}
+use Rattle.game.specs.Claim.{solvedOf, solvedFrom, cellsOf, cellsFrom}
+
+-- a refusal is handed on
+not-refused : {C : Type 0} (x : Refusal) (s : Sizes) → reading.Accepted s ≡ reading.Refused x → C
+not-refused x s e = let z : _≡_ {A = ℕ} 0 1 = cc in absurd (omega arith)
+
+same-refusal : (x y : Refusal) → reading.Refused x ≡ reading.Refused y → x ≡ y
+same-refusal x y e = cc
+
+pub refused-right : (o : Outcome) (r : Reading) (x : Refusal) (table : List ℕ) → r ≡ readingOf o → r ≡ reading.Refused x
+    → (Refused x ≡ solvedFrom o) × (table ≡ written (cellsFrom o) table)
+refused-right (accepted p) r x table e h = not-refused x _ (sym e ∙ h)
+refused-right (refused y) r x table e h = (ap Refused (same-refusal x y (sym h ∙ e)), refl)
+
+module _ {o : Outcome} {s : Sizes} {codes : List ℕ} (t : Taken o s codes) where
+  -- the numbers of the formula's parts
+  abbrev front : List ℕ
+  front = take (s .parts) codes
+
+  signals-taken : countsOf s ≡ countsIn (t .problem .signals)
+  signals-taken = ap (λ (z : Sizes). countsOf z) (t .sizes)
+
+  operators-taken : operatorsOf (partsIn front) ≡ operators (t .problem .formula)
+  operators-taken = ap operatorsOf (taken-parts t) ∙ operators-from (t .problem .formula)
+
+  formed-taken : (i : ℕ) → i < length front → Earlier (partsIn front) i
+  unfolding WellFormed
+  formed-taken i h =
+      subst (λ q. Earlier q i) (sym (taken-parts t))
+      (parts-formed (t .problem .formula) i (subst (λ m. i < m) (sym (length-in front) ∙ ap length (taken-parts t)) h))
+
+  pub stored-taken : Stored front
+  stored-taken =
+      record {
+        formed = formed-taken;
+        some = some-parts t;
+        few = omega (arith, taken-length t, few-parts t);
+        operators = subst (λ m. m ≤ operatorLimit) (sym operators-taken) (t .within .operators);
+      }
+
+  pub sized-taken : Sized front s
+  sized-taken =
+      record {
+        operators-are = ap (λ (z : Sizes). z .operators) (t .sizes) ∙ sym operators-taken;
+        outputs-few = few-signals t .0;
+        observed-few = few-signals t .1;
+        hidden-few = few-signals t .2;
+        signals-few = rw (t .sizes) (t .within .few .total);
+      }
+
+  -- the answer for every problem with these parts is that for the text
+  pub source-right : (r : Solved) (table table′ : List ℕ)
+      → ((p : Problem) → partsIn front ≡ partsOf (p .formula) → countsOf s ≡ countsIn (p .signals) → r ≡ solvedOf (solution p))
+      → ((p : Problem) → partsIn front ≡ partsOf (p .formula) → countsOf s ≡ countsIn (p .signals) → table′ ≡ written (cellsOf (solution p)) table)
+      → (r ≡ solvedFrom o) × (table′ ≡ written (cellsFrom o) table)
+  source-right r table table′ f g = rw (t .is) (f (t .problem) (taken-parts t) signals-taken, g (t .problem) (taken-parts t) signals-taken)

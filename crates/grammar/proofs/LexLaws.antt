@@ -1,0 +1,97 @@
+-- Where a token ends. Assumes nothing.
+use Rattle.basics.proofs.BytesLaws.{past-in, past-more}
+use mathlib.Core.Path.{_≡_, refl, sym, _∙_}
+use mathlib.Core.Bool.{Bool, true, false, _&&_}
+use mathlib.Core.List.{List}
+use Prim.Native.Nat.{ℕ, _+_, _≤_, _<_}
+use native.Mathlib.Omega.{arith}
+use borrow.Author.Tests.{leb-false, leb-true, eq-eqb, ne-eqb, le-leb, lt-leb, lt-ltb, ltb-true}
+use lib.ListN.{length, getD}
+use lib.Dec.{eqb, ltb}
+use Rattle.grammar.specs.declared.lex.Token.{Token}
+use Rattle.basics.specs.Bytes.{between, isSpace, wordByte, lower}
+use Rattle.grammar.specs.Lex.{endKind, noKind, impliesKind, skip, wordEnd, pick, tokenFrom, tokenAt, wordKind}
+use Rattle.grammar.proofs.ParseCases.{false-true}
+
+-- the cases of a token, by the tests that a reader makes
+module _ (text : List ℕ) (at i : ℕ) (si : i ≡ skip text at) where
+  pub tok-end : length text ≤ i → record { kind = endKind; from = i; next = i } ≡ tokenAt text at
+  unfolding tokenAt tokenFrom pick
+  tok-end h = rw (← si, le-leb _ _ h)
+
+  module _ (h : i < length text) where
+    pub tok-word : (j k : ℕ) → lower (getD text i 0) ≡ true → j ≡ wordEnd text i → k ≡ wordKind (between text i j)
+        → record { kind = k; from = i; next = j } ≡ tokenAt text at
+    unfolding tokenAt tokenFrom pick
+    tok-word j k l e w = rw (← si, lt-leb _ _ h, l, ← e, w)
+
+    module _ (l : lower (getD text i 0) ≡ false) where
+      pub tok-arrow : getD text i 0 ≡ 45 → i + 1 < length text → getD text (i + 1) 0 ≡ 62
+          → record { kind = impliesKind; from = i; next = i + 2 } ≡ tokenAt text at
+      unfolding tokenAt tokenFrom pick
+      tok-arrow e b g = rw (← si, lt-leb _ _ h, l, eq-eqb _ _ e, lt-ltb _ _ b, eq-eqb _ _ g)
+
+      pub tok-dash : getD text i 0 ≡ 45 → (i + 1 < length text → getD text (i + 1) 0 ≡ 62 → ⊥)
+          → record { kind = noKind; from = i; next = i + 1 } ≡ tokenAt text at
+      unfolding tokenAt tokenFrom pick
+      tok-dash e b = rw (← si, lt-leb _ _ h, l, eq-eqb _ _ e, dash)
+        where
+          dash : (ltb (i + 1) (length text) && eqb (getD text (i + 1) 0) 62) ≡ false
+          dash = go (ltb (i + 1) (length text)) refl
+            where
+              go : (t : Bool) → ltb (i + 1) (length text) ≡ t → (t && eqb (getD text (i + 1) 0) 62) ≡ false
+              go true q = ne-eqb _ _ (b (ltb-true _ _ q))
+              go false q = refl
+
+      module _ (n : getD text i 0 ≡ 45 → ⊥) where
+        pub tok-none : getD text i 0 ≡ 0 → record { kind = noKind; from = i; next = i + 1 } ≡ tokenAt text at
+        unfolding tokenAt tokenFrom pick
+        tok-none e = rw (← si, lt-leb _ _ h, l, ne-eqb _ _ n, eq-eqb _ _ e)
+
+        pub tok-sign : (getD text i 0 ≡ 0 → ⊥) → record { kind = getD text i 0; from = i; next = i + 1 } ≡ tokenAt text at
+        unfolding tokenAt tokenFrom pick
+        tok-sign e = rw (← si, lt-leb _ _ h, l, ne-eqb _ _ n, ne-eqb _ _ e)
+
+pick-elim : (P : Token → Type 0) (b : Bool) (x y : Token) → (b ≡ true → P x) → (b ≡ false → P y) → P (pick b x y)
+unfolding pick
+pick-elim P true x y f g = f refl
+pick-elim P false x y f g = g refl
+
+-- what holds of each kind of token holds of the one at i
+from-cases : (P : Token → Type 0) (text : List ℕ) (i : ℕ) → (length text ≤ i → P (record { kind = endKind; from = i; next = i }))
+    → (i < length text → lower (getD text i 0) ≡ true → (k : ℕ) → P (record { kind = k; from = i; next = wordEnd text i }))
+    → (i + 1 < length text → P (record { kind = impliesKind; from = i; next = i + 2 }))
+    → (i < length text → (k : ℕ) → P (record { kind = k; from = i; next = i + 1 })) → P (tokenFrom text i)
+unfolding tokenFrom
+from-cases P text i e w a s =
+    pick-elim P _ _ _ (λ q. e (leb-true _ _ q)) (λ q. pick-elim P _ _ _ (λ l. w (leb-false _ _ q) l _)
+    (λ _. pick-elim P _ _ _ (λ _. pick-elim P _ _ _ (λ r. a (both _ _ _ r)) (λ _. s (leb-false _ _ q) 1))
+    (λ _. pick-elim P _ _ _ (λ _. s (leb-false _ _ q) 1) (λ _. s (leb-false _ _ q) _))))
+  where
+    both : (m n : ℕ) (b : Bool) → (ltb m n && b) ≡ true → m < n
+    both m n b = go (ltb m n) refl
+      where
+        go : (t : Bool) → ltb m n ≡ t → (t && b) ≡ true → m < n
+        go true q _ = ltb-true _ _ q
+        go false q z = false-true z
+
+-- a token ends within the text, and no token but the end is empty
+pub record Ends (text : List ℕ) (at : ℕ) (t : Token) : Type 0 where
+  pub low : at ≤ t .next
+  pub ordered : t .from ≤ t .next
+  pub high : t .next ≤ length text
+  pub real : (p : ℕ → Bool) → p endKind ≡ false → p (t .kind) ≡ true → at < t .next
+
+pub ends : (text : List ℕ) (at : ℕ) → at ≤ length text → Ends text at (tokenAt text at)
+unfolding tokenAt wordByte
+ends text at h =
+    from-cases (Ends text at) text (skip text at)
+    (λ q. record { low = s .0; ordered = omega arith; high = s .1; real = λ p z o. false-true (sym z ∙ o) })
+    (λ q l k. let m = past-more wordByte text (skip text at) q (rw l) in
+    let j = past-in wordByte text (skip text at + 1) (omega (arith, s)) in
+    record { low = omega (arith, s); ordered = omega (arith, s); high = omega (arith, s); real = λ p z o. omega (arith, s) })
+    (λ q. record { low = omega (arith, s); ordered = omega (arith, s); high = omega (arith, s); real = λ p z o. omega (arith, s) })
+    (λ q k. record { low = omega (arith, s); ordered = omega (arith, s); high = omega (arith, s); real = λ p z o. omega (arith, s) })
+  where
+    s : (at ≤ skip text at) × (skip text at ≤ length text)
+    s = past-in isSpace text at h

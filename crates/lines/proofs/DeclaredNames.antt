@@ -1,0 +1,70 @@
+-- The names in a text: their numbers, and whether all are declared, token by token.
+-- Assumes nothing.
+use Prim.Native.Nat.{ℕ, suc, _≤_, _<_}
+use native.Mathlib.Omega.{arith}
+use mathlib.Core.Path.{_≡_, sym, subst, ap, _∙_}
+use mathlib.Core.Bool.{Bool, true, false, cond}
+use mathlib.Core.List.{List, [], _∷_}
+use borrow.Author.Tests.{eq-eqb, ne-eqb, lt-ltb, le-ltb}
+use lib.Dec.{eqb}
+use lib.ListN.{length}
+use Rattle.grammar.specs.declared.lex.Token.{Token}
+use Rattle.basics.specs.Bytes.{between, sameBytes}
+use Rattle.grammar.specs.Lex.{tokenAt, tokens}
+use Rattle.grammar.specs.Names.{Name, bits, indexOf, namesIn, leafValue}
+use Rattle.grammar.proofs.Spelt.{tokens-end, tokens-more, falls}
+use Rattle.lines.specs.Effect.{Signals, allDeclared}
+use Rattle.lines.proofs.SignalSpans.{length-names}
+use Rattle.lines.proofs.TreeCodes.{Values}
+
+-- ---- the number of a name
+
+indexOf-le : (name : Name) (xs : List Name) → indexOf name xs ≤ length xs
+unfolding indexOf
+indexOf-le name [] = omega arith
+indexOf-le name (x ∷ xs) = go (sameBytes x name) (indexOf-le name xs)
+  where
+    go : (b : Bool) → indexOf name xs ≤ length xs → cond b 0 (suc (indexOf name xs)) ≤ suc (length xs)
+    go true h = omega arith
+    go false h = omega arith
+
+pub index-below : (source spans : List ℕ) (name : Name) (i : ℕ) → i ≡ indexOf name (namesIn source spans) → (i ≡ bits → ⊥) → i < bits
+index-below source spans name i e n = omega (arith, indexOf-le name (namesIn source spans), length-names source spans)
+
+-- what leaves hold
+pub leaf-values : (names : List Name) (text : List ℕ) → length names ≡ bits → Values (leafValue names text)
+unfolding leafValue
+leaf-values names text e =
+    record { small = λ t. go (eqb (t .kind) 97) _ (indexOf-le (between text (t .from) (t .next)) names); constant = λ t e. rw e }
+  where
+    go : (b : Bool) (i : ℕ) → i ≤ length names → cond b i 0 < 256
+    go true i h = omega arith
+    go false i h = omega arith
+
+-- ---- the tokens from a place on
+
+module _ (text : List ℕ) (at : ℕ) (h : at ≤ length text) (tok : Token) (it : tok ≡ tokenAt text at) where
+  pub declared-end : (g : Signals) → tok .kind ≡ 0 → allDeclared g text (tokens text at) ≡ true
+  unfolding allDeclared
+  declared-end g z = rw (tokens-end text at h (ap (λ (x : Token). x .kind) (sym it) ∙ z))
+
+  module _ (f : tok .kind ≡ 0 → ⊥) where
+    here : tokens text at ≡ tok ∷ tokens text (tok .next)
+    here = tokens-more text at h (λ z. f (ap (λ (x : Token). x .kind) it ∙ z)) ∙ ap (λ (x : Token). x ∷ tokens text (x .next)) (sym it)
+
+    pub token-past : at < tok .next
+    token-past = subst (λ (x : Token). at < x .next) (sym it) (falls text at h (λ z. f (ap (λ (x : Token). x .kind) it ∙ z)))
+
+    module _ (g : Signals) where
+      pub declared-other : (tok .kind ≡ 97 → ⊥) → allDeclared g text (tokens text at) ≡ allDeclared g text (tokens text (tok .next))
+      unfolding allDeclared
+      declared-other n = rw (here, ne-eqb (tok .kind) 97 n)
+
+      module _ (i : ℕ) (e : i ≡ indexOf (between text (tok .from) (tok .next)) (g .names)) (k : tok .kind ≡ 97) where
+        pub declared-name : i < bits → allDeclared g text (tokens text at) ≡ allDeclared g text (tokens text (tok .next))
+        unfolding allDeclared
+        declared-name l = rw (here, eq-eqb (tok .kind) 97 k, ← e, lt-ltb i bits l)
+
+        pub declared-none : i ≡ bits → allDeclared g text (tokens text at) ≡ false
+        unfolding allDeclared
+        declared-none b = rw (here, eq-eqb (tok .kind) 97 k, ← e, le-ltb i bits (omega arith))

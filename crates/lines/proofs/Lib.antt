@@ -1,0 +1,11 @@
+-- the fields of a line and what it says
+pub mod LinesLaws
+pub mod EffectLaws
+pub mod LineFields
+-- names and signals
+pub mod DeclaredNames
+pub mod SignalSpans
+-- from cells to the parts in memory
+pub mod MemoryLaws
+pub mod CellsLaws
+pub mod TreeCodes

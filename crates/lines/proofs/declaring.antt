@@ -1,0 +1,2 @@
+-- Laws of the loops beside the proofs of `lines::declaring`.
+pub mod DeclareSignal

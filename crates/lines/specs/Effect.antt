@@ -1,0 +1,129 @@
+-- What one line of a problem says: it declares a signal, states a formula, or is refused, with the tests of document 01 in their
+-- order.
+-- Assumes nothing.
+use Prim.Native.Nat.{ℕ, zero, suc, _+_}
+use mathlib.Core.Bool.{Bool, true, false, not, _&&_, _||_}
+use mathlib.Core.Option.{none, some}
+use mathlib.Core.List.{List, [], _∷_}
+use lib.Dec.{eqb, ltb}
+use lib.ListN.{set, replicate}
+use Rattle.grammar.specs.declared.lex.Token.{Token}
+use Rattle.basics.specs.Bytes.{between}
+use Rattle.grammar.specs.Lex.{tokens}
+use Rattle.grammar.specs.Tree.{Tree, leaf, pre, bin}
+use Rattle.grammar.specs.Parse.{Res, parseFormula}
+use Rattle.grammar.specs.Parse as parse
+use Rattle.grammar.specs.Names.{Name, bits, indexOf, leafValue}
+use Rattle.lines.specs.declared.refusal.Refusal.{Refusal}
+use Rattle.lines.specs.declared.refusal.Refusal.the-variants.{BadLine, NameTwice, TooManySignals, BadFormula, UnknownName, TooManyParts}
+use Rattle.lines.specs.declared.problem.Kind.{Kind}
+use Rattle.lines.specs.declared.problem.Kind.the-variants.{Output, Observed, Hidden}
+use Rattle.lines.specs.declared.problem.Word.{Word}
+use Rattle.lines.specs.declared.problem.Word.the-variants.{Declare, Rule, Unknown}
+use Rattle.lines.specs.Limits.{kindLimit, signalLimit}
+use Rattle.formula.specs.Limits.{partLimit, operatorLimit}
+use Rattle.formula.specs.Formula.{Formula, False, size, operators}
+use Rattle.formula.specs.Parts.{opOf, build}
+use Rattle.lines.specs.Lines.{hasTab, firstField, secondField, wordOf, isName, isText}
+
+-- ---- signals
+
+-- how many signals of each kind are declared, and the name of the signal of each bit of a letter, empty where there is none:
+-- output signals have the bits from 0 on, observed ones from 4, hidden ones from 8
+pub record Signals : Type 0 where
+  pub outputs : ℕ
+  pub observed : ℕ
+  pub hidden : ℕ
+  pub names : List Name
+
+abbrev pub noSignals : Signals
+noSignals = record { outputs = 0; observed = 0; hidden = 0; names = replicate bits [] }
+
+abbrev pub count : Kind → Signals → ℕ
+count Output g = g .outputs
+count Observed g = g .observed
+count Hidden g = g .hidden
+
+abbrev pub firstBit : Kind → ℕ
+firstBit Output = 0
+firstBit Observed = 4
+firstBit Hidden = 8
+
+-- one more signal, which gets the next bit of its kind
+abbrev pub withName : Kind → Name → Signals → List Name
+withName k name g = set (g .names) (firstBit k + count k g) name
+
+abbrev pub withSignal : Kind → Name → Signals → Signals
+withSignal Output name g = record { outputs = g .outputs + 1; observed = g .observed; hidden = g .hidden; names = withName Output name g }
+withSignal Observed name g = record { outputs = g .outputs; observed = g .observed + 1; hidden = g .hidden; names = withName Observed name g }
+withSignal Hidden name g = record { outputs = g .outputs; observed = g .observed; hidden = g .hidden + 1; names = withName Hidden name g }
+
+abbrev pub isDeclared : Signals → Name → Bool
+isDeclared g name = ltb (indexOf name (g .names)) bits
+
+-- no room for one more of the kind, or for one more at all
+abbrev pub isFull : Kind → Signals → Bool
+isFull k g = eqb (count k g) kindLimit || eqb (g .outputs + g .observed + g .hidden) signalLimit
+
+-- ---- formulas
+
+-- the formula of a tree; `val` gives the number of the signal that a name token names
+unfoldable pub formulaOf : (Token → ℕ) → Tree → Formula
+formulaOf val (leaf t) = build (opOf (t .kind)) (val t) False False
+formulaOf val (pre t a) = build (opOf (t .kind)) 0 (formulaOf val a) False
+formulaOf val (bin t a b) = build (opOf (t .kind)) 0 (formulaOf val a) (formulaOf val b)
+
+-- every name among the tokens of a text is declared
+unfoldable pub allDeclared : Signals → List ℕ → List Token → Bool
+allDeclared g text [] = true
+allDeclared g text (t ∷ ts) = (not (eqb (t .kind) 97) || isDeclared g (between text (t .from) (t .next))) && allDeclared g text ts
+
+-- the "and" that joins a formula to the n parts before it, if there are any, is one part
+abbrev pub joint : ℕ → ℕ
+joint zero = 0
+joint (suc n) = 1
+
+-- too many parts, or too many temporal operators, with k parts and o operators behind n parts and m operators
+abbrev pub exceeds : ℕ → ℕ → ℕ → ℕ → Bool
+exceeds n m k o = ltb partLimit (n + k + joint n) || ltb operatorLimit (m + o)
+
+abbrev pub isLarge : ℕ → ℕ → Formula → Bool
+isLarge n m φ = exceeds n m (size φ) (operators φ)
+
+-- ---- what a line says, after g was declared and n parts with m operators were read
+
+pub data Effect : Type 0 where
+  declares : Kind → Name → Effect
+  states : Formula → Effect
+  refuses : Refusal → Effect
+
+abbrev pub pickEffect : Bool → Effect → Effect → Effect
+pickEffect true a b = a
+pickEffect false a b = b
+
+unfoldable pub declareEffect : ℕ → Kind → Name → Signals → Effect
+declareEffect line k name g =
+    pickEffect (not (isName name)) (refuses (BadLine line))
+    (pickEffect (isDeclared g name) (refuses (NameTwice line))
+    (pickEffect (isFull k g) (refuses (TooManySignals line))
+    (declares k name)))
+
+abbrev pub readEffect : ℕ → List ℕ → Res → Signals → ℕ → ℕ → Effect
+readEffect line text parse.none g n m = refuses (BadFormula line)
+readEffect line text (parse.some a next) g n m =
+    pickEffect (not (allDeclared g text (tokens text 0))) (refuses (UnknownName line))
+    (pickEffect (isLarge n m (formulaOf (leafValue (g .names) text) a)) (refuses (TooManyParts line))
+    (states (formulaOf (leafValue (g .names) text) a)))
+
+unfoldable pub stateEffect : ℕ → List ℕ → Signals → ℕ → ℕ → Effect
+stateEffect line text g n m = pickEffect (not (isText text)) (refuses (BadLine line)) (readEffect line text (parseFormula text) g n m)
+
+abbrev pub byWord : Word → ℕ → List ℕ → Signals → ℕ → ℕ → Effect
+byWord (Declare k) line second g n m = declareEffect line k second g
+byWord Rule line second g n m = stateEffect line second g n m
+byWord Unknown line second g n m = refuses (BadLine line)
+
+unfoldable pub effectOf : ℕ → List ℕ → Signals → ℕ → ℕ → Effect
+effectOf line bytes g n m = pickEffect (hasTab bytes) (byWord (wordOf (firstField bytes)) line (secondField bytes) g n m) (refuses (BadLine line))
+
+-- ---- a whole problem

@@ -1,0 +1,7 @@
+-- One line of a problem: the refusals, the fields of a line, what it says; then what the code keeps in memory.
+pub mod Limits
+pub mod Refusal
+pub mod Lines
+pub mod Effect
+pub mod Cells
+pub mod Memory

@@ -1,0 +1,18 @@
+-- The sizes of document 01 that concern one line of a problem.
+-- Assumes nothing.
+use Prim.Native.Nat.{ℕ}
+
+-- bytes of a formula's text
+abbrev pub textLimit : ℕ
+textLimit = 240
+
+-- bytes of a name
+abbrev pub nameLimit : ℕ
+nameLimit = 12
+
+-- signals of a kind, and in all
+abbrev pub kindLimit : ℕ
+kindLimit = 4
+
+abbrev pub signalLimit : ℕ
+signalLimit = 9

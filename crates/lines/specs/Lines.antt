@@ -1,0 +1,68 @@
+-- The lines of a problem's text (a sheet in document 01) and their two fields.
+-- Assumes nothing.
+use Prim.Native.Nat.{ℕ, _+_}
+use mathlib.Core.Bool.{Bool, true, false, _&&_}
+use mathlib.Core.List.{List, [], _∷_}
+use lib.Dec.{eqb, leb, ltb}
+use lib.ListN.{length, take, drop}
+use Rattle.basics.specs.Bytes.{notTab, run, bytesOf, sameBytes}
+use Rattle.grammar.specs.Lex.{tokenAt}
+use Rattle.lines.specs.declared.problem.Kind.the-variants.{Output, Observed, Hidden}
+use Rattle.lines.specs.declared.problem.Word.{Word}
+use Rattle.lines.specs.declared.problem.Word.the-variants.{Declare, Rule, Unknown}
+use Rattle.lines.specs.Limits.{nameLimit, textLimit}
+
+-- the bytes of a line, and whether byte 10 ends it
+pub data SourceLine : Type 0 where
+  ended unended : List ℕ → SourceLine
+
+-- a byte put before the first line
+abbrev pub before : ℕ → List SourceLine → List SourceLine
+before b [] = unended (b ∷ []) ∷ []
+before b (ended l ∷ ls) = ended (b ∷ l) ∷ ls
+before b (unended l ∷ ls) = unended (b ∷ l) ∷ ls
+
+abbrev pub lineStart : Bool → ℕ → List SourceLine → List SourceLine
+lineStart true b ls = ended [] ∷ ls
+lineStart false b ls = before b ls
+
+unfoldable pub lines : List ℕ → List SourceLine
+lines [] = []
+lines (b ∷ s) = lineStart (eqb b 10) b (lines s)
+
+-- ---- the fields of a line, parted by its first tab
+
+unfoldable pub tabPlace : List ℕ → ℕ
+tabPlace line = run notTab line
+
+abbrev pub hasTab : List ℕ → Bool
+hasTab line = ltb (tabPlace line) (length line)
+
+abbrev pub firstField : List ℕ → List ℕ
+firstField line = take (tabPlace line) line
+
+abbrev pub secondField : List ℕ → List ℕ
+secondField line = drop (tabPlace line + 1) line
+
+-- ---- the first field
+
+abbrev pub pickWord : Bool → Word → Word → Word
+pickWord true a b = a
+pickWord false a b = b
+
+unfoldable pub wordOf : List ℕ → Word
+wordOf w =
+    pickWord (sameBytes w (bytesOf "out")) (Declare Output)
+    (pickWord (sameBytes w (bytesOf "see")) (Declare Observed)
+    (pickWord (sameBytes w (bytesOf "hid")) (Declare Hidden)
+    (pickWord (sameBytes w (bytesOf "rule")) Rule Unknown)))
+
+-- ---- the second field
+
+-- a name: one token of the kind of names (97) and nothing else, not too long
+unfoldable pub isName : List ℕ → Bool
+isName s = eqb (tokenAt s 0 .kind) 97 && (eqb (tokenAt s 0 .from) 0 && (eqb (tokenAt s 0 .next) (length s) && leb (length s) nameLimit))
+
+-- a formula's text: some bytes, not too many, and no tab
+unfoldable pub isText : List ℕ → Bool
+isText s = ltb 0 (length s) && (leb (length s) textLimit && eqb (tabPlace s) (length s))

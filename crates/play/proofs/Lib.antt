@@ -1,0 +1,22 @@
+-- orders of a step, and ranks
+pub mod Order
+pub mod RankLaws
+pub mod LeastRanks
+-- plans, which see their step's observation if the order lets them: the best one, and why none does better
+pub mod Plans
+pub mod UpperBound
+pub mod LowerBound
+pub mod TrapsDefeat
+pub mod FiniteArena
+pub mod BestPlan
+pub mod Optimality
+-- beliefs
+pub mod BeliefsKnow
+-- the table
+pub mod SameStrategy
+pub mod RankedRows
+pub mod TableLaws
+-- the answer; positions by another name have the same
+pub mod AnswerLaws
+pub mod SameArena
+pub mod SameVerdict

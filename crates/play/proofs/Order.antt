@@ -1,0 +1,41 @@
+-- The order of choosing and observation within a step, as the theory uses it: which answers to observations are allowed, and a test of whether some
+-- allowed answer is right at every observation. All facts on ranks and plays are shown over it.
+-- Assumes nothing.
+use Prim.Native.Nat.{ℕ, _<_}
+use mathlib.Core.Path.{_≡_, refl, sym, subst}
+use mathlib.Core.Bool.{Bool, true, false}
+use mathlib.Core.Logic.{inl, inr}
+use Rattle.basics.specs.Bounded.{all}
+use Rattle.play.specs.Rank.{setFirst}
+use Rattle.basics.proofs.BoundedLaws.{all-at, all-not, any-at, any-not}
+use Rattle.basics.proofs.Booleans.{test, clash}
+
+pub record Order (choices observations : ℕ) : Type 1 where
+  pub can : (ℕ → ℕ → Bool) → Bool
+  -- an answer is a choice for each observation
+  pub Allowed : (ℕ → ℕ) → Type 0
+  pub below : (g : ℕ → ℕ) → Allowed g → (s : ℕ) → s < observations → g s < choices
+  pub answer : (ok : ℕ → ℕ → Bool) → can ok ≡ true → (g : ℕ → ℕ) × Allowed g × ((s : ℕ) → s < observations → ok (g s) s ≡ true)
+  pub refute : (ok : ℕ → ℕ → Bool) → can ok ≡ false → (g : ℕ → ℕ) → Allowed g → (s : ℕ) × (s < observations) × (ok (g s) s ≡ false)
+
+module _ {choices observations : ℕ} (O : Order choices observations) where
+  pub can-of : (ok : ℕ → ℕ → Bool) (g : ℕ → ℕ) → O .Allowed g → ((s : ℕ) → s < observations → ok (g s) s ≡ true) → O .can ok ≡ true
+  can-of ok g a right =
+      elim (test (O .can ok)) [ inl t ↦ t | inr f ↦ let (s, h, w) = O .refute ok f g a in clash (right s h) w ]
+
+  pub can-mono : (ok ok′ : ℕ → ℕ → Bool) → ((c s : ℕ) → ok c s ≡ true → ok′ c s ≡ true) → O .can ok ≡ true → O .can ok′ ≡ true
+  can-mono ok ok′ up t = let (g, a, right) = O .answer ok t in can-of ok′ g a (λ s h. up (g s) s (right s h))
+
+abbrev pub setOrder : (choices observations : ℕ) → Order choices observations
+setOrder choices observations =
+    record {
+      can = setFirst choices observations;
+      Allowed = λ g. (c : ℕ) × (c < choices) × ((s : ℕ) → g s ≡ c);
+      below = λ g a s h. subst (λ (c : ℕ). c < choices) (sym (a .2 s)) (a .1);
+      answer = λ ok t.
+          let (c, b, r) = any-at choices (λ c. all observations (λ s. ok c s)) t in
+          (λ s. c, (c, b, λ s. refl), all-at observations (λ s. ok c s) r);
+      refute = λ ok f g a.
+          let (s, h, w) = all-not observations (λ s. ok (a .0) s) (any-not choices (λ c. all observations (λ s. ok c s)) f (a .0) (a .1)) in
+          (s, h, subst (λ (c : ℕ). ok c s ≡ false) (sym (a .2 s)) w);
+    }

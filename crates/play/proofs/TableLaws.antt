@@ -1,0 +1,184 @@
+-- A table read as a strategy is the strategy whose rows it holds.
+-- Assumes nothing.
+use Prim.Native.Nat.{ℕ, zero, suc, _+_, _≤_, _<_}
+use native.Mathlib.Omega.{arith}
+use mathlib.Core.Path.{_≡_, refl, sym, ap, _∙_, subst}
+use mathlib.Core.Logic.{_⊎_, inl, inr}
+use mathlib.Core.Bool.{Bool, true, false, cond}
+use mathlib.Core.List.{List, [], _∷_, flatMap}
+use lib.Dec.{eqb, ltb}
+use lib.ListN.{length, getD}
+use borrow.Author.Tests.{lt-ltb, le-ltb, ltb-true, eqb-true}
+use Rattle.basics.proofs.ListsLaws.{getD-tabulate, tabulate-ext, getD-zeros}
+use Rattle.basics.specs.Says.{Says}
+use Rattle.basics.specs.Member.{_∈_}
+use Rattle.basics.specs.Reach.{closed, indexIn, reachable}
+use Rattle.basics.proofs.EqualRows.{length-rows, getD-rows}
+use Rattle.basics.proofs.MemberLaws.{getD-in}
+use Rattle.play.specs.Limits.{sideLimit, rowSize, stopCell}
+use Rattle.play.specs.Game.{choose, AllBelow}
+use Rattle.play.specs.Rank.{Arena, bestChoice, best}
+use Rattle.play.specs.Table.{cell, isStop, readFrom, tableStrategy, Laid, stopRow, choiceRow, listOf, followers, rowOf, tableCells}
+use Rattle.basics.proofs.Booleans.{test}
+use Rattle.basics.proofs.BoundedLaws.{first-le}
+use Rattle.play.proofs.RankedRows.{some-row, first-row, next-place}
+
+-- ---- one row
+
+-- where the table stops
+pub stop-length : length stopRow ≡ rowSize
+unfolding stopRow
+stop-length = refl
+
+pub stop-first : getD stopRow 0 0 ≡ stopCell
+unfolding stopRow
+stop-first = refl
+
+pub stop-at : (s : ℕ) → 0 < s → getD stopRow s 0 ≡ 0
+unfolding stopRow
+stop-at zero h = absurd (omega arith)
+stop-at (suc s) h = getD-zeros sideLimit s
+
+-- with a choice
+module _ (observations c : ℕ) (next : ℕ → ℕ) where
+  pub choice-length : length (choiceRow observations c next) ≡ rowSize
+  unfolding choiceRow
+  choice-length = refl
+
+  pub choice-first : getD (choiceRow observations c next) 0 0 ≡ c
+  unfolding choiceRow
+  choice-first = refl
+
+  choice-at : (s : ℕ) → s < sideLimit → getD (choiceRow observations c next) (1 + s) 0 ≡ cond (ltb s observations) (next s) 0
+  unfolding choiceRow
+  choice-at s h =
+      let e : 1 + s ≡ suc s = omega arith in
+      ap (λ j. getD (choiceRow observations c next) j 0) e ∙ getD-tabulate sideLimit (λ s. cond (ltb s observations) (next s) 0) s 0 h
+
+  pub choice-next : (s : ℕ) → s < sideLimit → s < observations → getD (choiceRow observations c next) (1 + s) 0 ≡ next s
+  choice-next s h b = choice-at s h ∙ rw (lt-ltb s observations b)
+
+  pub choice-unused : (s : ℕ) → s < sideLimit → observations ≤ s → getD (choiceRow observations c next) (1 + s) 0 ≡ 0
+  choice-unused s h b = choice-at s h ∙ rw (le-ltb s observations b)
+
+pub choice-ext : (observations c : ℕ) (f g : ℕ → ℕ) → ((s : ℕ) → s < observations → f s ≡ g s) → choiceRow observations c f ≡ choiceRow observations c g
+unfolding choiceRow
+choice-ext observations c f g e = ap (λ l. c ∷ l) (tabulate-ext sideLimit _ _ (λ s h. at s (test (ltb s observations))))
+  where
+    at : (s : ℕ) → (ltb s observations ≡ true) ⊎ (ltb s observations ≡ false) → cond (ltb s observations) (f s) 0 ≡ cond (ltb s observations) (g s) 0
+    at s (inl t) = rw t (e s (ltb-true s observations t))
+    at s (inr t) = rw t
+
+module _ (A : Arena) (same : A .K → A .K → Bool) (choices observations n : ℕ) (ks : List (A .K)) (k : A .K) where
+  pub row-stop : A .final k ≡ true → rowOf A same choices observations n ks k ≡ stopRow
+  row-stop t = rw (t, rowOf)
+
+  pub row-goes : A .final k ≡ false
+      → let c = bestChoice A choices observations n k in rowOf A same choices observations n ks k
+      ≡ choiceRow observations c (λ s. indexIn same (A .move k c s) ks)
+  row-goes f = rw (f, rowOf)
+
+  -- every row has as many cells
+  pub row-width : length (rowOf A same choices observations n ks k) ≡ rowSize
+  row-width =
+      elim (test (A .final k)) [ inl t ↦ ap length (row-stop t) ∙ stop-length | inr f ↦ ap length (row-goes f) ∙ choice-length observations _ _ ]
+
+-- ---- the table
+
+module _ (A : Arena) (same : A .K → A .K → Bool) (says : (a b : A .K) → Says (same a b) (a ≡ b)) (choices observations n : ℕ)
+    (few-choices : choices < stopCell) (few-observations : observations ≤ sideLimit)
+    (ks : List (A .K)) (listed : reachable same (followers A same choices observations n) (A .start) n ≡ closed ks) where
+  abbrev table : List ℕ
+  table = flatMap (rowOf A same choices observations n ks) ks
+
+  abbrev choice : A .K → ℕ
+  choice k = bestChoice A choices observations n k
+
+  abbrev row : A .K → List ℕ
+  row k = rowOf A same choices observations n ks k
+
+  abbrev pub at : ℕ → A .K
+  at i = getD ks i (A .start)
+
+  cell-is : (i j : ℕ) → i < length ks → j < rowSize → cell table i j ≡ getD (row (at i)) j 0
+  cell-is i j h b = getD-rows rowSize row (row-width A same choices observations n ks) ks (A .start) i j h b
+
+  stop-row : (i : ℕ) → i < length ks → A .final (at i) ≡ true → isStop table i ≡ true
+  stop-row i h t =
+      ap (λ (c : ℕ). eqb c stopCell) (cell-is i 0 h (omega arith) ∙ ap (λ (r : List ℕ). getD r 0 0)
+      (row-stop A same choices observations n ks (at i) t) ∙ stop-first)
+
+  choice-cell : (i : ℕ) → i < length ks → A .final (at i) ≡ false → cell table i 0 ≡ choice (at i)
+  choice-cell i h f = cell-is i 0 h (omega arith) ∙ ap (λ (r : List ℕ). getD r 0 0) (row-goes A same choices observations n ks (at i) f)
+      ∙ choice-first observations _ _
+
+  goes-row : (i : ℕ) → i < length ks → A .final (at i) ≡ false → isStop table i ≡ false
+  goes-row i h f =
+      elim (test (isStop table i)) [
+        | inl t ↦
+            let e = eqb-true (cell table i 0) stopCell t in
+            let b : choice (at i) ≤ choices = first-le _ choices in
+            absurd (omega (arith, choice-cell i h f))
+        | inr g ↦ g
+      ]
+
+  stop-cell : (i : ℕ) → i < length ks → A .final (at i) ≡ true → (s : ℕ) → s < sideLimit → cell table i (1 + s) ≡ 0
+  stop-cell i h t s b = cell-is i (1 + s) h (omega arith) ∙ ap (λ (r : List ℕ). getD r (1 + s) 0) (row-stop A same choices observations n ks (at i) t)
+      ∙ stop-at (1 + s) (omega arith)
+
+  goes-cell : (i j : ℕ) → i < length ks → A .final (at i) ≡ false → j < rowSize
+      → cell table i j ≡ getD (choiceRow observations (choice (at i)) (λ s. indexIn same (A .move (at i) (choice (at i)) s) ks)) j 0
+  goes-cell i j h f b = cell-is i j h b ∙ ap (λ (r : List ℕ). getD r j 0) (row-goes A same choices observations n ks (at i) f)
+
+  next-cell : (i : ℕ) → i < length ks → A .final (at i) ≡ false → (s : ℕ) → s < observations
+      → cell table i (1 + s) ≡ indexIn same (A .move (at i) (choice (at i)) s) ks
+  next-cell i h f s b = goes-cell i (1 + s) h f (omega arith) ∙ choice-next observations _ _ s (omega arith) b
+
+  unused-cell : (i : ℕ) → i < length ks → A .final (at i) ≡ false → (s : ℕ) → observations ≤ s → s < sideLimit → cell table i (1 + s) ≡ 0
+  unused-cell i h f s o b = goes-cell i (1 + s) h f (omega arith) ∙ choice-unused observations _ _ s b o
+
+  -- the row that an observation leads to is that of the next position
+  next-row : (i : ℕ) → i < length ks → A .final (at i) ≡ false → (s : ℕ) → s < observations
+      → (cell table i (1 + s) < length ks) × (at (cell table i (1 + s)) ≡ A .move (at i) (choice (at i)) s)
+  next-row i h f s b =
+      subst (λ (j : ℕ). (j < length ks) × (getD ks j (A .start) ≡ A .move (at i) (choice (at i)) s)) (sym (next-cell i h f s b))
+      (next-place A same says (λ k s. choice k) observations n ks listed i h f s b)
+
+  -- the rows are laid out as they should, where they take choices
+  pub table-laid : ((k : A .K) → k ∈ ks → A .final k ≡ false → choice k < choices) → Laid choices observations (length ks) table
+  table-laid chosen =
+      record {
+        long = length-rows rowSize row (row-width A same choices observations n ks) ks;
+        row = λ i h.
+            elim (test (A .final (at i))) [
+              | inl t ↦ inl (stop-row i h t, stop-cell i h t)
+              | inr f ↦
+                  inr (
+                    subst (λ (c : ℕ). c < choices) (sym (choice-cell i h f)) (chosen (at i) (getD-in ks i (A .start) h) f),
+                    λ s b. next-row i h f s b .0,
+                    unused-cell i h f,
+                  )
+            ];
+      }
+
+  table-reads : (h : List ℕ) → AllBelow observations h → (i : ℕ) → i < length ks → readFrom table i h ≡ best A choices observations n (at i) h
+  table-reads [] v i b =
+      elim (test (A .final (at i))) [
+        | inl t ↦ rw (stop-row i b t, readFrom, t, best)
+        | inr f ↦ rw (goes-row i b f, readFrom, f, best) (ap choose (choice-cell i b f))
+      ]
+  table-reads (s ∷ h) v i b =
+      elim (test (A .final (at i))) [
+        | inl t ↦ rw (stop-row i b t, readFrom, t, best)
+        | inr f ↦
+            let (b′, e) = next-row i b f s (v .0) in
+            rw (goes-row i b f, readFrom, f, best) (table-reads h (v .1) (cell table i (1 + s)) b′ ∙ ap (λ (k : A .K). best A choices observations n k h) e)
+      ]
+
+  -- the table, read from its first row, is the strategy of the smallest choices that work
+  pub table-is-best : (h : List ℕ) → AllBelow observations h
+      → tableStrategy (tableCells A same choices observations n) h ≡ best A choices observations n (A .start) h
+  table-is-best h v =
+      ap (λ l. tableStrategy (flatMap (rowOf A same choices observations n l) l) h) (ap listOf listed)
+      ∙ table-reads h v 0 (some-row A same says (λ k s. choice k) observations n ks listed)
+      ∙ ap (λ (k : A .K). best A choices observations n k h) (first-row A same says (λ k s. choice k) observations n ks listed)

@@ -1,0 +1,64 @@
+-- What is answered for a game, from the positions of an arena: the table and its worst case, or that there is none.
+-- Assumes nothing.
+use Prim.Native.Nat.{ℕ, _*_, _/_, _%_, _≤_, _<_}
+use mathlib.Core.Bool.{Bool, cond}
+use mathlib.Core.List.{List, []}
+use lib.Dec.{ltb}
+use lib.ListN.{length, getD}
+use Rattle.basics.specs.Lists.{tabulate}
+use Rattle.basics.specs.Reach.{Listing, indexIn, reachable}
+use Rattle.play.specs.Game.{Game, Optimal, Unrealizable}
+use Rattle.play.specs.Rank.{Arena, setFirst, rankBelow}
+use Rattle.play.specs.Table.{tableStrategy, Laid, rows, tableCells}
+
+module _ (A : Arena) (same : A .K → A .K → Bool) (choices observations : ℕ) where
+  -- the positions that all choices and observations lead to: pair q is choice q % choices and observation q / choices
+  abbrev pub moves : A .K → List (A .K)
+  moves k = tabulate (choices * observations) (λ q. A .move k (q % choices) (q / choices))
+
+  -- the positions that choices and observations can reach, or `over` if there are more than the limit
+  abbrev pub positions : ℕ → Listing (A .K)
+  positions limit = reachable same moves (A .start) limit
+
+  -- the worst case is the start's rank, searched below n; n if there is none
+  abbrev pub startRank : ℕ → ℕ
+  startRank n = rankBelow A (setFirst choices observations) n (A .start)
+
+-- a table with its row count and worst case, or "unrealizable"
+pub data Verdict : Type 0 where
+  solved : (rowCount worstCase : ℕ) (cells : List ℕ) → Verdict
+  unrealizable : Verdict
+
+-- for a game with n positions: a rank is below their number
+abbrev pub verdictOf : (A : Arena) (same : A .K → A .K → Bool) (choices observations n : ℕ) → Verdict
+verdictOf A same choices observations n =
+    cond (ltb (startRank A same choices observations n) n)
+    (solved (length (rows A same choices observations n)) (startRank A same choices observations n) (tableCells A same choices observations n)) unrealizable
+
+-- positions that are counted, by their numbers
+abbrev pub numbered : (A : Arena) → (A .K → A .K → Bool) → List (A .K) → Arena
+numbered A same all =
+    record {
+      K = ℕ;
+      start = indexIn same (A .start) all;
+      move = λ i c s. indexIn same (A .move (getD all i (A .start)) c s) all;
+      final = λ i. A .final (getD all i (A .start));
+    }
+
+-- what is written for a verdict
+abbrev pub cellsOf : Verdict → List ℕ
+cellsOf (solved n r cells) = cells
+cellsOf unrealizable = []
+
+-- a table of n rows with worst case r: read as a strategy it wins, its worst case is r, and no winning strategy has a smaller one; the
+-- worst case is below the row count, the row count within the limit of positions, and each row has the right cells
+pub record Solves (limit : ℕ) (G : Game) (n r : ℕ) (cells : List ℕ) : Type 0 where
+  pub optimal : Optimal G (tableStrategy cells) r
+  pub below : r < n
+  pub within : n ≤ limit
+  pub laid : Laid (G .choices) (G .observations) n cells
+
+-- what a verdict promises: the table solves the game, or no strategy wins
+abbrev pub Right : ℕ → Game → Verdict → Type 0
+Right limit G (solved n r cells) = Solves limit G n r cells
+Right limit G unrealizable = Unrealizable G

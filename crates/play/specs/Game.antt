@@ -1,0 +1,90 @@
+-- The game: strategies, plays, runs and winning, as "The game" of document 01 defines them, for any numbers of choices, observations
+-- (readings there) and hidden values, any way to make a letter of them, and any meaning of traces.
+-- Assumes nothing.
+use Prim.Native.Nat.{ℕ, _≤_, _<_}
+use mathlib.Core.Path.{_≡_}
+use mathlib.Core.Bool.{Bool, true}
+use mathlib.Core.List.{List, [], _∷_}
+use Rattle.basics.specs.Lists.{tabulate}
+
+pub record Game : Type 0 where
+  -- a choice, an observation and a hidden value are numbers below these
+  pub choices : ℕ
+  pub observations : ℕ
+  pub hiddens : ℕ
+  -- the letter of one step, from its choice, its observation and its hidden value
+  pub letter : ℕ → ℕ → ℕ → ℕ
+  -- whether a trace, the list of its letters, is true
+  pub isTrue : List ℕ → Bool
+
+-- what one step of a play brings: any values of the observed and of the hidden signals
+pub record Reply (G : Game) : Type 0 where
+  pub observation : ℕ
+  pub hidden : ℕ
+  pub observation-below : observation < G .observations
+  pub hidden-below : hidden < G .hiddens
+
+-- a play is any endless list of such values, one pair a step
+abbrev pub Play : Game → Type 0
+Play G = ℕ → Reply G
+
+-- the observations of its first n steps, oldest first
+abbrev pub seen : {G : Game} → Play G → ℕ → List ℕ
+seen p n = tabulate n (λ i. (p i) .observation)
+
+pub data Decision : Type 0 where
+  choose : ℕ → Decision
+  stop : Decision
+
+-- every number of the list is below n
+abbrev pub AllBelow : ℕ → List ℕ → Type 0
+AllBelow n [] = Unit {0}
+AllBelow n (s ∷ h) = (s < n) × AllBelow n h
+
+-- a strategy maps each finite list of past observations to a choice or to "stop" ..
+abbrev pub Strategy : Type 0
+Strategy = List ℕ → Decision
+
+-- .. the empty list gets a choice
+pub record IsStrategy (G : Game) (σ : Strategy) : Type 0 where
+  pub opens : (c : ℕ) × (σ [] ≡ choose c)
+  pub legal : (h : List ℕ) → AllBelow (G .observations) h → (c : ℕ) → σ h ≡ choose c → c < G .choices
+
+module _ {G : Game} (σ : Strategy) (p : Play G) where
+  -- the play goes on for n steps at least
+  abbrev pub GoesOn : ℕ → Type 0
+  GoesOn n = (m : ℕ) → m < n → (c : ℕ) × (σ (seen p m) ≡ choose c)
+
+  -- the play stops as soon as the list of its observations so far is mapped to "stop": it takes n steps
+  abbrev pub Steps : ℕ → Type 0
+  Steps n = (σ (seen p n) ≡ stop) × GoesOn n
+
+abbrev pub choiceOf : Decision → ℕ
+choiceOf (choose c) = c
+choiceOf stop = 0
+
+module _ (G : Game) (σ : Strategy) where
+  -- the letters of a play's first n steps: the strategy adds its choice, made from the observations before the step, to each pair.
+  -- The trace (document 01's run) of a play that takes n steps is `run p n`
+  abbrev pub run : Play G → ℕ → List ℕ
+  run p n = tabulate n (λ i. G .letter (choiceOf (σ (seen p i))) ((p i) .observation) ((p i) .hidden))
+
+  -- a strategy wins if every play stops after finitely many steps with a true trace
+  abbrev pub Wins : Type 0
+  Wins = (p : Play G) → (n : ℕ) × Steps σ p n × (G .isTrue (run p n) ≡ true)
+
+  -- its worst case is the most steps that any of its plays takes
+  pub record WorstCase (r : ℕ) : Type 0 where
+    pub at-most : (p : Play G) (n : ℕ) → Steps σ p n → n ≤ r
+    pub reached : (p : Play G) × Steps σ p r
+
+-- a strategy that wins with the least worst case, r
+pub record Optimal (G : Game) (σ : Strategy) (r : ℕ) : Type 0 where
+  pub isStrategy : IsStrategy G σ
+  pub wins : Wins G σ
+  pub worst : WorstCase G σ r
+  pub least : (τ : Strategy) → IsStrategy G τ → Wins G τ → (p : Play G) × (n : ℕ) × Steps τ p n × (r ≤ n)
+
+-- no strategy wins (unwinnable in document 01)
+abbrev pub Unrealizable : Game → Type 0
+Unrealizable G = (σ : Strategy) → IsStrategy G σ → Wins G σ → ⊥

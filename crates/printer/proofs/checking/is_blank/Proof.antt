@@ -1,0 +1,82 @@
+-- `printer::checking::is_blank` meets its contract. The invariant: the cells passed are used, or 0.
+-- Assumes nothing.
+use Prim.Native.Nat.{_-_, _≤_}
+use native.Mathlib.Omega.{arith}
+use mathlib.Core.Path.{_≡_, refl}
+use mathlib.Core.Bool.{true}
+use borrow.Author.Needs.{needs}
+use Rattle.play.specs.Limits.{sideLimit}
+use Rattle.basics.specs.Bounded.{all}
+use Rattle.printer.proofs.WellFormedLaws.{blankAt, blank-fails, blank-more, blank-passes}
+use Rattle.printer.proofs.checking.is_blank.Statement.{statement}
+use Rattle.printer.proofs.checking.is_blank.Tie as tie
+
+abbrev Inv-loop : tie.InvT-loop
+Inv-loop table observed row n s₀ s = (s ≤ sideLimit) × (all s (blankAt table observed row) ≡ true)
+
+abbrev μ-loop : tie.MeasureT-loop
+μ-loop table observed row n s₀ s = sideLimit - s
+
+next-count-requires : tie.Need-next-count-requires Inv-loop μ-loop
+next-count-requires c κs = search needs
+
+loop-holds : tie.Need-loop-holds Inv-loop μ-loop
+loop-holds c = (omega arith, refl)
+
+mul-if1 : tie.Need-mul-if1 Inv-loop μ-loop
+mul-if1 c = search needs
+
+add-if1 : tie.Need-add-if1 Inv-loop μ-loop
+add-if1 c = search needs
+
+add-if1-2 : tie.Need-add-if1-2 Inv-loop μ-loop
+add-if1-2 c = search needs
+
+mul-if1-2 : tie.Need-mul-if1-2 Inv-loop μ-loop
+mul-if1-2 c = search needs
+
+shared-slice-read-if1 : tie.Need-shared-slice-read-if1 Inv-loop μ-loop
+shared-slice-read-if1 c = search needs
+
+returns : tie.Need-returns Inv-loop μ-loop
+returns c =
+    let a = c .before .before .before .before .before .before .args in
+    blank-fails (a .table .now) (a .observed) (a .row) _ (c .before .before .before .before .next-count .ensures) (c .before .before .before .loop .s)
+    (c .before .before .loop-test .taken) (c .if1 .taken)
+
+add-s : tie.Need-add-s Inv-loop μ-loop
+add-s c = search needs
+
+loop-less : tie.Need-loop-less Inv-loop μ-loop
+loop-less c = search needs
+
+loop-again : tie.Need-loop-again Inv-loop μ-loop
+loop-again c =
+    let l = c .before .before .before .loop in
+    let a = c .before .before .before .before .before .before .args in
+    (omega arith, blank-more (a .table .now) (a .observed) (a .row) _ (c .before .before .before .before .next-count .ensures) (l .s) (c .if1 .left) (l .inv .1))
+
+returns-2 : tie.Need-returns-2 Inv-loop μ-loop
+returns-2 c =
+    let l = c .before .loop in
+    let a = c .before .before .before .before .args in
+    blank-passes (a .table .now) (a .observed) (a .row) (l .s) (l .inv .0) (c .loop-test .left) (l .inv .1)
+
+pub is-blank-spec : {M : Type 1} → statement M
+is-blank-spec =
+    tie.close
+    (tie.spec
+    Inv-loop
+    μ-loop
+    next-count-requires
+    loop-holds
+    mul-if1
+    add-if1
+    add-if1-2
+    mul-if1-2
+    shared-slice-read-if1
+    returns
+    add-s
+    loop-less
+    loop-again
+    returns-2)

@@ -1,0 +1,115 @@
+-- `printer::checking::is_row` meets its contract. The invariant: the next rows passed are rows.
+-- Assumes nothing.
+use Prim.Native.Nat.{_-_, _≤_}
+use native.Mathlib.Omega.{arith}
+use mathlib.Core.Path.{_≡_, refl, sym, subst}
+use mathlib.Core.Bool.{true}
+use borrow.Author.Needs.{needs}
+use Rattle.play.specs.Limits.{sideLimit}
+use Rattle.basics.specs.Bounded.{all}
+use Rattle.printer.proofs.WellFormedLaws.{leadsOn, count-le, no-answer, leads-more, row-fails, row-passes}
+use Rattle.printer.proofs.checking.is_row.Statement.{statement}
+use Rattle.printer.proofs.checking.is_row.Tie as tie
+
+abbrev Inv-loop : tie.InvT-loop
+Inv-loop table rows observed row n s₀ s = (n ≤ sideLimit) × (s ≤ n) × (all s (leadsOn table rows observed row) ≡ true)
+
+abbrev μ-loop : tie.MeasureT-loop
+μ-loop table rows observed row n s₀ s = n - s
+
+mul-is-answer : tie.Need-mul-is-answer Inv-loop μ-loop
+mul-is-answer c = search needs
+
+mul-is-answer-2 : tie.Need-mul-is-answer-2 Inv-loop μ-loop
+mul-is-answer-2 c = search needs
+
+shared-slice-read-is-answer : tie.Need-shared-slice-read-is-answer Inv-loop μ-loop
+shared-slice-read-is-answer c = search needs
+
+is-answer-requires : tie.Need-is-answer-requires Inv-loop μ-loop
+is-answer-requires c κs = search needs
+
+returns : tie.Need-returns Inv-loop μ-loop
+returns c =
+    let a = c .before .before .before .before .args in
+    no-answer (a .table .now) (a .rows) (a .observed) (a .row) _ (c .before .is-answer .ensures) (c .if1 .taken)
+
+next-count-requires : tie.Need-next-count-requires Inv-loop μ-loop
+next-count-requires c κs = search needs
+
+loop-holds : tie.Need-loop-holds Inv-loop μ-loop
+loop-holds c =
+    let e = c .before .before .before .before .before in
+    let a = e .args in
+    (subst (λ n. n ≤ sideLimit) (sym (c .next-count .ensures)) (count-le (a .table .now) (a .observed) (a .row) (e .pre .1 .1)), omega arith, refl)
+
+mul-is-next : tie.Need-mul-is-next Inv-loop μ-loop
+mul-is-next c = search needs
+
+add-is-next : tie.Need-add-is-next Inv-loop μ-loop
+add-is-next c = search needs
+
+add-is-next-2 : tie.Need-add-is-next-2 Inv-loop μ-loop
+add-is-next-2 c = search needs
+
+mul-is-next-2 : tie.Need-mul-is-next-2 Inv-loop μ-loop
+mul-is-next-2 c = search needs
+
+shared-slice-read-is-next : tie.Need-shared-slice-read-is-next Inv-loop μ-loop
+shared-slice-read-is-next c = search needs
+
+is-next-requires : tie.Need-is-next-requires Inv-loop μ-loop
+is-next-requires c κs = search needs
+
+returns-2 : tie.Need-returns-2 Inv-loop μ-loop
+returns-2 c =
+    let e = c .before .before .before .before .before .before .before in
+    let a = e .before .before .before .args in
+    row-fails (a .table .now) (a .rows) (a .observed) (a .row) _ (e .is-answer .ensures) (c .before .before .before .before .before .before .if1 .left)
+    _ (c .before .before .before .before .before .next-count .ensures) (c .before .before .before .before .loop .s) (c .before .before .before .loop-test .taken)
+    _ (c .before .is-next .ensures) (c .if2 .taken)
+
+add-s : tie.Need-add-s Inv-loop μ-loop
+add-s c = search needs
+
+loop-less : tie.Need-loop-less Inv-loop μ-loop
+loop-less c = search needs
+
+loop-again : tie.Need-loop-again Inv-loop μ-loop
+loop-again c =
+    let l = c .before .before .before .before .loop in
+    let a = c .before .before .before .before .before .before .before .before .before .before .args in
+    (l .inv .0, omega arith, leads-more (a .table .now) (a .rows) (a .observed) (a .row) (l .s) _ (c .before .is-next .ensures) (c .if2 .left) (l .inv .2))
+
+returns-3 : tie.Need-returns-3 Inv-loop μ-loop
+returns-3 c =
+    let l = c .before .loop in
+    let e = c .before .before .before .before in
+    let a = e .before .before .before .args in
+    row-passes (a .table .now) (a .rows) (a .observed) (a .row) _ (e .is-answer .ensures) (c .before .before .before .if1 .left)
+    _ (c .before .before .next-count .ensures) (l .s) (l .inv .1) (c .loop-test .left) (l .inv .2)
+
+pub is-row-spec : {M : Type 1} → statement M
+is-row-spec =
+    tie.close
+    (tie.spec
+    Inv-loop
+    μ-loop
+    mul-is-answer
+    mul-is-answer-2
+    shared-slice-read-is-answer
+    is-answer-requires
+    returns
+    next-count-requires
+    loop-holds
+    mul-is-next
+    add-is-next
+    add-is-next-2
+    mul-is-next-2
+    shared-slice-read-is-next
+    is-next-requires
+    returns-2
+    add-s
+    loop-less
+    loop-again
+    returns-3)

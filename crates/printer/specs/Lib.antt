@@ -1,0 +1,4 @@
+-- What a table must be, and its text.
+pub mod Limits
+pub mod WellFormed
+pub mod Text

@@ -1,0 +1,35 @@
+-- Bytes made of bits.
+-- Assumes nothing.
+use Prim.Native.Nat.{ℕ, _+_, _*_, _/_, _%_, _<_}
+use native.Mathlib.Nat.{div-add-mod'}
+use native.Mathlib.Omega.{arith}
+use mathlib.Core.Path.{_≡_, ap, _∙_}
+use mathlib.Core.Bool.{Bool}
+use lib.ListN.{length, getD}
+use Rattle.basics.specs.Bits.{bit}
+use Rattle.basics.specs.Lists.{tabulate}
+use Rattle.basics.proofs.ListsLaws.{length-tabulate, getD-tabulate}
+use Rattle.search.specs.Limits.{setSize}
+use Rattle.search.specs.Slots.{byteAt, bitBytes}
+use Rattle.basics.proofs.BitsLaws.{fromBits-lt, bit-table}
+
+module _ (f : ℕ → Bool) where
+  pub bytes-length : length (bitBytes f) ≡ setSize
+  unfolding bitBytes
+  bytes-length = length-tabulate setSize (byteAt f)
+
+  pub byte-at : (i : ℕ) → i < setSize → getD (bitBytes f) i 0 ≡ byteAt f i
+  unfolding bitBytes
+  byte-at i h = getD-tabulate setSize (byteAt f) i 0 h
+
+  pub byte-lt : (i : ℕ) → byteAt f i < 256
+  unfolding byteAt
+  byte-lt i = fromBits-lt (tabulate 8 (λ j. f (i * 8 + j)))
+
+  bit-byte : (i j : ℕ) → j < 8 → bit (byteAt f i) j ≡ f (i * 8 + j)
+  unfolding byteAt
+  bit-byte i j h = bit-table 8 (λ k. f (i * 8 + k)) j h
+
+  pub bit-bytes : (p : ℕ) → p < 256 → bit (getD (bitBytes f) (p / 8) 0) (p % 8) ≡ f p
+  bit-bytes p h =
+      ap (λ x. bit x (p % 8)) (byte-at (p / 8) (omega arith)) ∙ bit-byte (p / 8) (p % 8) (omega arith) ∙ ap f (div-add-mod' p 8)

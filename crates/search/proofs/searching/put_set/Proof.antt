@@ -1,0 +1,64 @@
+-- `search::search::put_set` meets its contract, by those of `put_next` and `find`.
+-- Assumes nothing.
+use Prim.Native.Nat.{_+_, _*_, _≤_}
+use native.Mathlib.Omega.{arith}
+use mathlib.Core.Path.{ap, _∙_}
+use lib.ListN.{length}
+use borrow.Author.Needs.{needs}
+use Rattle.search.specs.Limits.{setSize}
+use Rattle.basics.specs.Bounded.{firstThat}
+use Rattle.search.specs.Slots.{sameSlot}
+use Rattle.basics.proofs.LentPart.{part-length}
+use Rattle.search.proofs.SlotsLaws.{set-back}
+use Rattle.search.proofs.searching.put_set.Statement.{statement}
+use Rattle.search.proofs.searching.put_set.Tie as tie
+
+mul-at : tie.Need-mul-at
+mul-at c = search needs
+
+add-put-next : tie.Need-add-put-next
+add-put-next c = search needs
+
+sub-put-next : tie.Need-sub-put-next
+sub-put-next c = search needs
+
+part-put-next-start : tie.Need-part-put-next-start
+part-put-next-start c = search needs
+
+part-put-next-end : tie.Need-part-put-next-end
+part-put-next-end c = search needs
+
+put-next-requires : tie.Need-put-next-requires
+put-next-requires c κs =
+    let s = c .before .before .before .before in
+    let p = s .pre in
+    let q = p .1 .1 .1 in
+    let r = q .1 .1 in
+    let room : s .args .m * setSize + setSize ≤ length (s .args .mem .now) = omega (arith, r .0, r .1) in
+    (p .0, (p .1 .0, (p .1 .1 .0, (q .0, (q .1 .0, part-length (s .args .m * setSize) setSize (s .args .mem .now) room)))))
+
+find-requires : tie.Need-find-requires
+find-requires c κs = search needs
+
+same-length : tie.Need-same-length
+same-length c = search needs
+
+returns : tie.Need-returns
+returns c =
+    let s = c .before .before .before .before .before .before .before .before .before in
+    let w = set-back (s .args .mem .now) _ _ (s .args .m) (c .before .before .before .before .put-next .ensures) in
+    (c .find .ensures ∙ ap (λ l. firstThat (sameSlot l (s .args .m)) (s .args .m)) w, w)
+
+pub put-set-spec : {M : Type 1} → statement M
+put-set-spec =
+    tie.close
+    (tie.spec
+    mul-at
+    add-put-next
+    sub-put-next
+    part-put-next-start
+    part-put-next-end
+    put-next-requires
+    find-requires
+    same-length
+    returns)

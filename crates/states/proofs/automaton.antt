@@ -1,0 +1,2 @@
+-- Laws of the loops beside the proofs of `states::automaton`.
+pub mod Prepared

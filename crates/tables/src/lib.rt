@@ -1,0 +1,15 @@
+// From the moves between numbered positions to the table of the best strategy: ranks, choices and rows. Every function here is proved,
+// and the crate assumes nothing. `answer` serves the crate `game`, which shows that it meets what is asked.
+mod answering;
+mod ranking;
+mod sizes;
+mod writing;
+
+pub use answering::Outcome;
+pub use answering::answer;
+pub use sizes::BELIEF_LIMIT;
+pub use sizes::PAIR_LIMIT;
+pub use sizes::ROW;
+pub use sizes::SIDE_LIMIT;
+pub use sizes::STOP;
+pub use sizes::TABLE_SIZE;

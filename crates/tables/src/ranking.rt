@@ -1,0 +1,119 @@
+// Ranks, round by round: a position gets rank r where a choice leads below r whatever is observed.
+ghost use mathlib.Core.Path.{_≡_};
+ghost use mathlib.Core.Bool.{false};
+ghost use Prim.Native.Nat.{_*_, _≤_, _<_, pred};
+ghost use mathlib.Core.List.{_++_};
+ghost use lib.ListN.{length, drop};
+ghost use Rattle.basics.specs.Lists.{tabulate};
+ghost use Rattle.play.specs.Limits.{beliefLimit, sideLimit, pairLimit};
+ghost use Rattle.basics.specs.Bounded.{firstThat};
+ghost use Rattle.tables.specs.PositionMemory.{works, firstRank, Positions, Ranked, NoneAt, noRank};
+use crate::sizes::NO_RANK;
+use crate::sizes::PAIR_LIMIT;
+
+// The smallest choice after which every observation leads to a rank below r; `choices` if there is none.
+fn smallest_choice(
+    moves: &[u8],
+    ranks: &[u16],
+    choices: usize,
+    observations: usize,
+    r: u16,
+    k: usize,
+) -> usize
+    requires { ⌜ length (now moves) ≡ beliefLimit * pairLimit ⌝ }
+    requires { ⌜ length (now ranks) ≡ beliefLimit ⌝ }
+    requires { ⌜ choices ≤ sideLimit ⌝ }
+    requires { ⌜ observations ≤ sideLimit ⌝ }
+    requires { ⌜ k < beliefLimit ⌝ }
+    ensures { λ c. ⌜ c ≡ firstThat (works (now (moves .entry)) (now (ranks .entry)) choices observations r k) choices ⌝ }
+{
+    let from = k * PAIR_LIMIT;
+    'choices: for c in 0..choices {
+        for s in 0..observations {
+            if ranks[moves[from + s * choices + c] as usize] >= r {
+                continue 'choices;
+            }
+        }
+        return c;
+    }
+    choices
+}
+
+// Gives rank 0 to the final positions, and no rank to the others.
+fn rank_finals(finals: &[u8], n: usize, ranks: &mut [u16])
+    requires { ⌜ n ≤ beliefLimit ⌝ }
+    requires { ⌜ length (now finals) ≡ beliefLimit ⌝ }
+    requires { ⌜ length (now ranks) ≡ beliefLimit ⌝ }
+    ensures { λ _. ⌜ now (ranks .exit) ≡ tabulate n (firstRank (now (finals .entry))) ++ drop n (now (ranks .entry)) ⌝ }
+{
+    let mut k = 0;
+    while k < n {
+        if finals[k] == 1 {
+            ranks[k] = 0;
+        } else {
+            ranks[k] = NO_RANK;
+        }
+        k += 1;
+    }
+}
+
+// Gives rank r to every position that has a choice which leads below r; answers whether there was one.
+fn rank_round(
+    moves: &[u8],
+    finals: &[u8],
+    n: usize,
+    choices: usize,
+    observations: usize,
+    r: u16,
+    ranks: &mut [u16],
+    picks: &mut [u8],
+) -> bool
+    requires { ⌜ Positions n choices observations (now moves) (now finals) ⌝ }
+    requires { ⌜ 0 < r ⌝ }
+    requires { ⌜ r < noRank ⌝ }
+    requires { ⌜ length (now ranks) ≡ beliefLimit ⌝ }
+    requires { ⌜ length (now picks) ≡ beliefLimit ⌝ }
+    requires { ⌜ Ranked n choices observations (pred r) (now moves) (now finals) (now ranks) (now picks) ⌝ }
+    ensures { λ _. ⌜ Ranked n choices observations r (now (moves .entry)) (now (finals .entry)) (now (ranks .exit)) (now (picks .exit)) ⌝ }
+    ensures { λ more. ⌜ (more ≡ false → NoneAt n choices observations r (now (moves .entry)) (now (finals .entry))) ⌝ }
+{
+    let mut more = false;
+    let mut k = 0;
+    while k < n {
+        if ranks[k] == NO_RANK {
+            let c = smallest_choice(moves, ranks, choices, observations, r, k);
+            if c < choices {
+                ranks[k] = r;
+                picks[k] = c as u8;
+                more = true;
+            }
+        }
+        k += 1;
+    }
+    more
+}
+
+// The ranks of all n positions, and the choices that they take.
+pub(crate) fn rank_all(
+    moves: &[u8],
+    finals: &[u8],
+    n: usize,
+    choices: usize,
+    observations: usize,
+    ranks: &mut [u16],
+    picks: &mut [u8],
+)
+    requires { ⌜ Positions n choices observations (now moves) (now finals) ⌝ }
+    requires { ⌜ length (now ranks) ≡ beliefLimit ⌝ }
+    requires { ⌜ length (now picks) ≡ beliefLimit ⌝ }
+    ensures { λ _. ⌜ Ranked n choices observations (pred n) (now (moves .entry)) (now (finals .entry)) (now (ranks .exit)) (now (picks .exit)) ⌝ }
+{
+    rank_finals(finals, n, ranks);
+    let mut r: u16 = 1;
+    while (r as usize) < n {
+        if !rank_round(moves, finals, n, choices, observations, r, ranks, picks) {
+            return;
+        }
+        r += 1;
+    }
+}

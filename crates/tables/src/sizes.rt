@@ -1,0 +1,21 @@
+// The sizes of document 01 that concern tables, and those of the memory that positions are kept in.
+
+// The most beliefs.
+pub const BELIEF_LIMIT: usize = 256;
+
+// The most choices, and the most observations: those of four signals.
+pub const SIDE_LIMIT: usize = 16;
+
+// The most pairs of a choice and an observation.
+pub const PAIR_LIMIT: usize = SIDE_LIMIT * SIDE_LIMIT;
+
+// Cells of a row, and the first cell of one where the table stops.
+pub const ROW: usize = SIDE_LIMIT + 1;
+
+pub const STOP: u16 = 65535;
+
+// A number that is no rank.
+pub(crate) const NO_RANK: u16 = 65535;
+
+// The least cells of a table.
+pub const TABLE_SIZE: usize = BELIEF_LIMIT * ROW;
