@@ -56,7 +56,8 @@ bit-zero k = rw zero-div
 
 bit-cons-zero : (b : Bool) (bs : List Bool) → bit (fromBits (b ∷ bs)) 0 ≡ b
 unfolding fromBits
-bit-cons-zero b bs = bit-low (fromBits bs * 2 + digit b) ∙ ap (λ x. eqb x 1) (mul-add-mod-self-right (fromBits bs) 2 (digit b) ∙ mod-eq-of-lt (digit-lt b)) ∙ digit-is b
+bit-cons-zero b bs = bit-low (fromBits bs * 2 + digit b) ∙ ap (λ x. eqb x 1)
+    (mul-add-mod-self-right (fromBits bs) 2 (digit b) ∙ mod-eq-of-lt (digit-lt b)) ∙ digit-is b
 
 bit-cons-suc : (b : Bool) (bs : List Bool) (k : ℕ) → bit (fromBits (b ∷ bs)) (suc k) ≡ bit (fromBits bs) k
 unfolding fromBits

@@ -109,7 +109,8 @@ module _ (p : ℕ → Bool) where
   first-least zero i h = absurd (omega arith)
   first-least (suc n) i h = at (first-least n i) (ltb (firstThat p n) n) refl (p n) refl h
     where
-      at : (i < firstThat p n → p i ≡ false) → (b : Bool) → ltb (firstThat p n) n ≡ b → (c : Bool) → p n ≡ c → i < cond b (firstThat p n) (cond c n (suc n)) → p i ≡ false
+      at : (i < firstThat p n → p i ≡ false) → (b : Bool) → ltb (firstThat p n) n ≡ b → (c : Bool) → p n ≡ c → i < cond b (firstThat p n)
+          (cond c n (suc n)) → p i ≡ false
       at ih true e c q h = ih h
       at ih false e true q h = ih (omega (arith, ltb-false (firstThat p n) n e, h))
       at ih false e false q h = last (eq-or-lt-of-le (le-of-suc-le-suc h))

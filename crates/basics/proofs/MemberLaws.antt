@@ -41,7 +41,8 @@ in-below n i = (λ m. let r = in-tabulate n (λ k. k) i .0 m in subst (λ k. k <
 module _ {A : Type 0} where
   pub distinct-snoc : {xs : List A} (x : A) → Distinct xs → ¬ (x ∈ xs) → Distinct (xs ++ (x ∷ []))
   distinct-snoc x distinct-nil n = distinct-cons (λ m. List·Memᴰ·not-nil m) distinct-nil
-  distinct-snoc x (distinct-cons {x = y} {xs = ys} fresh d) n = distinct-cons (λ m. new (List·Memᴰ·append-cases ys m)) (distinct-snoc x d (λ m. n (List·Memᴰ·tail m)))
+  distinct-snoc x (distinct-cons {x = y} {xs = ys} fresh d) n = distinct-cons (λ m. new (List·Memᴰ·append-cases ys m))
+      (distinct-snoc x d (λ m. n (List·Memᴰ·tail m)))
     where
       new : (y ∈ ys) ⊎ (y ∈ x ∷ []) → ⊥
       new (inl m) = fresh m

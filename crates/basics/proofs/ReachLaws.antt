@@ -70,7 +70,8 @@ module _ {A : Type 0} (same : A → A → Bool) (same-says : (x y : A) → Says 
       record { tail = []; extends = sym (append-nil xs); has = λ y m. absurd (List·Memᴰ·not-nil m); from = λ z m. inl m; distinct = λ d. d }
   added-all (y ∷ ys) xs = both (added-new xs y) (added-all ys (addNew same xs y))
     where
-      both : Added xs (y ∷ []) (addNew same xs y) → Added (addNew same xs y) ys (addAll same (addNew same xs y) ys) → Added xs (y ∷ ys) (addAll same (addNew same xs y) ys)
+      both : Added xs (y ∷ []) (addNew same xs y) → Added (addNew same xs y) ys (addAll same (addNew same xs y) ys) → Added xs (y ∷ ys)
+          (addAll same (addNew same xs y) ys)
       both p q =
           record {
             tail = p .tail ++ q .tail;

@@ -13,7 +13,8 @@ use native.Mathlib.Numerals.{add-one}
 -- entries stored behind others are stored with them
 pub sets-append {ℓ} : {A : Type ℓ} (l : List A) (i : ℕ) (a b : List A) → sets l i (a ++ b) ≡ sets (sets l i a) (i + length a) b
 sets-append l i [] b = ap (λ k. sets l k b) (sym (add-zero i))
-sets-append l i (x ∷ a) b = sets-append (set l i x) (suc i) a b ∙ ap (λ k. sets (sets (set l i x) (suc i) a) k b) (suc-add i (length a) ∙ sym (add-suc i (length a)))
+sets-append l i (x ∷ a) b = sets-append (set l i x) (suc i) a b ∙ ap (λ k. sets (sets (set l i x) (suc i) a) k b)
+    (suc-add i (length a) ∙ sym (add-suc i (length a)))
 
 module _ {A : Type 0} where
   -- one more store at the end
@@ -28,7 +29,8 @@ module _ {A : Type 0} where
       ∙ getD-set-other l i n a d (λ e. f 0 (omega arith) (omega arith))
 
   -- and what is written stands there
-  pub getD-sets-same : (l : List A) (i : ℕ) (vs : List A) (k : ℕ) (d : A) → k < length vs → i + length vs ≤ length l → getD (sets l i vs) (i + k) d ≡ getD vs k d
+  pub getD-sets-same : (l : List A) (i : ℕ) (vs : List A) (k : ℕ) (d : A) → k < length vs → i + length vs ≤ length l → getD (sets l i vs) (i + k) d ≡
+      getD vs k d
   getD-sets-same l i [] k d h s = absurd (omega arith)
   getD-sets-same l i (a ∷ vs) zero d h s =
       let p : i < length l = omega arith in

@@ -53,7 +53,8 @@ module _ {A : Type 0} (g : A → List ℕ) where
   flat-suc : (n : ℕ) (f : ℕ → A) → flatMap g (tabulate (suc n) f) ≡ flatMap g (tabulate n f) ++ g (f n)
   unfolding flatMap
   flat-suc zero f = append-nil (g (f 0))
-  flat-suc (suc n) f = ap (λ t. g (f 0) ++ t) (flat-suc n (λ k. f (suc k))) ∙ sym (append-assoc (g (f 0)) (flatMap g (tabulate n (λ k. f (suc k)))) (g (f (suc n))))
+  flat-suc (suc n) f = ap (λ t. g (f 0) ++ t) (flat-suc n (λ k. f (suc k))) ∙ sym
+      (append-assoc (g (f 0)) (flatMap g (tabulate n (λ k. f (suc k)))) (g (f (suc n))))
 
   flat-more : (n : ℕ) (f : ℕ → A) → flatMap g (tabulate (n + 1) f) ≡ flatMap g (tabulate n f) ++ g (f n)
   flat-more n f = ap (λ k. flatMap g (tabulate k f)) (add-one n) ∙ flat-suc n f

@@ -9,6 +9,7 @@ pub use bytes::is_lower;
 pub use bytes::past;
 pub use bytes::same;
 pub use memory::clear;
+pub use memory::clear_words;
 pub use text::put_byte;
 pub use text::put_bytes;
 pub use text::put_decimal;

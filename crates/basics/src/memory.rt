@@ -12,3 +12,14 @@ pub fn clear(work: &mut [u8])
         i += 1;
     }
 }
+
+// Sets every number to 0.
+pub fn clear_words(words: &mut [u32])
+    ensures { λ _. ⌜ now (words .exit) ≡ replicate (length (now (words .entry))) 0 ⌝ }
+{
+    let mut n = 0;
+    while n < words.len() {
+        words[n] = 0;
+        n += 1;
+    }
+}

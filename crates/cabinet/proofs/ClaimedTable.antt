@@ -46,7 +46,8 @@ module _ (source : List ℕ) (n r : ℕ) (table : List ℕ) (claim : Claim sourc
 
   pub passes : isPrintable table n r (p .signals .observed) ≡ true
   passes =
-      printable (gameOf p .choices) (p .signals .observed) n table (side-le (p .signals .outputs) (few .outputs)) (few .observed) some (solves .within) (solves .laid)
+      printable (gameOf p .choices) (p .signals .observed) n table (side-le (p .signals .outputs) (few .outputs)) (few .observed) some
+      (solves .within) (solves .laid)
       r (solves .below)
 
   pub printing : (room : ℕ) → textSize ≤ room

@@ -88,7 +88,8 @@ module _ (t : List ℕ) (rows observed : ℕ) (p : Position) where
     unfolding stepOf
     step-astray w n q = rw (w .test, ne-eqb (cell t (p .row) 0) (p .choice) (λ i. n (first-cell t (p .row) ∙ i))) q
 
-    pub step-stopped : Stands t rows observed (p .row) → getD t (p .row * rowSize) 0 ≡ p .choice → getD t (p .row * rowSize) 0 ≡ stopCell → m ≡ refusedAt p Stopped
+    pub step-stopped : Stands t rows observed (p .row) → getD t (p .row * rowSize) 0 ≡ p .choice → getD t (p .row * rowSize) 0 ≡ stopCell → m ≡
+        refusedAt p Stopped
         → m ≡ stepOf t rows observed observation p
     unfolding stepOf
     step-stopped w c s q = rw (w .test, reads c, stops t (p .row) s) q

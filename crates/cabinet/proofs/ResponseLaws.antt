@@ -27,6 +27,7 @@ use Rattle.play.specs.Answer.{Solves}
 use Rattle.game.specs.Solution.{gameOf}
 use Rattle.game.specs.Claim.{isShort, solvedFrom, solvedBy, cellsFrom, tableAfter, workAfter, Claim}
 use Rattle.game.proofs.ClaimLaws.{cells-count}
+use Rattle.rules.proofs.ReadingLaws.{not-refused, same-sizes}
 use Rattle.cabinet.specs.declared.printing.Printed.{Printed}
 use Rattle.cabinet.specs.declared.printing.Printed.the-variants.{Text, Refused}
 use Rattle.printer.specs.Limits.{textSize}
@@ -36,21 +37,15 @@ use Rattle.cabinet.specs.Print.{printedBy, textAfter}
 use Rattle.cabinet.specs.Response.{observedIn, response, isTight, respondedBy, responseAfter, respondedTable, respondedWork}
 use Rattle.cabinet.proofs.ClaimedTable.{passes}
 
-not-both : {C : Type 0} (x : Refusal) (s : Sizes) → reading.Accepted s ≡ reading.Refused x → C
-not-both x s e = let z : _≡_ {A = ℕ} 0 1 = cc in absurd (omega arith)
-
-same-sizes : (s u : Sizes) → reading.Accepted s ≡ reading.Accepted u → s ≡ u
-same-sizes s u e = cc
-
 -- the observed signals of a reading are those of the problem
 pub observed-accepted : (o : Outcome) (r : Reading) (s : Sizes) → r ≡ readingOf o → r ≡ reading.Accepted s → s .observed ≡ observedIn o
 unfolding observedIn
 observed-accepted (accepted p) r s e h = ap (λ u. u .observed) (same-sizes s _ (sym h ∙ e))
-observed-accepted (refused x) r s e h = not-both x s (sym h ∙ e)
+observed-accepted (refused x) r s e h = not-refused x s (sym e ∙ h)
 
 pub observed-refused : (o : Outcome) (r : Reading) (x : Refusal) → r ≡ readingOf o → r ≡ reading.Refused x → 0 ≡ observedIn o
 unfolding observedIn
-observed-refused (accepted p) r x e h = not-both x _ (sym e ∙ h)
+observed-refused (accepted p) r x e h = not-refused x _ (sym h ∙ e)
 observed-refused (refused y) r x e h = refl
 
 -- the whole call: its answer, and what it leaves in text, table and work memory
@@ -114,7 +109,8 @@ module _ (source work table text : List ℕ) (e : isTight (length work) (length 
   responded r text′ p q = rw (e, long) (p, q, rows, cleared)
 
   -- the text of a refusal
-  pub refusal-right : (x : Refusal) → s ≡ solved.Refused x → (r : Printed) (text′ : List ℕ) → r ≡ Text (length (refusalText x)) → text′ ≡ written (refusalText x) text
+  pub refusal-right : (x : Refusal) → s ≡ solved.Refused x → (r : Printed) (text′ : List ℕ) → r ≡ Text (length (refusalText x)) → text′ ≡ written
+      (refusalText x) text
       → Responded source work table text r text′ table′ work′
   refusal-right x h r text′ p q =
       let is : response source ≡ refusalText x = response-refused source x (sym is-solved ∙ h) in

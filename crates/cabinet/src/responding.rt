@@ -32,8 +32,10 @@ fn observed_in(source: &[u8]) -> usize
 // bytes change, at the front; the table and the work memory are left as `solve` leaves them.
 pub fn respond(source: &[u8], work: &mut [u8], table: &mut [u16], text: &mut [u8]) -> Printed
     ensures answer { λ r. ⌜ r ≡ respondedBy (length (now (work .entry))) (length (now (table .entry))) (length (now (text .entry))) (now (source .entry)) ⌝ }
-    ensures bytes { λ _. ⌜ now (text .exit) ≡ responseAfter (length (now (work .entry))) (length (now (table .entry))) (now (source .entry)) (now (text .entry)) ⌝ }
-    ensures rows { λ _. ⌜ now (table .exit) ≡ respondedTable (length (now (work .entry))) (length (now (text .entry))) (now (source .entry)) (now (table .entry)) ⌝ }
+    ensures bytes { λ _. ⌜ now (text .exit) ≡ responseAfter (length (now (work .entry))) (length (now (table .entry))) (now (source .entry))
+        (now (text .entry)) ⌝ }
+    ensures rows { λ _. ⌜ now (table .exit) ≡ respondedTable (length (now (work .entry))) (length (now (text .entry))) (now (source .entry))
+        (now (table .entry)) ⌝ }
     ensures cleared { λ _. ⌜ now (work .exit) ≡ respondedWork (length (now (table .entry))) (length (now (text .entry))) (now (work .entry)) ⌝ }
 {
     if (work.len() < WORK_SIZE) | (table.len() < TABLE_SIZE) | (text.len() < TEXT_SIZE) {

@@ -3,7 +3,7 @@ use Prim.Native.String.{String}
 use mathlib.Core.Path.{_≡_, refl}
 use mathlib.Core.List.{List, [], _∷_, map}
 use Rattle.basics.specs.Bytes.{lower, wordByte, run, past, bytesOf, sameBytes}
-use Rattle.grammar.specs.Lex.{wordKind, pick, tokenFrom, tokenAt, more, tokensF, tokens}
+use Rattle.grammar.specs.Lex.{wordKind, tokenFrom, tokenAt, more, tokensF, tokens}
 use Rattle.grammar.specs.Grammar.{isOp, leftward, isPre, isLeaf}
 use Rattle.grammar.specs.Parse.{bind, on, close, parseF, parse, parseFormula}
 use Rattle.grammar.specs.Names.{indexOf, leafValue}
@@ -35,5 +35,5 @@ cases =
     ∷ []
 
 pub judged-right : map (λ c. judgedBy (readProblem (bytesOf (c .source))) (c .trace)) cases ≡ map (λ c. c .verdict) cases
-unfolding cases lower wordByte run past sameBytes wordKind pick tokenFrom tokenAt more tokensF tokens isOp leftward isPre isLeaf bind on close parseF parse parseFormula indexOf leafValue size operators holds opOf lines tabPlace wordOf isName isText formulaOf allDeclared declareEffect stateEffect effectOf readLines readProblem isLetter badStep verdictOn
+unfolding cases lower wordByte run past sameBytes wordKind tokenFrom tokenAt more tokensF tokens isOp leftward isPre isLeaf bind on close parseF parse parseFormula indexOf leafValue size operators holds opOf lines tabPlace wordOf isName isText formulaOf allDeclared declareEffect stateEffect effectOf readLines readProblem isLetter badStep verdictOn
 judged-right = refl

@@ -3,7 +3,7 @@ use Prim.Native.String.{String}
 use mathlib.Core.Path.{_≡_, refl}
 use mathlib.Core.List.{List, [], _∷_, _++_, map, flatMap}
 use Rattle.basics.specs.Bytes.{lower, wordByte, run, past, bytesOf, sameBytes}
-use Rattle.grammar.specs.Lex.{wordKind, pick, tokenFrom, tokenAt, more, tokensF, tokens}
+use Rattle.grammar.specs.Lex.{wordKind, tokenFrom, tokenAt, more, tokensF, tokens}
 use Rattle.grammar.specs.Grammar.{isOp, leftward, isPre, isLeaf}
 use Rattle.grammar.specs.Parse.{bind, on, close, parseF, parse, parseFormula}
 use Rattle.grammar.specs.Names.{indexOf, leafValue}
@@ -52,7 +52,7 @@ cases =
 
 -- `Printed` unfolds it too
 unfoldable pub answers-right : map (λ c. solvedFrom (readProblem (bytesOf (c .source)))) cases ≡ map (λ c. c .answer) cases
-unfolding cases lower wordByte run past sameBytes wordKind pick tokenFrom tokenAt more tokensF tokens isOp leftward isPre isLeaf bind on close parseF
+unfolding cases lower wordByte run past sameBytes wordKind tokenFrom tokenAt more tokensF tokens isOp leftward isPre isLeaf bind on close parseF
     parse parseFormula indexOf leafValue size operators opOf lines tabPlace wordOf isName isText formulaOf allDeclared declareEffect stateEffect
     effectOf readLines readProblem temporals partsFrom partsOf partAt bottomUp resultAt fromBits firstThat member setOf start accepts next operatorsOf
     numberOf spotsTo spots valueAt owedAt back isIn indexIn addNew addAll explore reachable sameSet nextSets reachableSets lettersOf nextState

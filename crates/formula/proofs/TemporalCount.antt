@@ -15,7 +15,8 @@ use Rattle.formula.specs.declared.parts.Part.{Part}
 pub temporals-append : (xs ys : List ℕ) → temporals (xs ++ ys) ≡ temporals xs + temporals ys
 unfolding temporals
 temporals-append [] ys = sym (zero-add (temporals ys))
-temporals-append (x ∷ xs) ys = ap (λ n. digit (isTemporal x) + n) (temporals-append xs ys) ∙ sym (add-assoc (digit (isTemporal x)) (temporals xs) (temporals ys))
+temporals-append (x ∷ xs) ys = ap (λ n. digit (isTemporal x) + n) (temporals-append xs ys) ∙ sym
+    (add-assoc (digit (isTemporal x)) (temporals xs) (temporals ys))
 
 temporals-both : (ps qs : List Part) → temporals (kindsOf (ps ++ qs)) ≡ temporals (kindsOf ps) + temporals (kindsOf qs)
 temporals-both ps qs = rw map-append (temporals-append (kindsOf ps) (kindsOf qs))

@@ -3,7 +3,7 @@
 -- `partsOf` writes a formula's parts, and `formulaAt` reads the formula of a part back.
 -- Assumes nothing.
 use Prim.Native.Nat.{ℕ, zero, suc, _+_, _-_, _≤_, _<_, pred}
-use mathlib.Core.Bool.{Bool, true, false, _||_}
+use mathlib.Core.Bool.{Bool, true, false, _||_, cond}
 use mathlib.Core.List.{List, [], _∷_, _++_, map}
 use lib.Dec.{eqb}
 use lib.ListN.{length, getD}
@@ -31,16 +31,12 @@ byteOf op.Always = 71
 byteOf op.Until = 85
 byteOf op.Release = 82
 
-abbrev pub pickOp : Bool → Op → Op → Op
-pickOp true a b = a
-pickOp false a b = b
-
 -- the operator that a byte stands for; a byte that stands for none counts as `False`
 unfoldable pub opOf : ℕ → Op
 opOf k =
-    pickOp (eqb k 97) op.Signal (pickOp (eqb k 116) op.True (pickOp (eqb k 33) op.Not (pickOp (eqb k 38) op.And (pickOp (eqb k 124) op.Or
-    (pickOp (eqb k 45) op.Implies (pickOp (eqb k 88) op.Next (pickOp (eqb k 78) op.WeakNext (pickOp (eqb k 70) op.Eventually
-    (pickOp (eqb k 71) op.Always (pickOp (eqb k 85) op.Until (pickOp (eqb k 82) op.Release op.False)))))))))))
+    cond (eqb k 97) op.Signal (cond (eqb k 116) op.True (cond (eqb k 33) op.Not (cond (eqb k 38) op.And (cond (eqb k 124) op.Or
+    (cond (eqb k 45) op.Implies (cond (eqb k 88) op.Next (cond (eqb k 78) op.WeakNext (cond (eqb k 70) op.Eventually
+    (cond (eqb k 71) op.Always (cond (eqb k 85) op.Until (cond (eqb k 82) op.Release op.False)))))))))))
 
 -- whether a byte stands for a temporal operator
 abbrev pub isTemporal : ℕ → Bool

@@ -8,6 +8,5 @@ pub use formula::Op;
 pub use formula::bit_of;
 pub use formula::is_temporal;
 pub use parts::Part;
-pub use parts::clear_codes;
 pub use parts::is_temporal_at;
 pub use parts::part_at;

@@ -41,14 +41,3 @@ pub fn is_temporal_at(parts: &[u32], i: usize) -> bool
 {
     is_temporal((parts[i] % 256) as u8)
 }
-
-// Sets every number to 0.
-pub fn clear_codes(parts: &mut [u32])
-    ensures { λ _. ⌜ now (parts .exit) ≡ replicate (length (now (parts .entry))) 0 ⌝ }
-{
-    let mut i = 0;
-    while i < parts.len() {
-        parts[i] = 0;
-        i += 1;
-    }
-}

@@ -70,7 +70,8 @@ module _ (ps : List Part) (c : Counts) (few : c .outputs + c .observed + c .hidd
   unfolding lettersOf
   letter-in a h = in-tabulate (letterCount c) (letterOf c) (letterOf c a) .1 (a, h, refl)
 
-  module _ (n : ℕ) (successors : List ℕ) (left : successors ≡ padded n (successorsOf (operatorsOf ps) (back ps) (lettersOf c) (statesOf ps (lettersOf c) stateLimit))) where
+  module _ (n : ℕ) (successors : List ℕ) (left : successors ≡ padded n
+      (successorsOf (operatorsOf ps) (back ps) (lettersOf c) (statesOf ps (lettersOf c) stateLimit))) where
     -- letter number a leads from state s to the state with the number in the table
     entry-is : (s a : ℕ) → s < length xs → a < letterCount c → successorIn successors s a ≡ indexIn sameSet (nextState ps (getD xs s []) (letterOf c a)) xs
     unfolding nextState

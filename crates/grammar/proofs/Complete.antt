@@ -12,20 +12,13 @@ use Rattle.grammar.specs.Lex.{tokenAt, tokens}
 use Rattle.grammar.specs.Tree.{Tree, leaf, pre, bin}
 use Rattle.grammar.specs.Grammar.{Grammar, Derives, tighter, to-left, to-right, prefixed, plain, grouped}
 use Rattle.grammar.specs.Parse.{Res, some, close, parse, grow}
+use Rattle.basics.proofs.Booleans.{or-left, or-right}
 use Rattle.grammar.proofs.ParseCases.{false-true, on-true, bind-some}
 use Rattle.grammar.proofs.LexLaws.{ends}
 use Rattle.grammar.proofs.ReadsInside.{Laws}
 use Rattle.grammar.proofs.GrammarLaws.{Exact, goesOn}
 use Rattle.grammar.proofs.ParseLaws.{parse-bin, parse-atom, parse-pre, grow-stop, grow-left, grow-right, atom-leaf, atom-group}
 use Rattle.grammar.proofs.Spelt.{first, first-token, head-is, tail-is}
-
-or-left : (a b : Bool) → (a || b) ≡ false → a ≡ false
-or-left true b e = e
-or-left false b e = refl
-
-or-right : (a b : Bool) → (a || b) ≡ false → b ≡ false
-or-right true b e = false-true (sym e)
-or-right false b e = e
 
 module _ {G : Grammar} (L : Laws G) (X : Exact G) where
   module _ (text : List ℕ) where

@@ -1,39 +1,39 @@
 -- Where a token ends. Assumes nothing.
 use Rattle.basics.proofs.BytesLaws.{past-in, past-more}
 use mathlib.Core.Path.{_≡_, refl, sym, _∙_}
-use mathlib.Core.Bool.{Bool, true, false, _&&_}
+use mathlib.Core.Bool.{Bool, true, false, _&&_, cond}
 use mathlib.Core.List.{List}
 use Prim.Native.Nat.{ℕ, _+_, _≤_, _<_}
 use native.Mathlib.Omega.{arith}
 use borrow.Author.Tests.{leb-false, leb-true, eq-eqb, ne-eqb, le-leb, lt-leb, lt-ltb, ltb-true}
 use lib.ListN.{length, getD}
-use lib.Dec.{eqb, ltb}
+use lib.Dec.{eqb, ltb, leb}
 use Rattle.grammar.specs.declared.lex.Token.{Token}
 use Rattle.basics.specs.Bytes.{between, isSpace, wordByte, lower}
-use Rattle.grammar.specs.Lex.{endKind, noKind, impliesKind, skip, wordEnd, pick, tokenFrom, tokenAt, wordKind}
+use Rattle.grammar.specs.Lex.{endKind, noKind, impliesKind, skip, wordEnd, tokenFrom, tokenAt, wordKind}
 use Rattle.grammar.proofs.ParseCases.{false-true}
 
 -- the cases of a token, by the tests that a reader makes
 module _ (text : List ℕ) (at i : ℕ) (si : i ≡ skip text at) where
   pub tok-end : length text ≤ i → record { kind = endKind; from = i; next = i } ≡ tokenAt text at
-  unfolding tokenAt tokenFrom pick
+  unfolding tokenAt tokenFrom
   tok-end h = rw (← si, le-leb _ _ h)
 
   module _ (h : i < length text) where
     pub tok-word : (j k : ℕ) → lower (getD text i 0) ≡ true → j ≡ wordEnd text i → k ≡ wordKind (between text i j)
         → record { kind = k; from = i; next = j } ≡ tokenAt text at
-    unfolding tokenAt tokenFrom pick
+    unfolding tokenAt tokenFrom
     tok-word j k l e w = rw (← si, lt-leb _ _ h, l, ← e, w)
 
     module _ (l : lower (getD text i 0) ≡ false) where
       pub tok-arrow : getD text i 0 ≡ 45 → i + 1 < length text → getD text (i + 1) 0 ≡ 62
           → record { kind = impliesKind; from = i; next = i + 2 } ≡ tokenAt text at
-      unfolding tokenAt tokenFrom pick
+      unfolding tokenAt tokenFrom
       tok-arrow e b g = rw (← si, lt-leb _ _ h, l, eq-eqb _ _ e, lt-ltb _ _ b, eq-eqb _ _ g)
 
       pub tok-dash : getD text i 0 ≡ 45 → (i + 1 < length text → getD text (i + 1) 0 ≡ 62 → ⊥)
           → record { kind = noKind; from = i; next = i + 1 } ≡ tokenAt text at
-      unfolding tokenAt tokenFrom pick
+      unfolding tokenAt tokenFrom
       tok-dash e b = rw (← si, lt-leb _ _ h, l, eq-eqb _ _ e, dash)
         where
           dash : (ltb (i + 1) (length text) && eqb (getD text (i + 1) 0) 62) ≡ false
@@ -45,17 +45,16 @@ module _ (text : List ℕ) (at i : ℕ) (si : i ≡ skip text at) where
 
       module _ (n : getD text i 0 ≡ 45 → ⊥) where
         pub tok-none : getD text i 0 ≡ 0 → record { kind = noKind; from = i; next = i + 1 } ≡ tokenAt text at
-        unfolding tokenAt tokenFrom pick
+        unfolding tokenAt tokenFrom
         tok-none e = rw (← si, lt-leb _ _ h, l, ne-eqb _ _ n, eq-eqb _ _ e)
 
         pub tok-sign : (getD text i 0 ≡ 0 → ⊥) → record { kind = getD text i 0; from = i; next = i + 1 } ≡ tokenAt text at
-        unfolding tokenAt tokenFrom pick
+        unfolding tokenAt tokenFrom
         tok-sign e = rw (← si, lt-leb _ _ h, l, ne-eqb _ _ n, ne-eqb _ _ e)
 
-pick-elim : (P : Token → Type 0) (b : Bool) (x y : Token) → (b ≡ true → P x) → (b ≡ false → P y) → P (pick b x y)
-unfolding pick
-pick-elim P true x y f g = f refl
-pick-elim P false x y f g = g refl
+cond-elim : (P : Token → Type 0) (b : Bool) (x y : Token) → (b ≡ true → P x) → (b ≡ false → P y) → P (cond b x y)
+cond-elim P true x y f g = f refl
+cond-elim P false x y f g = g refl
 
 -- what holds of each kind of token holds of the one at i
 from-cases : (P : Token → Type 0) (text : List ℕ) (i : ℕ) → (length text ≤ i → P (record { kind = endKind; from = i; next = i }))
@@ -64,9 +63,12 @@ from-cases : (P : Token → Type 0) (text : List ℕ) (i : ℕ) → (length text
     → (i < length text → (k : ℕ) → P (record { kind = k; from = i; next = i + 1 })) → P (tokenFrom text i)
 unfolding tokenFrom
 from-cases P text i e w a s =
-    pick-elim P _ _ _ (λ q. e (leb-true _ _ q)) (λ q. pick-elim P _ _ _ (λ l. w (leb-false _ _ q) l _)
-    (λ _. pick-elim P _ _ _ (λ _. pick-elim P _ _ _ (λ r. a (both _ _ _ r)) (λ _. s (leb-false _ _ q) 1))
-    (λ _. pick-elim P _ _ _ (λ _. s (leb-false _ _ q) 1) (λ _. s (leb-false _ _ q) _))))
+    let b = getD text i 0 in
+    cond-elim P (leb (length text) i) _ _ (λ q. e (leb-true _ _ q)) (λ q.
+    cond-elim P (lower b) _ _ (λ l. w (leb-false _ _ q) l _) (λ _.
+    cond-elim P (eqb b 45) _ _ (λ _.
+    cond-elim P (ltb (i + 1) (length text) && eqb (getD text (i + 1) 0) 62) _ _ (λ r. a (both _ _ _ r)) (λ _. s (leb-false _ _ q) noKind)) (λ _.
+    cond-elim P (eqb b 0) _ _ (λ _. s (leb-false _ _ q) noKind) (λ _. s (leb-false _ _ q) b))))
   where
     both : (m n : ℕ) (b : Bool) → (ltb m n && b) ≡ true → m < n
     both m n b = go (ltb m n) refl

@@ -46,19 +46,15 @@ wordEnd = past wordByte
 unfoldable pub wordKind : List ℕ → ℕ
 wordKind w = cond (sameBytes w (bytesOf "true")) trueKind (cond (sameBytes w (bytesOf "false")) falseKind nameKind)
 
-unfoldable pub pick : Bool → Token → Token → Token
-pick true x y = x
-pick false x y = y
-
 -- the token that starts at place i; a `-` (45) with no `>` (62) behind it and the byte 0 are none
 unfoldable pub tokenFrom : List ℕ → ℕ → Token
 tokenFrom text i =
-    pick (leb (length text) i) (record { kind = endKind; from = i; next = i })
-    (pick (lower (getD text i 0)) (record { kind = wordKind (between text i (wordEnd text i)); from = i; next = wordEnd text i })
-    (pick (eqb (getD text i 0) 45) (pick (ltb (i + 1) (length text) && eqb (getD text (i + 1) 0) 62)
+    cond (leb (length text) i) (record { kind = endKind; from = i; next = i })
+    (cond (lower (getD text i 0)) (record { kind = wordKind (between text i (wordEnd text i)); from = i; next = wordEnd text i })
+    (cond (eqb (getD text i 0) 45) (cond (ltb (i + 1) (length text) && eqb (getD text (i + 1) 0) 62)
     (record { kind = impliesKind; from = i; next = i + 2 })
     (record { kind = noKind; from = i; next = i + 1 }))
-    (pick (eqb (getD text i 0) 0) (record { kind = noKind; from = i; next = i + 1 })
+    (cond (eqb (getD text i 0) 0) (record { kind = noKind; from = i; next = i + 1 })
     (record { kind = getD text i 0; from = i; next = i + 1 }))))
 
 -- the token at or after a position

@@ -32,14 +32,3 @@ pub(crate) fn put_two(cells: &mut [u32], n: usize, k: u8, c: usize)
 {
     put(cells, n, k, TWO_SIDED + ((n - c) % 256) as u32);
 }
-
-// Sets every cell to 0.
-pub(crate) fn clear_cells(cells: &mut [u32])
-    ensures { λ _. ⌜ now (cells .exit) ≡ replicate (length (now (cells .entry))) 0 ⌝ }
-{
-    let mut i = 0;
-    while i < cells.len() {
-        cells[i] = 0;
-        i += 1;
-    }
-}

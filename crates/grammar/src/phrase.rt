@@ -8,7 +8,6 @@ ghost use Rattle.grammar.specs.Parse.{parse, atom, parseFormula};
 ghost use Rattle.grammar.specs.Names.{namesIn, Spans, leafValue};
 ghost use Rattle.grammar.specs.Answer.{answer, Reads, Room, cellsAfter};
 use crate::cells::ONE_SIDED;
-use crate::cells::clear_cells;
 use crate::cells::put;
 use crate::cells::put_leaf;
 use crate::cells::put_two;
@@ -21,6 +20,7 @@ use crate::lex::OPEN;
 use crate::lex::TRUE;
 use crate::lex::token_at;
 use crate::names::leaf_value;
+use basics::clear_words;
 
 // The operators' tokens, beside `->`.
 const UNTIL: u8 = 85;
@@ -205,13 +205,13 @@ pub fn read_formula(source: &[u8], spans: &[usize], text: &[u8], cells: &mut [u3
         (parseFormula (now (text .entry))) (now (cells .entry)) ⌝ }
 {
     let Read::At { next, count } = read_level(4, source, spans, text, 0, 0, cells) else {
-        clear_cells(cells);
+        clear_words(cells);
         return Read::Bad;
     };
     let t = token_at(text, next);
     let k = t.kind;
     if k != END {
-        clear_cells(cells);
+        clear_words(cells);
         return Read::Bad;
     }
     Read::At { next, count }

@@ -1,7 +1,7 @@
 -- What a line that declares a signal or states a formula has passed. Assumes nothing.
 use Prim.Native.Nat.{ℕ}
 use mathlib.Core.Path.{_≡_, refl, subst}
-use mathlib.Core.Bool.{Bool, true, false, not}
+use mathlib.Core.Bool.{Bool, true, false, not, cond}
 use mathlib.Core.List.{List}
 use borrow.Author.Tests.{not-false}
 use Rattle.grammar.specs.Lex.{tokens}
@@ -15,10 +15,10 @@ use Rattle.lines.specs.declared.problem.Word.{Word}
 use Rattle.lines.specs.declared.problem.Word.the-variants.{Declare, Rule, Unknown}
 use Rattle.formula.specs.Formula.{Formula}
 use Rattle.lines.specs.Lines.{hasTab, firstField, secondField, wordOf, isName, isText}
-use Rattle.lines.specs.Effect.{Signals, isDeclared, isFull, formulaOf, allDeclared, isLarge, Effect, declares, states, refuses, pickEffect, declareEffect, readEffect, stateEffect, byWord, effectOf}
+use Rattle.lines.specs.Effect.{Signals, isDeclared, isFull, formulaOf, allDeclared, isLarge, Effect, declares, states, refuses, declareEffect, readEffect, stateEffect, byWord, effectOf}
 
 -- what holds of an effect, by the test that it came through
-pub pick-elim : (P : Effect → Type 0) (b : Bool) (x y : Effect) → (b ≡ true → P x) → (b ≡ false → P y) → P (pickEffect b x y)
+pub pick-elim : (P : Effect → Type 0) (b : Bool) (x y : Effect) → (b ≡ true → P x) → (b ≡ false → P y) → P (cond b x y)
 pick-elim P true x y f g = f refl
 pick-elim P false x y f g = g refl
 

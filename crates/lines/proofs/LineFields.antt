@@ -25,7 +25,8 @@ use Rattle.lines.specs.Memory.{signalsIn, readingAfter, spansAfter, part
 use Rattle.lines.proofs.EffectLaws.{pick-elim}
 
 -- the bytes of a second field, from the source and from its line
-pub field-is : (source : List ℕ) (at end t : ℕ) → end ≤ length source → at + t + 1 ≤ end → between source (at + t + 1) end ≡ drop (t + 1) (between source at end)
+pub field-is : (source : List ℕ) (at end t : ℕ) → end ≤ length source → at + t + 1 ≤ end → between source (at + t + 1) end ≡ drop (t + 1)
+    (between source at end)
 field-is source at end t h k =
     let n : end - at ≡ (t + 1) + (end - (at + t + 1)) = omega arith in
     let m : at + (t + 1) ≡ at + t + 1 = omega arith in
@@ -49,7 +50,8 @@ declare-parts : (line : ℕ) (k : Kind) (name : List ℕ) (g : Signals) (s : Siz
 unfolding declareEffect
 declare-parts line k name g s p =
     pick-elim (λ e. p ≡ partsAfter e s p) (not (isName name)) _ _ (λ _. refl)
-    (λ _. pick-elim (λ e. p ≡ partsAfter e s p) (isDeclared g name) _ _ (λ _. refl) (λ _. pick-elim (λ e. p ≡ partsAfter e s p) (isFull k g) _ _ (λ _. refl) (λ _. refl)))
+    (λ _. pick-elim (λ e. p ≡ partsAfter e s p) (isDeclared g name) _ _ (λ _. refl)
+    (λ _. pick-elim (λ e. p ≡ partsAfter e s p) (isFull k g) _ _ (λ _. refl) (λ _. refl)))
 
 module _ (line : ℕ) (text : List ℕ) (g : Signals) (n m : ℕ) (s : Sizes) (start end : ℕ) (spans : List ℕ) where
   abbrev Same : Effect → Type 0

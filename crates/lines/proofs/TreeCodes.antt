@@ -3,15 +3,15 @@
 use Prim.Native.Nat.{ℕ, suc, _+_, _-_, _*_, _≤_, _<_}
 use native.Mathlib.Omega.{arith}
 use mathlib.Core.Path.{_≡_, refl, sym, subst, ap, ap₂, _∙_}
-use mathlib.Core.Bool.{Bool, true, false, _&&_, _||_}
+use mathlib.Core.Bool.{true, false}
 use mathlib.Core.List.{List, [], _∷_, _++_, append-assoc, map-append}
 use lib.Dec.{eqb}
-use borrow.Author.Tests.{eqb-true}
 use Rattle.grammar.specs.declared.lex.Token.{Token}
 use Rattle.grammar.specs.Tree.{Tree, leaf, pre, bin, cell, oneSided, twoSided, cells}
 use Rattle.grammar.specs.Tree as tree
 use Rattle.grammar.specs.Grammar.{isOp, isPre, isLeaf, Derives, tighter, to-left, to-right, prefixed, plain, grouped, ltlf}
 use Rattle.grammar.proofs.TreeLaws.{length-cells}
+use Rattle.grammar.proofs.GrammarLaws.{leaf-cases, pre-cases, op-cases}
 use Rattle.formula.specs.Formula.{Formula, False, size, operators}
 use Rattle.formula.specs.Parts.{byteOf, opOf, temporals, onePart, unaryParts, binaryParts, partsFrom, build}
 use Rattle.formula.specs.Codes.{codeOf, codesOf}
@@ -38,46 +38,25 @@ record Binary (k : ℕ) : Type 0 where
   sized : (φ ψ : Formula) → size (build (opOf k) 0 φ ψ) ≡ size φ + size ψ + 1
   parts : (φ ψ : Formula) (n : ℕ) → partsFrom (build (opOf k) 0 φ ψ) n ≡ binaryParts (opOf k) φ ψ n (partsFrom φ n) (partsFrom ψ (n + size φ))
 
--- a kind that is one of two tests
-either : {C : Type 0} (b c : Bool) → (b || c) ≡ true → (b ≡ true → C) → (c ≡ true → C) → C
-either true c e f g = f refl
-either false c e f g = g e
-
-first : (b c : Bool) → (b && c) ≡ true → b ≡ true
-first true c e = refl
-first false c e = e
-
-is : (P : ℕ → Type 0) (k m : ℕ) → P m → eqb k m ≡ true → P k
-is P k m h e = subst P (sym (eqb-true k m e)) h
-
 nullary : (k : ℕ) → isLeaf k ≡ true → Nullary k
-unfolding isLeaf opOf size partsFrom
-nullary k o =
-    either _ _ o (λ o₁. either _ _ o₁ (is Nullary k 97 (record { byte = refl; sized = λ b. refl; parts = λ b n z. refl }))
-    (is Nullary k 116 (record { byte = refl; sized = λ b. refl; parts = λ b n z. rw (z refl) })))
-    (is Nullary k 102 (record { byte = refl; sized = λ b. refl; parts = λ b n z. rw (z refl) }))
+unfolding opOf size partsFrom
+nullary =
+    leaf-cases Nullary (record { byte = refl; sized = λ b. refl; parts = λ b n z. refl })
+    (record { byte = refl; sized = λ b. refl; parts = λ b n z. rw (z refl) }) (record { byte = refl; sized = λ b. refl; parts = λ b n z. rw (z refl) })
 
 unary : (k : ℕ) → isPre k ≡ true → Unary k
-unfolding isPre opOf size partsFrom
-unary k o =
-    either _ _ o (λ o₁. either _ _ o₁ (λ o₂. either _ _ o₂ (λ o₃. either _ _ o₃ (is Unary k 33 (record { byte = refl; sized = λ φ. refl; parts = λ φ n. refl }))
-    (is Unary k 88 (record { byte = refl; sized = λ φ. refl; parts = λ φ n. refl })))
-    (is Unary k 78 (record { byte = refl; sized = λ φ. refl; parts = λ φ n. refl })))
-    (is Unary k 70 (record { byte = refl; sized = λ φ. refl; parts = λ φ n. refl })))
-    (is Unary k 71 (record { byte = refl; sized = λ φ. refl; parts = λ φ n. refl }))
+unfolding opOf size partsFrom
+unary =
+    pre-cases Unary (record { byte = refl; sized = λ φ. refl; parts = λ φ n. refl })
+    (record { byte = refl; sized = λ φ. refl; parts = λ φ n. refl }) (record { byte = refl; sized = λ φ. refl; parts = λ φ n. refl })
+    (record { byte = refl; sized = λ φ. refl; parts = λ φ n. refl }) (record { byte = refl; sized = λ φ. refl; parts = λ φ n. refl })
 
 binary : (l k : ℕ) → isOp l k ≡ true → Binary k
-unfolding isOp opOf size partsFrom
-binary l k o =
-    let u = (eqb k 85 || eqb k 82) && eqb l 1 in
-    let a = eqb k 38 && eqb l 2 in
-    let b = eqb k 124 && eqb l 3 in
-    either (u || a || b) (eqb k 45 && eqb l 4) o (λ o₁. either (u || a) b o₁ (λ o₂. either u a o₂
-    (λ o₃. either _ _ (first (eqb k 85 || eqb k 82) (eqb l 1) o₃) (is Binary k 85 (record { byte = refl; sized = λ φ ψ. refl; parts = λ φ ψ n. refl }))
-    (is Binary k 82 (record { byte = refl; sized = λ φ ψ. refl; parts = λ φ ψ n. refl })))
-    (λ o₃. is Binary k 38 (record { byte = refl; sized = λ φ ψ. refl; parts = λ φ ψ n. refl }) (first _ (eqb l 2) o₃)))
-    (λ o₂. is Binary k 124 (record { byte = refl; sized = λ φ ψ. refl; parts = λ φ ψ n. refl }) (first _ (eqb l 3) o₂)))
-    (λ o₁. is Binary k 45 (record { byte = refl; sized = λ φ ψ. refl; parts = λ φ ψ n. refl }) (first _ (eqb l 4) o₁))
+unfolding opOf size partsFrom
+binary =
+    op-cases (λ l k. Binary k) (record { byte = refl; sized = λ φ ψ. refl; parts = λ φ ψ n. refl })
+    (record { byte = refl; sized = λ φ ψ. refl; parts = λ φ ψ n. refl }) (record { byte = refl; sized = λ φ ψ. refl; parts = λ φ ψ n. refl })
+    (record { byte = refl; sized = λ φ ψ. refl; parts = λ φ ψ n. refl }) (record { byte = refl; sized = λ φ ψ. refl; parts = λ φ ψ n. refl })
 
 -- the tokens of a tree are of the kinds that the grammar gives their places
 unfoldable Known : Tree → Type 0
@@ -112,7 +91,8 @@ size-known val (bin t a b) w =
     w .0 .sized (formulaOf val a) (formulaOf val b) ∙ ap₂ (λ m n. m + n + 1) (size-known val a (w .1)) (size-known val b (w .2))
 
 -- the numbers of the parts, from the cells
-codes-known : (val : Token → ℕ) → Values val → (a : Tree) → Known a → tree.size a ≤ 256 → (n : ℕ) → codesFrom n (cells val a) ≡ codesOf (partsFrom (formulaOf val a) n)
+codes-known : (val : Token → ℕ) → Values val → (a : Tree) → Known a → tree.size a ≤ 256 → (n : ℕ) → codesFrom n (cells val a) ≡ codesOf
+    (partsFrom (formulaOf val a) n)
 unfolding Known formulaOf tree.size cells codesFrom
 codes-known val v (leaf t) w h n =
     ap (λ m. m ∷ []) (leaf-code (t .kind) (val t) n (kind-small (w .byte)) (v .small t)

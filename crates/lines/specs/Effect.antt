@@ -2,7 +2,7 @@
 -- order.
 -- Assumes nothing.
 use Prim.Native.Nat.{ℕ, zero, suc, _+_}
-use mathlib.Core.Bool.{Bool, true, false, not, _&&_, _||_}
+use mathlib.Core.Bool.{Bool, true, false, not, _&&_, _||_, cond}
 use mathlib.Core.Option.{none, some}
 use mathlib.Core.List.{List, [], _∷_}
 use lib.Dec.{eqb, ltb}
@@ -97,26 +97,22 @@ pub data Effect : Type 0 where
   states : Formula → Effect
   refuses : Refusal → Effect
 
-abbrev pub pickEffect : Bool → Effect → Effect → Effect
-pickEffect true a b = a
-pickEffect false a b = b
-
 unfoldable pub declareEffect : ℕ → Kind → Name → Signals → Effect
 declareEffect line k name g =
-    pickEffect (not (isName name)) (refuses (BadLine line))
-    (pickEffect (isDeclared g name) (refuses (NameTwice line))
-    (pickEffect (isFull k g) (refuses (TooManySignals line))
+    cond (not (isName name)) (refuses (BadLine line))
+    (cond (isDeclared g name) (refuses (NameTwice line))
+    (cond (isFull k g) (refuses (TooManySignals line))
     (declares k name)))
 
 abbrev pub readEffect : ℕ → List ℕ → Res → Signals → ℕ → ℕ → Effect
 readEffect line text parse.none g n m = refuses (BadFormula line)
 readEffect line text (parse.some a next) g n m =
-    pickEffect (not (allDeclared g text (tokens text 0))) (refuses (UnknownName line))
-    (pickEffect (isLarge n m (formulaOf (leafValue (g .names) text) a)) (refuses (TooManyParts line))
+    cond (not (allDeclared g text (tokens text 0))) (refuses (UnknownName line))
+    (cond (isLarge n m (formulaOf (leafValue (g .names) text) a)) (refuses (TooManyParts line))
     (states (formulaOf (leafValue (g .names) text) a)))
 
 unfoldable pub stateEffect : ℕ → List ℕ → Signals → ℕ → ℕ → Effect
-stateEffect line text g n m = pickEffect (not (isText text)) (refuses (BadLine line)) (readEffect line text (parseFormula text) g n m)
+stateEffect line text g n m = cond (not (isText text)) (refuses (BadLine line)) (readEffect line text (parseFormula text) g n m)
 
 abbrev pub byWord : Word → ℕ → List ℕ → Signals → ℕ → ℕ → Effect
 byWord (Declare k) line second g n m = declareEffect line k second g
@@ -124,6 +120,6 @@ byWord Rule line second g n m = stateEffect line second g n m
 byWord Unknown line second g n m = refuses (BadLine line)
 
 unfoldable pub effectOf : ℕ → List ℕ → Signals → ℕ → ℕ → Effect
-effectOf line bytes g n m = pickEffect (hasTab bytes) (byWord (wordOf (firstField bytes)) line (secondField bytes) g n m) (refuses (BadLine line))
+effectOf line bytes g n m = cond (hasTab bytes) (byWord (wordOf (firstField bytes)) line (secondField bytes) g n m) (refuses (BadLine line))
 
 -- ---- a whole problem

@@ -1,7 +1,7 @@
 -- The lines of a problem's text (a sheet in document 01) and their two fields.
 -- Assumes nothing.
 use Prim.Native.Nat.{ℕ, _+_}
-use mathlib.Core.Bool.{Bool, true, false, _&&_}
+use mathlib.Core.Bool.{Bool, true, false, _&&_, cond}
 use mathlib.Core.List.{List, [], _∷_}
 use lib.Dec.{eqb, leb, ltb}
 use lib.ListN.{length, take, drop}
@@ -46,16 +46,12 @@ secondField line = drop (tabPlace line + 1) line
 
 -- ---- the first field
 
-abbrev pub pickWord : Bool → Word → Word → Word
-pickWord true a b = a
-pickWord false a b = b
-
 unfoldable pub wordOf : List ℕ → Word
 wordOf w =
-    pickWord (sameBytes w (bytesOf "out")) (Declare Output)
-    (pickWord (sameBytes w (bytesOf "see")) (Declare Observed)
-    (pickWord (sameBytes w (bytesOf "hid")) (Declare Hidden)
-    (pickWord (sameBytes w (bytesOf "rule")) Rule Unknown)))
+    cond (sameBytes w (bytesOf "out")) (Declare Output)
+    (cond (sameBytes w (bytesOf "see")) (Declare Observed)
+    (cond (sameBytes w (bytesOf "hid")) (Declare Hidden)
+    (cond (sameBytes w (bytesOf "rule")) Rule Unknown)))
 
 -- ---- the second field
 

@@ -81,8 +81,10 @@ pub fn declare(
     requires { ⌜ (start ≤ end) × (end ≤ length (now source)) ⌝ }
     requires { ⌜ Spans (now source) (now spans) ⌝ }
     requires { ⌜ (s .outputs ≤ kindLimit) × (s .observed ≤ kindLimit) × (s .hidden ≤ kindLimit) ⌝ }
-    ensures { λ r. ⌜ r ≡ readingAfter (declareEffect line kind (between (now (source .entry)) start end) (signalsIn (now (source .entry)) s (now (spans .entry)))) s ⌝ }
-    ensures { λ _. ⌜ now (spans .exit) ≡ spansAfter (declareEffect line kind (between (now (source .entry)) start end) (signalsIn (now (source .entry)) s (now (spans .entry)))) s start end (now (spans .entry)) ⌝ }
+    ensures { λ r. ⌜ r ≡ readingAfter (declareEffect line kind (between (now (source .entry)) start end)
+        (signalsIn (now (source .entry)) s (now (spans .entry)))) s ⌝ }
+    ensures { λ _. ⌜ now (spans .exit) ≡ spansAfter (declareEffect line kind (between (now (source .entry)) start end)
+        (signalsIn (now (source .entry)) s (now (spans .entry)))) s start end (now (spans .entry)) ⌝ }
 {
     let name = &source[start..end];
     if !is_name(name) {

@@ -116,7 +116,8 @@ module _ (c : Counts) (ho : c .outputs ≤ 4) (hs : c .observed ≤ 4) (hh : c .
     unfolding number
     number-lt =
         let e : 2 ^ c .hidden * 2 ^ c .observed * 2 ^ c .outputs ≡ letterCount c =
-        ap (λ n. n * 2 ^ c .outputs) (sym (pow-add 2 (c .hidden) (c .observed))) ∙ sym (pow-add 2 (c .hidden + c .observed) (c .outputs)) ∙ ap (λ k. 2 ^ k) (omega arith) in
+        ap (λ n. n * 2 ^ c .outputs) (sym (pow-add 2 (c .hidden) (c .observed))) ∙ sym (pow-add 2 (c .hidden + c .observed) (c .outputs)) ∙ ap
+        (λ k. 2 ^ k) (omega arith) in
         subst (λ n. (z * 2 ^ c .observed + y) * 2 ^ c .outputs + x < n) e (digits-lt (digits-lt d b) a)
 
     number-high : number / 2 ^ (c .outputs + c .observed) ≡ z
@@ -146,5 +147,9 @@ module _ (c : Counts) (ho : c .outputs ≤ 4) (hs : c .observed ≤ 4) (hh : c .
           let q = ltb-true (a / 16 % 16) (2 ^ c .observed) (t .1) in
           let r = ltb-true (a / 256) (2 ^ c .hidden) (t .2) in
           let whole : a % 16 + a / 16 % 16 * 16 + a / 256 * 256 ≡ a = omega arith in
-          in-tabulate (letterCount c) (letterOf c) a .1
-          (number (a % 16) (a / 16 % 16) (a / 256) p q r, number-lt (a % 16) (a / 16 % 16) (a / 256) p q r, number-letter (a % 16) (a / 16 % 16) (a / 256) p q r ∙ whole)
+          in-tabulate (letterCount c) (letterOf c) a .1 (
+            number (a % 16) (a / 16 % 16) (a / 256) p q r,
+            number-lt (a % 16) (a / 16 % 16) (a / 256) p q r,
+            number-letter (a % 16) (a / 16 % 16)
+                (a / 256) p q r ∙ whole,
+          )

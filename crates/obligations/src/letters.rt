@@ -26,7 +26,8 @@ pub fn list_letters(outputs: usize, observed: usize, hidden: usize, letters: &mu
     requires { ⌜ hidden ≤ 4 ⌝ }
     requires { ⌜ letterCount (counts outputs observed hidden) ≤ length (now letters) ⌝ }
     ensures { λ r. ⌜ r ≡ letterCount (counts outputs observed hidden) ⌝ }
-    ensures { λ _. ⌜ now (letters .exit) ≡ lettersOf (counts outputs observed hidden) ++ drop (letterCount (counts outputs observed hidden)) (now (letters .entry)) ⌝ }
+    ensures { λ _. ⌜ now (letters .exit) ≡ lettersOf (counts outputs observed hidden) ++ drop (letterCount (counts outputs observed hidden))
+        (now (letters .entry)) ⌝ }
 {
     let count = 1 << (outputs + observed + hidden);
     let mut i = 0;

@@ -154,7 +154,8 @@ module _ (t : List ℕ) (observed row : ℕ) where
     blank-test : (s : ℕ) (b : Bool) → (leb n s && not (eqb (getD t (row * rowSize + 1 + s) 0) 0)) ≡ b → blankAt s ≡ not b
     unfolding blankAt
     blank-test s b e =
-        ap (λ k. ltb s k || eqb (cell t row (1 + s)) 0) (sym m) ∙ at (test (leb n s)) ∙ ap (λ x. not (leb n s && not (eqb x 0))) (sym (next-cell t row s)) ∙ ap not e
+        ap (λ k. ltb s k || eqb (cell t row (1 + s)) 0) (sym m) ∙ at (test (leb n s)) ∙ ap (λ x. not (leb n s && not (eqb x 0)))
+        (sym (next-cell t row s)) ∙ ap not e
       where
         at : (leb n s ≡ true) ⊎ (leb n s ≡ false) → (ltb s n || eqb (cell t row (1 + s)) 0) ≡ not (leb n s && not (eqb (cell t row (1 + s)) 0))
         at (inl l) = rw (l, le-ltb s n (leb-true n s l)) (sym (Bool·not-not (eqb (cell t row (1 + s)) 0)))

@@ -4,7 +4,7 @@ use Prim.Native.Nat.{ℕ, suc}
 use native.Mathlib.Omega.{arith}
 use mathlib.Core.Path.{_≡_, refl, sym, subst, _∙_}
 use mathlib.Core.Logic.{_↔_}
-use mathlib.Core.Bool.{Bool, true, false}
+use mathlib.Core.Bool.{Bool, true, false, cond}
 use mathlib.Core.Option.{Option, none, some}
 use mathlib.Core.List.{List, [], _∷_}
 use borrow.Author.Tests.{le-ltb, ltb-false}
@@ -16,7 +16,7 @@ use Rattle.lines.specs.declared.refusal.Refusal.the-variants.{LongSource}
 use Rattle.rules.specs.Limits.{sourceLimit}
 use Rattle.formula.specs.Formula.{Formula}
 use Rattle.lines.specs.Lines.{SourceLine, ended, unended, lines, secondField}
-use Rattle.rules.specs.Problem.{sizeIn, operatorsIn, Draft, Problem, Outcome, accepted, refused, finish, after, effectAfter, withDeclared, withFormula, readLines, pickOutcome, blank, readProblem}
+use Rattle.rules.specs.Problem.{sizeIn, operatorsIn, Draft, Problem, Outcome, accepted, refused, finish, after, effectAfter, withDeclared, withFormula, readLines, blank, readProblem}
 use Rattle.lines.specs.Effect.{Effect, declares, states, refuses}
 use Rattle.rules.specs.Denotes.{Reads, declared, stated, Make, done, next, Denotes}
 use Rattle.lines.proofs.EffectLaws.{declaring, stating, declared-effect, stated-effect}
@@ -74,7 +74,7 @@ module _ (source : List ℕ) (p : Problem) where
   unfolding readProblem
   read-denotes e = go (ltb sourceLimit (length source)) refl e
     where
-      go : (b : Bool) → ltb sourceLimit (length source) ≡ b → pickOutcome b (refused LongSource) (readLines 1 (lines source) blank) ≡ accepted p → Denotes source p
+      go : (b : Bool) → ltb sourceLimit (length source) ≡ b → cond b (refused LongSource) (readLines 1 (lines source) blank) ≡ accepted p → Denotes source p
       go true q h = not-accepted _ p h
       go false q h = record { short = ltb-false _ _ q; make = read-make (lines source) 1 blank p h }
 

@@ -2,7 +2,7 @@
 use Prim.Native.Nat.{ℕ, _≤_, _<_}
 use native.Mathlib.Omega.{arith}
 use mathlib.Core.Path.{_≡_, refl, sym, ap, _∙_}
-use mathlib.Core.Bool.{Bool, true, false, _||_, false≢true}
+use mathlib.Core.Bool.{Bool, true, false, _||_, false≢true, cond}
 use mathlib.Core.Option.{Option, none, some}
 use mathlib.Core.List.{List}
 use borrow.Author.Tests.{eqb-false, lt-ltb, le-ltb}
@@ -26,7 +26,7 @@ use Rattle.formula.specs.Row.{judgedTrue}
 use Rattle.rules.specs.Problem.{Problem, Outcome, accepted, refused, readProblem}
 use Rattle.rules.specs.Denotes.{Denotes}
 use Rattle.rules.specs.Reading.{sizesOf, readingOf, partsOfOutcome}
-use Rattle.rules.specs.Trace.{countsOf, pickVerdict, orBadStep, badStep, verdictOn}
+use Rattle.rules.specs.Trace.{countsOf, orBadStep, badStep, verdictOn}
 use Rattle.formula.specs.Letter.{Counts}
 use Rattle.rules.specs.Judge.{countsIn, judgedBy, judged, workAfter, Means}
 use Rattle.formula.proofs.Agreement.{holds-iff-Sat}
@@ -107,7 +107,7 @@ unfolding verdictOn
 verdict-means source p d c π = by-length (eqb (length π) 0) refl (ltb traceLimit (length π)) (badStep c 1 π) (holds (p .formula) π) refl
   where
     by-length : (a : Bool) → eqb (length π) 0 ≡ a → (b : Bool) (n : Option ℕ) (v : Bool) → holds (p .formula) π ≡ v
-        → Means source π (pickVerdict (a || b) (Refused (BadTrace 0)) (orBadStep n (pickVerdict v True False)))
+        → Means source π (cond (a || b) (Refused (BadTrace 0)) (orBadStep n (cond v True False)))
     by-length true e b n v h = tt
     by-length false e true n v h = tt
     by-length false e false (some n) v h = tt

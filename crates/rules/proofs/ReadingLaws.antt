@@ -79,14 +79,25 @@ begin source p h =
       parts = refl;
       operators = refl;
       stored = refl;
-      kept = record { spans-in = spans-none source; outputs-few = omega arith; observed-few = omega arith; hidden-few = omega arith; parts-few = omega arith; operators-few = omega arith; parts-long = h };
+      kept = record {
+        spans-in = spans-none source;
+        outputs-few = omega arith;
+        observed-few = omega arith;
+        hidden-few = omega arith;
+        parts-few = omega
+            arith;
+        operators-few = omega arith;
+        parts-long = h;
+      };
     }
 
 -- ---- one more line
 
 -- the counts after a signal for which there was room
-more-few : (source spans : List ℕ) (k : Kind) (s : Sizes) → isFull k (signalsIn source s spans) ≡ false → (s .outputs ≤ kindLimit) × (s .observed ≤ kindLimit) × (s .hidden ≤ kindLimit)
-    → (moreSignals k s .outputs ≤ kindLimit) × (moreSignals k s .observed ≤ kindLimit) × (moreSignals k s .hidden ≤ kindLimit) × (firstBit k + countIn k s < bits)
+more-few : (source spans : List ℕ) (k : Kind) (s : Sizes) → isFull k (signalsIn source s spans) ≡ false → (s .outputs ≤ kindLimit) ×
+    (s .observed ≤ kindLimit) × (s .hidden ≤ kindLimit)
+    → (moreSignals k s .outputs ≤ kindLimit) × (moreSignals k s .observed ≤ kindLimit) × (moreSignals k s .hidden ≤ kindLimit) ×
+    (firstBit k + countIn k s < bits)
 more-few source spans Output s f h = let n = eqb-false (s .outputs) kindLimit (or-left (eqb (s .outputs) kindLimit) _ f) in omega (arith, n)
 more-few source spans Observed s f h = let n = eqb-false (s .observed) kindLimit (or-left (eqb (s .observed) kindLimit) _ f) in omega (arith, n)
 more-few source spans Hidden s f h = let n = eqb-false (s .hidden) kindLimit (or-left (eqb (s .hidden) kindLimit) _ f) in omega (arith, n)
@@ -96,7 +107,8 @@ same-parts Output s = (refl, refl)
 same-parts Observed s = (refl, refl)
 same-parts Hidden s = (refl, refl)
 
-tab-in : (source : List ℕ) (at end : ℕ) → at ≤ end → end ≤ length source → hasTab (between source at end) ≡ true → at + tabPlace (between source at end) + 1 ≤ end
+tab-in : (source : List ℕ) (at end : ℕ) → at ≤ end → end ≤ length source → hasTab (between source at end) ≡ true → at + tabPlace
+    (between source at end) + 1 ≤ end
 tab-in source at end h k t =
     let l = ltb-true (tabPlace (between source at end)) (length (between source at end)) t in
     omega (arith, l, length-line source at end h k)
@@ -156,7 +168,8 @@ module _ {source p₀ : List ℕ} {at line : ℕ} {s : Sizes} {spans p : List �
             let place = tab-in source at end (line-in .0) (line-in .1) (b .tab) in
             let n = field-is source at end (tabPlace (between source at end)) (line-in .1) place ∙ b .is in
             let sizes : moreSignals k s ≡ t = same-sizes _ t (sym (ap (λ f. readingAfter f s) i) ∙ sym (d .reading) ∙ q) in
-            let here : spans′ ≡ spanned k s (at + tabPlace (between source at end) + 1) end spans = d .spans-left ∙ ap (λ f. spansAfter f s (at + tabPlace (between source at end) + 1) end spans) i in
+            let here : spans′ ≡ spanned k s (at + tabPlace (between source at end) + 1) end spans = d .spans-left ∙ ap
+            (λ f. spansAfter f s (at + tabPlace (between source at end) + 1) end spans) i in
             let left : p′ ≡ p = d .parts-left ∙ ap (λ f. partsAfter f s p) i in
             rw (← sizes, here, left)
             (record {
@@ -198,7 +211,8 @@ module _ {source p₀ : List ℕ} {at line : ℕ} {s : Sizes} {spans p : List �
               signals = g .signals;
               parts = sym (size-joined (g .draft .formula) φ) ∙ ap (λ n. n + size φ + joint n) (g .parts);
               operators = sym (operators-joined (g .draft .formula) φ) ∙ ap (λ n. n + operators φ) (g .operators);
-              stored = ap (λ n. storedFrom (addedParts φ n) n p) (sym (g .parts)) ∙ ap (storedFrom (addedParts φ (sizeIn (g .draft .formula))) (sizeIn (g .draft .formula))) (g .stored)
+              stored = ap (λ n. storedFrom (addedParts φ n) n p) (sym (g .parts)) ∙ ap
+                  (storedFrom (addedParts φ (sizeIn (g .draft .formula))) (sizeIn (g .draft .formula))) (g .stored)
                   ∙ stored-joined (g .draft .formula) φ p₀;
               kept = record {
                 spans-in = kept .spans-in;

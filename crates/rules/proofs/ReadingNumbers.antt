@@ -3,7 +3,7 @@
 use Prim.Native.Nat.{ℕ, suc, _≤_}
 use native.Mathlib.Omega.{arith}
 use mathlib.Core.Path.{_≡_, subst}
-use mathlib.Core.Bool.{Bool, true, false, not}
+use mathlib.Core.Bool.{Bool, true, false, not, cond}
 use mathlib.Core.Option.{Option, none, some}
 use mathlib.Core.List.{List, [], _∷_}
 use lib.Dec.{ltb}
@@ -20,15 +20,15 @@ use Rattle.rules.specs.Limits.{sourceLimit}
 use Rattle.lines.specs.Refusal.{numberOf}
 use Rattle.formula.specs.Formula.{Formula}
 use Rattle.lines.specs.Lines.{SourceLine, ended, unended, lines, hasTab, firstField, secondField, wordOf, isName, isText}
-use Rattle.rules.specs.Problem.{Draft, Outcome, accepted, refused, finish, after, effectAfter, readLines, pickOutcome, blank, readProblem}
-use Rattle.lines.specs.Effect.{Signals, formulaOf, allDeclared, isDeclared, isFull, isLarge, Effect, declares, states, refuses, pickEffect, declareEffect, readEffect, stateEffect, byWord, effectOf}
+use Rattle.rules.specs.Problem.{Draft, Outcome, accepted, refused, finish, after, effectAfter, readLines, blank, readProblem}
+use Rattle.lines.specs.Effect.{Signals, formulaOf, allDeclared, isDeclared, isFull, isLarge, Effect, declares, states, refuses, declareEffect, readEffect, stateEffect, byWord, effectOf}
 
 Early : Effect → Type 0
 Early (declares k name) = Unit {0}
 Early (states φ) = Unit {0}
 Early (refuses r) = numberOf r ≤ 8
 
-early-pick : (b : Bool) (e f : Effect) → Early e → Early f → Early (pickEffect b e f)
+early-pick : (b : Bool) (e f : Effect) → Early e → Early f → Early (cond b e f)
 early-pick true e f p q = p
 early-pick false e f p q = q
 
@@ -76,9 +76,10 @@ small-lines : (line : ℕ) (ls : List SourceLine) (d : Draft) → Small (readLin
 unfolding readLines Small
 small-lines line [] d = small-finish (d .signals) (d .formula)
 small-lines line (unended l ∷ ls) d = omega arith
-small-lines line (ended l ∷ ls) d = small-after (effectAfter line l d) d (readLines (suc line) ls) (early-effect line (d .signals) _ _ l) (small-lines (suc line) ls)
+small-lines line (ended l ∷ ls) d = small-after (effectAfter line l d) d (readLines (suc line) ls) (early-effect line (d .signals) _ _ l)
+    (small-lines (suc line) ls)
 
-small-pick : (b : Bool) (o u : Outcome) → Small o → Small u → Small (pickOutcome b o u)
+small-pick : (b : Bool) (o u : Outcome) → Small o → Small u → Small (cond b o u)
 small-pick true o u p q = p
 small-pick false o u p q = q
 

@@ -5,7 +5,7 @@ use native.Mathlib.Nat.{one-mul}
 use native.Mathlib.Numerals.{add-one}
 use native.Mathlib.Omega.{arith}
 use mathlib.Core.Path.{_≡_, refl, sym, ap, _∙_}
-use mathlib.Core.Bool.{Bool, true, false, _&&_, _||_, false≢true}
+use mathlib.Core.Bool.{Bool, true, false, _&&_, _||_, false≢true, cond}
 use mathlib.Core.Option.{Option, none, some}
 use mathlib.Core.List.{[], _∷_}
 use lib.Bits.{bitAnd, and-mask}
@@ -22,7 +22,7 @@ use Rattle.rules.specs.Limits.{traceLimit}
 use Rattle.formula.specs.Semantics.{Trace, holds}
 use Rattle.formula.specs.Parts.{partsOf}
 use Rattle.formula.specs.Row.{judgedTrue}
-use Rattle.rules.specs.Trace.{badStep, pickStep, stepNumber, pickVerdict, orBadStep, verdictOn}
+use Rattle.rules.specs.Trace.{badStep, stepNumber, orBadStep, verdictOn}
 use Rattle.formula.specs.Letter.{Counts, isLetter}
 use Rattle.formula.proofs.RowLaws.{judged-holds}
 
@@ -73,9 +73,9 @@ unfolding badStep
 bad-none c n [] e = refl
 bad-none c n (a ∷ π) e = at (isLetter c a) e (bad-none c (suc n) π)
   where
-    at : (b : Bool) → stepNumber (pickStep b (badStep c (suc (suc n)) π) (some (suc n))) ≡ 0
+    at : (b : Bool) → stepNumber (cond b (badStep c (suc (suc n)) π) (some (suc n))) ≡ 0
         → (stepNumber (badStep c (suc (suc n)) π) ≡ 0 → badStep c (suc (suc n)) π ≡ none)
-        → pickStep b (badStep c (suc (suc n)) π) (some (suc n)) ≡ none
+        → cond b (badStep c (suc (suc n)) π) (some (suc n)) ≡ none
     at true z ih = ih z
     at false z ih = absurd (omega arith)
 
@@ -93,7 +93,7 @@ module _ (c : Counts) (π : Trace) (b : Bool) where
   verdict-step n l e h = rw l (bad-some (badStep c 1 π) n _ e h)
 
   pub verdict-judged : (n : ℕ) (v : Bool) → badLength π ≡ false → n ≡ stepNumber (badStep c 1 π) → n ≡ 0 → v ≡ b
-      → verdictOn c π b ≡ pickVerdict v True False
+      → verdictOn c π b ≡ cond v True False
   unfolding verdictOn
   verdict-judged n v l e z t = rw (l, bad-none c 0 π (sym e ∙ z), t)
 

@@ -46,9 +46,27 @@ module _ (g : Signals) (few : Few g) where
       omega (arith, n, few .total)
 
   few-more : (k : Kind) (name : List ℕ) → isFull k g ≡ false → Few (withSignal k name g)
-  few-more Output name f = let n = room Output f in record { outputs = omega (arith, n); observed = few .observed; hidden = few .hidden; total = omega (arith, spare Output f) }
-  few-more Observed name f = let n = room Observed f in record { outputs = few .outputs; observed = omega (arith, n); hidden = few .hidden; total = omega (arith, spare Observed f) }
-  few-more Hidden name f = let n = room Hidden f in record { outputs = few .outputs; observed = few .observed; hidden = omega (arith, n); total = omega (arith, spare Hidden f) }
+  few-more Output name f = let n = room Output f in record {
+    outputs = omega (arith, n);
+    observed = few .observed;
+    hidden = few .hidden;
+    total = omega
+        (arith, spare Output f);
+  }
+  few-more Observed name f = let n = room Observed f in record {
+    outputs = few .outputs;
+    observed = omega (arith, n);
+    hidden = few .hidden;
+    total =
+        omega (arith, spare Observed f);
+  }
+  few-more Hidden name f = let n = room Hidden f in record {
+    outputs = few .outputs;
+    observed = few .observed;
+    hidden = omega (arith, n);
+    total =
+        omega (arith, spare Hidden f);
+  }
 
 -- one more name has a bit of its own
 length-more : (k : Kind) (name : List ℕ) (g : Signals) → length (withSignal k name g .names) ≡ length (g .names)
@@ -116,5 +134,11 @@ pub read-within : (source : List ℕ) (p : Problem) → readProblem source ≡ a
 unfolding CodedIn
 read-within source p e =
     make-within
-    (record { few = record { outputs = omega arith; observed = omega arith; hidden = omega arith; total = omega arith }; named = refl; coded = tt; parts = omega arith; operators = omega arith })
+    (record {
+      few = record { outputs = omega arith; observed = omega arith; hidden = omega arith; total = omega arith };
+      named = refl;
+      coded = tt;
+      parts = omega arith;
+      operators = omega arith;
+    })
     (read-denotes source p e .make)

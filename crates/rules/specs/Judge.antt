@@ -1,7 +1,7 @@
 -- Judging a trace by a problem's text: what the call answers, what it leaves, and what its answer means.
 -- Assumes nothing.
 use Prim.Native.Nat.{ℕ}
-use mathlib.Core.Bool.{Bool, true, false}
+use mathlib.Core.Bool.{Bool, true, false, cond}
 use mathlib.Core.List.{List}
 use lib.Dec.{ltb}
 use lib.ListN.{length, replicate}
@@ -13,7 +13,7 @@ use Rattle.formula.specs.Semantics.{Trace, Sat, holds}
 use Rattle.rules.specs.Problem.{Problem, Outcome, accepted, refused, readProblem}
 use Rattle.lines.specs.Effect.{Signals}
 use Rattle.rules.specs.Denotes.{Denotes}
-use Rattle.rules.specs.Trace.{pickVerdict, verdictOn}
+use Rattle.rules.specs.Trace.{verdictOn}
 use Rattle.formula.specs.Letter.{Counts}
 
 abbrev pub countsIn : Signals → Counts
@@ -25,15 +25,11 @@ judgedBy (refused r) π = Refused r
 
 -- the answer, with work memory of so many bytes
 unfoldable pub judged : ℕ → List ℕ → Trace → Verdict
-judged n source π = pickVerdict (ltb n workSize) (Refused ShortMemory) (judgedBy (readProblem source) π)
-
-abbrev pub pickList : Bool → List ℕ → List ℕ → List ℕ
-pickList true a b = a
-pickList false a b = b
+judged n source π = cond (ltb n workSize) (Refused ShortMemory) (judgedBy (readProblem source) π)
 
 -- work memory that is too short stays as it is, and any other is cleared
 abbrev pub workAfter : List ℕ → List ℕ
-workAfter w = pickList (ltb (length w) workSize) w (replicate (length w) 0)
+workAfter w = cond (ltb (length w) workSize) w (replicate (length w) 0)
 
 -- what a verdict says, by the written grammar and the published meaning
 abbrev pub Means : List ℕ → Trace → Verdict → Type 0

@@ -1,7 +1,7 @@
 -- Reading a problem (a sheet in document 01): line by line, with the tests of document 01 in their order.
 -- Assumes nothing.
 use Prim.Native.Nat.{ℕ, suc}
-use mathlib.Core.Bool.{Bool, true, false}
+use mathlib.Core.Bool.{Bool, true, false, cond}
 use mathlib.Core.Option.{Option, none, some}
 use mathlib.Core.List.{List, [], _∷_}
 use lib.Dec.{ltb}
@@ -67,12 +67,8 @@ readLines line [] d = finish (d .signals) (d .formula)
 readLines line (unended l ∷ ls) d = refused (BadLine line)
 readLines line (ended l ∷ ls) d = after (effectAfter line l d) d (readLines (suc line) ls)
 
-abbrev pub pickOutcome : Bool → Outcome → Outcome → Outcome
-pickOutcome true a b = a
-pickOutcome false a b = b
-
 abbrev pub blank : Draft
 blank = record { signals = noSignals; formula = none }
 
 unfoldable pub readProblem : List ℕ → Outcome
-readProblem source = pickOutcome (ltb sourceLimit (length source)) (refused LongSource) (readLines 1 (lines source) blank)
+readProblem source = cond (ltb sourceLimit (length source)) (refused LongSource) (readLines 1 (lines source) blank)

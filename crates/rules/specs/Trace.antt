@@ -1,7 +1,7 @@
 -- Judging a recorded trace (a run in document 01): which traces are refused, and the verdict on the others.
 -- Assumes nothing.
 use Prim.Native.Nat.{ℕ, suc}
-use mathlib.Core.Bool.{Bool, true, false, _||_}
+use mathlib.Core.Bool.{Bool, true, false, _||_, cond}
 use mathlib.Core.Option.{Option, none, some}
 use mathlib.Core.List.{[], _∷_}
 use lib.Dec.{eqb, ltb}
@@ -17,23 +17,15 @@ use Rattle.formula.specs.Semantics.{Trace}
 abbrev pub countsOf : Sizes → Counts
 countsOf s = record { outputs = s .outputs; observed = s .observed; hidden = s .hidden }
 
-abbrev pub pickStep : Bool → Option ℕ → Option ℕ → Option ℕ
-pickStep true a b = a
-pickStep false a b = b
-
 -- the first step with such a bit, the first letter being step n
 unfoldable pub badStep : Counts → ℕ → Trace → Option ℕ
 badStep c n [] = none
-badStep c n (a ∷ π) = pickStep (isLetter c a) (badStep c (suc n) π) (some n)
+badStep c n (a ∷ π) = cond (isLetter c a) (badStep c (suc n) π) (some n)
 
 -- a step as a number, 0 for none
 abbrev pub stepNumber : Option ℕ → ℕ
 stepNumber none = 0
 stepNumber (some n) = n
-
-abbrev pub pickVerdict : Bool → Verdict → Verdict → Verdict
-pickVerdict true a b = a
-pickVerdict false a b = b
 
 abbrev pub orBadStep : Option ℕ → Verdict → Verdict
 orBadStep none v = v
@@ -42,4 +34,4 @@ orBadStep (some n) v = Refused (BadTrace n)
 -- the verdict on a trace over these signals, on which the formula's value is b
 unfoldable pub verdictOn : Counts → Trace → Bool → Verdict
 verdictOn c π b =
-    pickVerdict (eqb (length π) 0 || ltb traceLimit (length π)) (Refused (BadTrace 0)) (orBadStep (badStep c 1 π) (pickVerdict b True False))
+    cond (eqb (length π) 0 || ltb traceLimit (length π)) (Refused (BadTrace 0)) (orBadStep (badStep c 1 π) (cond b True False))

@@ -9,8 +9,8 @@ ghost use Rattle.rules.specs.Problem.{readLines, blank, readProblem};
 ghost use Rattle.lines.specs.Memory.{Kept, LineRead};
 ghost use Rattle.rules.specs.Reading.{readingOf, PartsRead, partsOfOutcome};
 use basics::Class;
+use basics::clear_words;
 use basics::past;
-use formula::clear_codes;
 use lines::Reading;
 use lines::Refusal;
 use lines::Sizes;
@@ -110,7 +110,7 @@ pub fn read(source: &[u8], parts: &mut [u32]) -> Reading
     match read_source(source, parts) {
         Reading::Accepted(s) => Reading::Accepted(s),
         Reading::Refused(r) => {
-            clear_codes(parts);
+            clear_words(parts);
             Reading::Refused(r)
         }
     }

@@ -42,7 +42,8 @@ module _ {len : ℕ} {pack : List Bool → List ℕ} {f : List Bool → ℕ → 
         holds = first-holds len pack packing first long k mem bytes is size room;
         goes =
             e ∙ search-begin sameSet (stepsOver f (below count)) first limit
-            ∙ ap (λ xs. searchFrom sameSet (stepsOver f (below count)) first limit xs 0) (sym (first-items len pack packing first long k mem bytes is size room));
+            ∙ ap (λ xs. searchFrom sameSet (stepsOver f (below count)) first limit xs 0)
+            (sym (first-items len pack packing first long k mem bytes is size room));
         filled = subst (Rows sameSet f count width [] (itemsIn len (putMid 0 k mem bytes) 1) 0) (sym zeros) (rows-none sameSet f count width [] _ m);
       }
 
@@ -61,11 +62,13 @@ module _ {len : ℕ} {pack : List Bool → List ℕ} {f : List Bool → ℕ → 
       before : i < length (itemsIn len mem n)
       before = subst (λ m. i < m) (sym (length-itemsIn len mem n)) here
 
-      goes-on : all ≡ searchFrom sameSet (stepsOver f (below count)) first limit (grownOver sameSet f (below count) (itemsIn len mem n) (itemIn len mem i)) (i + 1)
+      goes-on : all ≡ searchFrom sameSet (stepsOver f (below count)) first limit
+          (grownOver sameSet f (below count) (itemsIn len mem n) (itemIn len mem i)) (i + 1)
       unfolding grownOver
       goes-on =
           t .goes
-          ∙ search-turn sameSet (stepsOver f (below count)) first limit (itemsIn len mem n) i (itemIn len mem i) within before (getD-itemsIn len mem n i first here)
+          ∙ search-turn sameSet (stepsOver f (below count)) first limit (itemsIn len mem n) i (itemIn len mem i) within before
+          (getD-itemsIn len mem n i first here)
 
       module _ (c : ℕ) (is-c : c ≡ count) where
         -- the items after this turn
@@ -78,12 +81,15 @@ module _ {len : ℕ} {pack : List Bool → List ℕ} {f : List Bool → ℕ → 
             ∙ search-over sameSet (stepsOver f (below count)) first limit (grownOver sameSet f (below count) (itemsIn len mem n) (itemIn len mem i)) (i + 1)
             (subst (λ k. limit < length (grownOver sameSet f (below k) (itemsIn len mem n) (itemIn len mem i))) is-c q)
 
-        pub turn-many : (mem′ rows′ : List ℕ) → TooMany ≡ countUpTo limit after-turn → (TooMany ≡ exploredOf all) × RanItems pack f (below count) width all mem′ rows′
+        pub turn-many : (mem′ rows′ : List ℕ) → TooMany ≡ countUpTo limit after-turn → (TooMany ≡ exploredOf all) × RanItems pack f (below count)
+            width all mem′ rows′
         turn-many mem′ rows′ q =
-            subst (λ l. (TooMany ≡ exploredOf l) × RanItems pack f (below count) width l mem′ rows′) (sym (turn-over (count-many limit after-turn q))) (refl, tt)
+            subst (λ l. (TooMany ≡ exploredOf l) × RanItems pack f (below count) width l mem′ rows′) (sym (turn-over (count-many limit after-turn q)))
+            (refl, tt)
 
         pub turn-next : (m at k : ℕ) (mem′ row : List ℕ) → count ≤ width → at ≡ i * width → k ≡ count → at + k ≤ length rows
-            → Found m ≡ countUpTo limit after-turn → ExpandedItems len pack limit after-turn (rowOver sameSet f (below c) after-turn (itemIn len mem i)) mem′ row
+            → Found m ≡ countUpTo limit after-turn → ExpandedItems len pack limit after-turn
+            (rowOver sameSet f (below c) after-turn (itemIn len mem i)) mem′ row
             → Turn len pack f first limit width count all mem′ (putMid at k rows row) m (i + 1)
         turn-next m at k mem′ row small is-at is-k room q e =
             record {
@@ -123,7 +129,8 @@ module _ {len : ℕ} {pack : List Bool → List ℕ} {f : List Bool → ℕ → 
       pub turn-closed : all ≡ closed (itemsIn len mem n)
       turn-closed =
           t .goes
-          ∙ search-end sameSet (stepsOver f (below count)) first limit (itemsIn len mem n) i within (omega (arith, t .read, none-left, length-itemsIn len mem n))
+          ∙ search-end sameSet (stepsOver f (below count)) first limit (itemsIn len mem n) i within
+          (omega (arith, t .read, none-left, length-itemsIn len mem n))
 
       pub turn-answer : Found n ≡ exploredOf all
       turn-answer = ap Found (sym (length-itemsIn len mem n)) ∙ ap exploredOf (sym turn-closed)
@@ -134,5 +141,6 @@ module _ {len : ℕ} {pack : List Bool → List ℕ} {f : List Bool → ℕ → 
           subst (λ l. RanItems pack f (below count) width l mem rows) (sym turn-closed) (
             ap (λ m. take (m * setSize) mem) (length-itemsIn len mem n) ∙ holds-bytes len pack packing mem n room (t .holds),
             rows-all sameSet f count width [] (itemsIn len mem n) rows some small (subst (λ m. m * width ≤ length rows) (sym (length-itemsIn len mem n)) space)
-                (subst (λ m. Rows sameSet f count width [] (itemsIn len mem n) m rows) (omega (arith, t .read, none-left, length-itemsIn len mem n)) (t .filled)),
+                (subst (λ m. Rows sameSet f count width [] (itemsIn len mem n) m rows) (omega (arith, t .read, none-left, length-itemsIn len mem n))
+                (t .filled)),
           )

@@ -51,7 +51,8 @@ module _ (len : ℕ) (pack : List Bool → List ℕ) (f : List Bool → ℕ → 
   reading-count a m mem row r = ap length (sym (r .items)) ∙ SlotsLaws.length-itemsIn len mem m
 
   -- one more
-  reading-more : (a m m′ : ℕ) (mem w row : List ℕ) (y : ℕ) → a < length row → Reading a m mem row → itemsIn len w m′ ≡ grownTo (a + 1) → HoldsItems len pack w m′
+  reading-more : (a m m′ : ℕ) (mem w row : List ℕ) (y : ℕ) → a < length row → Reading a m mem row → itemsIn len w m′ ≡ grownTo (a + 1) → HoldsItems
+      len pack w m′
       → (indexIn sameSet (f s a) (grownTo (a + 1)) ≡ y) × (isIn sameSet (f s a) (grownTo (a + 1)) ≡ true) → Reading (a + 1) m′ w (set row a y)
   reading-more a m m′ mem w row y l r e k q =
       record {
@@ -61,7 +62,8 @@ module _ (len : ℕ) (pack : List Bool → List ℕ) (f : List Bool → ℕ → 
         there = λ b h. there b (last-or-before a b h);
       }
     where
-      kept : (b : ℕ) → b < a → (indexIn sameSet (f s b) (grownTo (a + 1)) ≡ indexIn sameSet (f s b) (grownTo a)) × (isIn sameSet (f s b) (grownTo (a + 1)) ≡ true)
+      kept : (b : ℕ) → b < a → (indexIn sameSet (f s b) (grownTo (a + 1)) ≡ indexIn sameSet (f s b) (grownTo a)) ×
+          (isIn sameSet (f s b) (grownTo (a + 1)) ≡ true)
       kept b h = rw to-more (index-added sameSet (f s b) (grownTo a) (f s a) (r .there b h))
 
       entry : (b : ℕ) → (b ≡ a) ⊎ (b < a) → getD (set row a y) b 0 ≡ indexIn sameSet (f s b) (grownTo (a + 1))
@@ -108,7 +110,8 @@ module _ (len : ℕ) (pack : List Bool → List ℕ) (f : List Bool → ℕ → 
     module _ (l : a < length row) where
       -- one more
       adding-more : (m′ : ℕ) (w : List ℕ) (y : ℕ) → m′ ≤ limit → length w ≡ size → itemsIn len w m′ ≡ grownTo (a + 1) → HoldsItems len pack w m′
-          → (indexIn sameSet (f s a) (grownTo (a + 1)) ≡ y) × (isIn sameSet (f s a) (grownTo (a + 1)) ≡ true) → Adding limit count size (a + 1) m′ w (set row a y)
+          → (indexIn sameSet (f s a) (grownTo (a + 1)) ≡ y) × (isIn sameSet (f s a) (grownTo (a + 1)) ≡ true) → Adding limit count size (a + 1) m′ w
+          (set row a y)
       adding-more m′ w y few long e k q =
           (omega (arith, l, z .3), few, long, length-set row a y ∙ z .3, reading-more a m m′ mem w row y l (z .4) e k q)
 
@@ -160,7 +163,8 @@ module _ (len : ℕ) (pack : List Bool → List ℕ) (f : List Bool → ℕ → 
           adding-new ne =
               let q = index-last sameSet (f s a) (grownTo a) (sameSet-says (f s a) (f s a) .1 refl) is-new in
               adding-more (m + 1) w t (omega (arith, z .1, ne)) kept
-              (SlotsLaws.items-more len pack packing mem w m (z .4 .holds) before (f s a) long behind ∙ ap (λ ys. ys ++ (f s a ∷ [])) (z .4 .items) ∙ sym new-items)
+              (SlotsLaws.items-more len pack packing mem w m (z .4 .holds) before (f s a) long behind ∙ ap (λ ys. ys ++ (f s a ∷ [])) (z .4 .items) ∙
+              sym new-items)
               (SlotsLaws.holds-more len pack packing mem w m (z .4 .holds) before (f s a) long behind)
               (rw new-items (q .0 ∙ reading-count a m mem row (z .4) ∙ sym e, q .1))
 

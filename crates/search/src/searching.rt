@@ -71,10 +71,13 @@ fn expand(
     requires { ⌜ n ≤ stateLimit ⌝ }
     requires { ⌜ length (now mem) ≡ (stateLimit + 1) * setSize ⌝ }
     requires { ⌜ Holds d (now mem) n ⌝ }
-    ensures { λ r. ⌜ r ≡ countOf (grown d (mapIn (now (maps .entry)) (now (firsts .entry)) d) (below (length (now (row .entry)))) (setsIn d (now (mem .entry)) n) (setIn d (now (mem .entry)) i)) ⌝ }
-    ensures { λ _. ⌜ Expanded d (grown d (mapIn (now (maps .entry)) (now (firsts .entry)) d) (below (length (now (row .entry)))) (setsIn d (now (mem .entry)) n) (setIn d (now (mem .entry)) i))
+    ensures { λ r. ⌜ r ≡ countOf (grown d (mapIn (now (maps .entry)) (now (firsts .entry)) d) (below (length (now (row .entry))))
+        (setsIn d (now (mem .entry)) n) (setIn d (now (mem .entry)) i)) ⌝ }
+    ensures { λ _. ⌜ Expanded d (grown d (mapIn (now (maps .entry)) (now (firsts .entry)) d) (below (length (now (row .entry))))
+        (setsIn d (now (mem .entry)) n) (setIn d (now (mem .entry)) i))
         (rowOf d (mapIn (now (maps .entry)) (now (firsts .entry)) d) (below (length (now (row .entry))))
-        (grown d (mapIn (now (maps .entry)) (now (firsts .entry)) d) (below (length (now (row .entry)))) (setsIn d (now (mem .entry)) n) (setIn d (now (mem .entry)) i))
+        (grown d (mapIn (now (maps .entry)) (now (firsts .entry)) d) (below (length (now (row .entry)))) (setsIn d (now (mem .entry)) n)
+        (setIn d (now (mem .entry)) i))
         (setIn d (now (mem .entry)) i))
         (now (mem .exit)) (now (row .exit)) ⌝ }
 {
@@ -122,7 +125,8 @@ fn run(
     requires { ⌜ length (now mem) ≡ (stateLimit + 1) * setSize ⌝ }
     requires { ⌜ now successors ≡ replicate (stateLimit * letterLimit) 0 ⌝ }
     ensures { λ r. ⌜ r ≡ exploredOf (reachableSets d (mapIn (now (maps .entry)) (now (firsts .entry)) d) (below count) stateLimit) ⌝ }
-    ensures { λ _. ⌜ Ran d (mapIn (now (maps .entry)) (now (firsts .entry)) d) (below count) (reachableSets d (mapIn (now (maps .entry)) (now (firsts .entry)) d) (below count) stateLimit)
+    ensures { λ _. ⌜ Ran d (mapIn (now (maps .entry)) (now (firsts .entry)) d) (below count)
+        (reachableSets d (mapIn (now (maps .entry)) (now (firsts .entry)) d) (below count) stateLimit)
         (now (mem .exit)) (now (successors .exit)) ⌝ }
 {
     put_start(d, &mut mem[0..SET]);
@@ -161,9 +165,11 @@ pub fn search(
     requires { ⌜ length (now mem) ≡ (stateLimit + 1) * setSize ⌝ }
     requires { ⌜ now successors ≡ replicate (stateLimit * letterLimit) 0 ⌝ }
     ensures { λ r. ⌜ r ≡ exploredOf (reachableSets d (mapIn (now (maps .entry)) (now (firsts .entry)) d) (below count) stateLimit) ⌝ }
-    ensures { λ _. ⌜ now (mem .exit) ≡ padded (length (now (mem .entry))) (setsOf (reachableSets d (mapIn (now (maps .entry)) (now (firsts .entry)) d) (below count) stateLimit)) ⌝ }
+    ensures { λ _. ⌜ now (mem .exit) ≡ padded (length (now (mem .entry)))
+        (setsOf (reachableSets d (mapIn (now (maps .entry)) (now (firsts .entry)) d) (below count) stateLimit)) ⌝ }
     ensures { λ _. ⌜ now (successors .exit) ≡ padded (length (now (successors .entry)))
-        (successorsOf d (mapIn (now (maps .entry)) (now (firsts .entry)) d) (below count) (reachableSets d (mapIn (now (maps .entry)) (now (firsts .entry)) d) (below count) stateLimit)) ⌝ }
+        (successorsOf d (mapIn (now (maps .entry)) (now (firsts .entry)) d) (below count)
+        (reachableSets d (mapIn (now (maps .entry)) (now (firsts .entry)) d) (below count) stateLimit)) ⌝ }
 {
     match run(maps, firsts, d, count, mem, successors) {
         Explored::Found(n) => {

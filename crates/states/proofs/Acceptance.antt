@@ -44,7 +44,8 @@ module _ (ps : List Part) (formed : WellFormed ps) (a : ℕ) (π : Trace) where
   own : (i : ℕ) → i < length ps → isOperator ps i ≡ true
       → bit (duePattern ps π) (numberOf ps i)
       ≡ orAtEnd false
-      (asks (partAt ps i .kind) (formulaAt ps (partAt ps i .left)) (build (partAt ps i .kind) (partAt ps i .left) (formulaAt ps (partAt ps i .left)) (formulaAt ps (partAt ps i .right)))) π
+      (asks (partAt ps i .kind) (formulaAt ps (partAt ps i .left)) (build (partAt ps i .kind) (partAt ps i .left) (formulaAt ps (partAt ps i .left))
+      (formulaAt ps (partAt ps i .right)))) π
   unfolding duePattern dueAt WellFormed
   own i h t =
       pattern-own ps (dueAt ps π) (orAtEnd false (holds (formulaAt ps (lastOf ps))) π) i t
@@ -59,8 +60,10 @@ module _ (ps : List Part) (formed : WellFormed ps) (a : ℕ) (π : Trace) where
       let k = partAt ps i .kind in
       let x = formulaAt ps (partAt ps i .left) in
       let y = formulaAt ps (partAt ps i .right) in
-      let left : 1 ≤ arity k → valueAt ps a (duePattern ps π) (partAt ps i .left) ≡ holds x (a ∷ π) = λ q. upTo n (omega arith) (partAt ps i .left) (omega (arith, e .left-earlier q)) in
-      let right : 2 ≤ arity k → valueAt ps a (duePattern ps π) (partAt ps i .right) ≡ holds y (a ∷ π) = λ q. upTo n (omega arith) (partAt ps i .right) (omega (arith, e .right-earlier q)) in
+      let left : 1 ≤ arity k → valueAt ps a (duePattern ps π) (partAt ps i .left) ≡ holds x (a ∷ π) = λ q. upTo n (omega arith) (partAt ps i .left)
+      (omega (arith, e .left-earlier q)) in
+      let right : 2 ≤ arity k → valueAt ps a (duePattern ps π) (partAt ps i .right) ≡ holds y (a ∷ π) = λ q. upTo n (omega arith) (partAt ps i .right)
+      (omega (arith, e .right-earlier q)) in
       valueAt-step ps a (duePattern ps π) i e
       ∙ combine-own k (bit a (partAt ps i .left)) _ _ _ _ (own i (omega arith))
       ∙ combine-reads k (bit a (partAt ps i .left)) _ _ _ _ _ left right

@@ -22,6 +22,7 @@ use Rattle.rules.proofs.JudgeLaws.{Taken, taken-length, taken-parts, some-parts
 use Rattle.formula.proofs.PartsLaws.{WellFormed, parts-formed}
 use Rattle.obligations.specs.Obligation.{operatorsOf}
 use Rattle.obligations.specs.Values.{Stored}
+use Rattle.rules.proofs.ReadingLaws.{not-refused, same-refusal}
 use Rattle.states.specs.Planes.{Sized}
 use Rattle.obligations.proofs.OperatorSpots.{operators-from}
 use Rattle.game.specs.declared.solving.Solved.{Solved}
@@ -31,15 +32,9 @@ use Rattle.basics.specs.Lists.{written}
 use Rattle.game.specs.Claim.{solvedOf, solvedFrom, cellsOf, cellsFrom}
 
 -- a refusal is handed on
-not-refused : {C : Type 0} (x : Refusal) (s : Sizes) → reading.Accepted s ≡ reading.Refused x → C
-not-refused x s e = let z : _≡_ {A = ℕ} 0 1 = cc in absurd (omega arith)
-
-same-refusal : (x y : Refusal) → reading.Refused x ≡ reading.Refused y → x ≡ y
-same-refusal x y e = cc
-
 pub refused-right : (o : Outcome) (r : Reading) (x : Refusal) (table : List ℕ) → r ≡ readingOf o → r ≡ reading.Refused x
     → (Refused x ≡ solvedFrom o) × (table ≡ written (cellsFrom o) table)
-refused-right (accepted p) r x table e h = not-refused x _ (sym e ∙ h)
+refused-right (accepted p) r x table e h = not-refused x _ (sym h ∙ e)
 refused-right (refused y) r x table e h = (ap Refused (same-refusal x y (sym h ∙ e)), refl)
 
 module _ {o : Outcome} {s : Sizes} {codes : List ℕ} (t : Taken o s codes) where

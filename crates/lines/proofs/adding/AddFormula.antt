@@ -33,7 +33,7 @@ use Rattle.formula.specs.Formula.{Formula, size, operators}
 use Rattle.formula.specs.Parts.{temporals, partsFrom}
 use Rattle.formula.specs.Codes.{codeOf, codesOf}
 use Rattle.lines.specs.Lines.{isText}
-use Rattle.lines.specs.Effect.{Signals, formulaOf, allDeclared, joint, isLarge, Effect, states, refuses, pickEffect, stateEffect}
+use Rattle.lines.specs.Effect.{Signals, formulaOf, allDeclared, joint, isLarge, Effect, states, refuses, stateEffect}
 use Rattle.lines.specs.Cells.{codesFrom, kindsIn}
 use Rattle.lines.specs.Memory.{joinPart, storedFrom, moreParts, readingAfter, partsAfter, cellsReading, cellsStored}
 use Rattle.basics.proofs.Stores.{sets-append}
@@ -134,7 +134,7 @@ module _ (line : ℕ) (text : List ℕ) (g : Signals) (n m : ℕ) where
       unknown-name d = rw (t, e, d)
 
       pub read-effect : allDeclared g text (tokens text 0) ≡ true
-          → stateEffect line text g n m ≡ pickEffect (isLarge n m φ) (refuses (TooManyParts line)) (states φ)
+          → stateEffect line text g n m ≡ cond (isLarge n m φ) (refuses (TooManyParts line)) (states φ)
       unfolding stateEffect
       read-effect d = rw (t, e, d)
 
@@ -181,7 +181,7 @@ module _ {source spans text cs : List ℕ} (f : Formed source spans text cs) (li
   stated = formulaIn source spans text (f .tree)
 
   abbrev byFit : Bool → Effect
-  byFit b = pickEffect b (refuses (TooManyParts line)) (states stated)
+  byFit b = cond b (refuses (TooManyParts line)) (states stated)
 
   by-fit : (b : Bool) → Answers (byFit b) s p
       (cond (not b) (sets p (s .parts) (codesOf (partsFrom stated (s .parts)) ++ codesOf (joinPart (s .parts) (size stated)))) p)

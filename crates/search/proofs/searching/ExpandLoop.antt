@@ -68,7 +68,8 @@ module _ (d : ℕ) (maps firsts mem₀ : List ℕ) (i n : ℕ) where
       → nextBytes present (entriesOf maps a) h ≡ packed (target a)
   target-bytes count present h a g l k =
       ap (λ s. nextBytes s (entriesOf maps a) h) (g .bits) ∙ ap (nextBytes (spread (packed (setIn d mem₀ i))) (entriesOf maps a)) (g .half)
-      ∙ next-packed d (setIn d mem₀ i) (g .small) (length-itemIn (2 ^ suc d) mem₀ i) (mapIn maps firsts d) a (entriesOf maps a) stored (map-reads a) (λ p. g .right .fits a p l)
+      ∙ next-packed d (setIn d mem₀ i) (g .small) (length-itemIn (2 ^ suc d) mem₀ i) (mapIn maps firsts d) a (entriesOf maps a) stored (map-reads a)
+      (λ p. g .right .fits a p l)
     where
       own : getD firsts a 0 ≡ a
       own = omega (arith, g .right .before a l)
@@ -84,12 +85,22 @@ module _ (d : ℕ) (maps firsts mem₀ : List ℕ) (i n : ℕ) where
   Kept count present h a m mem row =
       Adding (2 ^ suc d) packed byMap (setIn d mem₀ i) (setsIn d mem₀ n) stateLimit count (length mem₀) a m mem row × Setting count present h
 
-  pub kept-none : (present : List ℕ) (h : ℕ) (row : List ℕ) → d < 8 → length maps ≡ letterLimit * mapSize → length row ≤ letterLimit → Maps d (length row) maps firsts
+  pub kept-none : (present : List ℕ) (h : ℕ) (row : List ℕ) → d < 8 → length maps ≡ letterLimit * mapSize → length row ≤ letterLimit → Maps d
+      (length row) maps firsts
       → i < n → n ≤ stateLimit → length mem₀ ≡ (stateLimit + 1) * setSize → Holds d mem₀ n
       → present ≡ spread (take (i * setSize + setSize - i * setSize) (drop (i * setSize) mem₀)) → h ≡ halfOf d → Kept (length row) present h 0 n mem₀ row
   kept-none present h row small size few right l k room g e half = (
     (omega arith, k, refl, refl, reading-none (2 ^ suc d) packed byMap (setIn d mem₀ i) (setsIn d mem₀ n) n mem₀ row refl g),
-    record { small = small; size = size; few = few; right = right; room = room; bits = e ∙ ap spread (held-bytes (2 ^ suc d) packed (packing d small) mem₀ n i g l (omega arith)); half = half },
+    record {
+      small = small;
+      size = size;
+      few = few;
+      right = right;
+      room = room;
+      bits = e ∙ ap spread
+          (held-bytes (2 ^ suc d) packed (packing d small) mem₀ n i g l (omega arith));
+      half = half;
+    },
   )
 
   module _ (count : ℕ) (present : List ℕ) (h a m : ℕ) (mem row : List ℕ) (z : Kept count present h a m mem row) (l : a < length row) where
@@ -128,11 +139,19 @@ module _ (d : ℕ) (maps firsts mem₀ : List ℕ) (i n : ℕ) where
       first = found ∙ ap (λ v. firstThat (sameSlot v m) m) (sym written)
 
       pub kept-old : (t ≡ m → ⊥) → (m′ : ℕ) (mem′ row′ : List ℕ) → mem′ ≡ w → row′ ≡ set row a t → m′ ≡ m → Kept count present h (a + 1) m′ mem′ row′
-      kept-old ne m′ mem′ row′ p q s = rw (p, q, s) (adding-old _ _ _ _ _ (z .0) l (packing d (z .1 .small)) (z .1 .room) (length-target a) w t w-is first ne, z .1)
+      kept-old ne m′ mem′ row′ p q s = rw (p, q, s) (
+        adding-old _ _ _ _ _ (z .0) l (packing d (z .1 .small)) (z .1 .room) (length-target a) w t w-is
+            first ne,
+        z .1,
+      )
 
       pub kept-new : t ≡ m → (m ≡ stateLimit → ⊥) → (m′ : ℕ) (mem′ row′ : List ℕ) → mem′ ≡ w → row′ ≡ set row a t → m′ ≡ m + 1
           → Kept count present h (a + 1) m′ mem′ row′
-      kept-new e ne m′ mem′ row′ p q s = rw (p, q, s) (adding-new _ _ _ _ _ (z .0) l (packing d (z .1 .small)) (z .1 .room) (length-target a) w t w-is first e ne, z .1)
+      kept-new e ne m′ mem′ row′ p q s = rw (p, q, s) (
+        adding-new _ _ _ _ _ (z .0) l (packing d (z .1 .small)) (z .1 .room) (length-target a) w t w-is
+            first e ne,
+        z .1,
+      )
 
       pub kept-over : t ≡ m → m ≡ stateLimit → (mem′ row′ : List ℕ)
           → Answers (2 ^ suc d) packed byMap (setIn d mem₀ i) (setsIn d mem₀ n) stateLimit count TooMany mem′ row′

@@ -43,7 +43,8 @@ module _ (pack : List Bool → List ℕ) (f : List Bool → ℕ → List Bool) (
           ap (λ t. take (n * setSize) mem ++ t)
           (ap (λ t. rest ++ t) (drop-of-length-le (drop (n * setSize) mem) {i = k} (omega (arith, tail))) ∙ append-nil rest ∙ cleared)
 
-      at : (l : Listing (List Bool)) → RanItems pack f steps width l mem rows → Found n ≡ exploredOf l → putMid (n * setSize) k mem rest ≡ padded m (itemsOf pack l)
+      at : (l : Listing (List Bool)) → RanItems pack f steps width l mem rows → Found n ≡ exploredOf l → putMid (n * setSize) k mem rest ≡ padded m
+          (itemsOf pack l)
       at (closed xs) r p =
           let z : n ≡ length xs = cc in
           let front : take (n * setSize) mem ≡ itemsOf pack (closed xs) = ap (λ j. take (j * setSize) mem) z ∙ r .0 in

@@ -27,14 +27,17 @@ array-share-prefix-text : tie.Need-array-share-prefix-text
 array-share-prefix-text c =
     let respond = c .before .before .before .before .before .before .respond in
     let n = c .before .n .given in
-    let inside = text-within (c .before .before .before .before .before .before .before .before .before .before .before .args .source .now) _ _ _ (respond .result) (respond .last .1 .1 .1 .0) (respond .ensures .0) (respond .ensures .1 .0) (n .0 .0) (n .1) in
+    let inside = text-within (c .before .before .before .before .before .before .before .before .before .before .before .args .source .now) _ _ _
+    (respond .result) (respond .last .1 .1 .1 .0) (respond .ensures .0) (respond .ensures .1 .0) (n .0 .0) (n .1) in
     omega (arith, respond .kept .1 .1 .1 .0)
 
 slice-aggregate-write-all : tie.Need-slice-aggregate-write-all
 slice-aggregate-write-all c =
     let respond = c .before .before .before .before .before .before .before .respond in
     let n = c .before .before .n .given in
-    sym (length-take-le (n .0 .0) (respond .last .1 .1 .1 .0) (text-within (c .before .before .before .before .before .before .before .before .before .before .before .before .args .source .now) _ _ _ (respond .result) (respond .last .1 .1 .1 .0) (respond .ensures .0) (respond .ensures .1 .0) (n .0 .0) (n .1)))
+    sym (length-take-le (n .0 .0) (respond .last .1 .1 .1 .0) (text-within
+    (c .before .before .before .before .before .before .before .before .before .before .before .before .args .source .now) _ _ _ (respond .result)
+    (respond .last .1 .1 .1 .0) (respond .ensures .0) (respond .ensures .1 .0) (n .0 .0) (n .1)))
 
 write-all-requires : tie.Need-write-all-requires
 write-all-requires c κs = search needs

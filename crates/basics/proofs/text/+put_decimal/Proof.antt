@@ -39,7 +39,8 @@ put-decimal-put-byte-requires t c κs =
 put-decimal-returns : (t : ℕ) → put-decimal-lts.Need-returns (put-decimal-told t) (put-decimal-at t) put-decimal.Post
 put-decimal-returns t c =
     let a = c .before .before .before .before .before .before .args in
-    put-same (a .at) _ _ (a .text .now) (decimal-small (a .n) (omega (arith, c .before .before .before .before .if1 .taken))) _ _ (c .before .before .put-byte .ensures)
+    put-same (a .at) _ _ (a .text .now) (decimal-small (a .n) (omega (arith, c .before .before .before .before .if1 .taken))) _ _
+    (c .before .before .put-byte .ensures)
 
 put-decimal-put-decimal-requires : (t : ℕ) → put-decimal-lts.Need-put-decimal-requires (put-decimal-told t) (put-decimal-at t) put-decimal.Post
 put-decimal-put-decimal-requires t c κs =

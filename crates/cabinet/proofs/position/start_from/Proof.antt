@@ -15,7 +15,8 @@ refuse-requires c κs = search needs
 returns : tie.Need-returns
 returns c =
     let a = c .before .before .before .before .args in
-    start-refused (a .table .now) (a .rows) (a .observed) (a .position) _ (c .before .before .is-standing .ensures) (c .before .if1 .taken) _ (c .refuse .ensures)
+    start-refused (a .table .now) (a .rows) (a .observed) (a .position) _ (c .before .before .is-standing .ensures) (c .before .if1 .taken) _
+    (c .refuse .ensures)
 
 move-to-requires : tie.Need-move-to-requires
 move-to-requires c κs =

@@ -14,14 +14,28 @@ use Rattle.cabinet.proofs.position.step_from.Lts as lts
 use Rattle.cabinet.proofs.position.step_from.Tie as tie
 
 -- past the first test
-standing : (c : lts.Else1 (is-standing-reads.Asked, is-standing-reads.Learnt, refuse-reads.Asked, refuse-reads.Learnt, move-to-reads.Asked, move-to-reads.Learnt) reads.Pre reads.Post)
+standing : (c : lts.Else1 (
+  is-standing-reads.Asked,
+  is-standing-reads.Learnt,
+  refuse-reads.Asked,
+  refuse-reads.Learnt,
+  move-to-reads.Asked,
+  move-to-reads.Learnt,
+) reads.Pre reads.Post)
     → let a = c .before .before .before .args in Stands (a .table .now) (a .rows) (a .observed) (a .position .row)
 standing c =
     let a = c .before .before .before .args in
     stands (a .table .now) (a .rows) (a .observed) (a .position .row) _ (c .before .is-standing .ensures) (c .if1 .left)
 
 -- past the first three
-going : (c : lts.Else3 (is-standing-reads.Asked, is-standing-reads.Learnt, refuse-reads.Asked, refuse-reads.Learnt, move-to-reads.Asked, move-to-reads.Learnt) reads.Pre reads.Post)
+going : (c : lts.Else3 (
+  is-standing-reads.Asked,
+  is-standing-reads.Learnt,
+  refuse-reads.Asked,
+  refuse-reads.Learnt,
+  move-to-reads.Asked,
+  move-to-reads.Learnt,
+) reads.Pre reads.Post)
     → let a = c .before .before .before .before .before .before .before .args in Goes (a .table .now) (a .rows) (a .observed) (a .position)
 going c = goes _ _ _ _ (standing (c .before .before .before .before)) (c .before .if2 .left) (c .if3 .left)
 

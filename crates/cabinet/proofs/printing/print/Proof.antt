@@ -16,7 +16,8 @@ is-printable-requires c κs = search needs
 returns-2 : tie.Need-returns-2
 returns-2 c =
     let a = c .before .before .before .before .before .args in
-    print-refused (a .table .now) (a .rows) (a .worst) (a .observed) (a .text .now) (c .before .before .if1 .left) _ (c .before .is-printable .ensures) (c .if2 .taken)
+    print-refused (a .table .now) (a .rows) (a .worst) (a .observed) (a .text .now) (c .before .before .if1 .left) _
+    (c .before .is-printable .ensures) (c .if2 .taken)
 
 put-table-requires : tie.Need-put-table-requires
 put-table-requires c κs =
@@ -32,7 +33,8 @@ returns-3 c =
     let p = c .before .before .put-table in
     let e = c .before .before .before .before .before in
     let a = e .before .before .before .before .args in
-    print-done (a .table .now) (a .rows) (a .worst) (a .observed) (a .text .now) (e .before .if1 .left) _ (e .is-printable .ensures) (c .before .before .before .before .if2 .left)
+    print-done (a .table .now) (a .rows) (a .worst) (a .observed) (a .text .now) (e .before .if1 .left) _ (e .is-printable .ensures)
+    (c .before .before .before .before .if2 .left)
     _ _ (p .ensures .0) (p .ensures .1)
 
 pub print-spec : {M : Type 1} → statement M

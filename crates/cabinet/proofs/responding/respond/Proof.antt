@@ -31,7 +31,8 @@ mul-print c =
     let a = i .before .before .before .before .before .args in
     let solve = v .solve in
     let n = c .before .rows .given in
-    let few = few-rows (a .source .now) (a .work .now) (a .table .now) (a .text .now) (i .if1 .left) (solve .result) (solve .last .1 .1 .0) (solve .last .1 .0) (solve .ensures .0) (solve .ensures .1 .0) (solve .ensures .1 .1 .0) (n .0 .0) (n .0 .1 .0) (n .1) (solve .ensures .1 .1 .1) in
+    let few = few-rows (a .source .now) (a .work .now) (a .table .now) (a .text .now) (i .if1 .left) (solve .result) (solve .last .1 .1 .0)
+    (solve .last .1 .0) (solve .ensures .0) (solve .ensures .1 .0) (solve .ensures .1 .1 .0) (n .0 .0) (n .0 .1 .0) (n .1) (solve .ensures .1 .1 .1) in
     omega arith
 
 slice-reshare-prefix-print : tie.Need-slice-reshare-prefix-print
@@ -41,7 +42,8 @@ slice-reshare-prefix-print c =
     let a = i .before .before .before .before .before .args in
     let solve = v .solve in
     let n = c .before .rows .given in
-    let inside = rows-within (a .source .now) (a .work .now) (a .table .now) (a .text .now) (i .if1 .left) (solve .result) (solve .last .1 .1 .0) (solve .last .1 .0) (solve .ensures .0) (solve .ensures .1 .0) (solve .ensures .1 .1 .0) (n .0 .0) (n .0 .1 .0) (n .1) (solve .ensures .1 .1 .1) in
+    let inside = rows-within (a .source .now) (a .work .now) (a .table .now) (a .text .now) (i .if1 .left) (solve .result) (solve .last .1 .1 .0)
+    (solve .last .1 .0) (solve .ensures .0) (solve .ensures .1 .0) (solve .ensures .1 .1 .0) (n .0 .0) (n .0 .1 .0) (n .1) (solve .ensures .1 .1 .1) in
     omega arith
 
 slice-aggregate-print : tie.Need-slice-aggregate-print
@@ -51,7 +53,9 @@ slice-aggregate-print c =
     let a = i .before .before .before .before .before .args in
     let solve = v .solve in
     let n = c .before .before .rows .given in
-    sym (length-take-le (n .0 .0 * rowSize) (solve .last .1 .1 .0) (rows-within (a .source .now) (a .work .now) (a .table .now) (a .text .now) (i .if1 .left) (solve .result) (solve .last .1 .1 .0) (solve .last .1 .0) (solve .ensures .0) (solve .ensures .1 .0) (solve .ensures .1 .1 .0) (n .0 .0) (n .0 .1 .0) (n .1) (solve .ensures .1 .1 .1)))
+    sym (length-take-le (n .0 .0 * rowSize) (solve .last .1 .1 .0) (rows-within (a .source .now) (a .work .now) (a .table .now) (a .text .now)
+    (i .if1 .left) (solve .result) (solve .last .1 .1 .0) (solve .last .1 .0) (solve .ensures .0) (solve .ensures .1 .0) (solve .ensures .1 .1 .0)
+    (n .0 .0) (n .0 .1 .0) (n .1) (solve .ensures .1 .1 .1)))
 
 observed-in-requires : tie.Need-observed-in-requires
 observed-in-requires c κs = search needs
@@ -86,7 +90,9 @@ returns-2 c =
     let n = c .before .before .before .before .before .before .before .rows .given in
     let print = c .before .before .print in
     let observed = c .before .before .before .before .observed-in in
-    let m = table-right (a .source .now) (a .work .now) (a .table .now) (a .text .now) (i .if1 .left) (solve .result) (solve .last .1 .1 .0) (solve .last .1 .0) (solve .ensures .0) (solve .ensures .1 .0) (solve .ensures .1 .1 .0) (n .0 .0) (n .0 .1 .0) (n .1) (solve .ensures .1 .1 .1) (observed .result) (observed .ensures) (print .result) (print .last .1 .1 .1 .1 .0) (print .ensures .0) (print .ensures .1) in
+    let m = table-right (a .source .now) (a .work .now) (a .table .now) (a .text .now) (i .if1 .left) (solve .result) (solve .last .1 .1 .0)
+    (solve .last .1 .0) (solve .ensures .0) (solve .ensures .1 .0) (solve .ensures .1 .1 .0) (n .0 .0) (n .0 .1 .0) (n .1)
+    (solve .ensures .1 .1 .1) (observed .result) (observed .ensures) (print .result) (print .last .1 .1 .1 .1 .0) (print .ensures .0) (print .ensures .1) in
     (m .0, (m .1, (m .2, m .3)))
 
 same-length-4 : tie.Need-same-length-4
@@ -106,7 +112,9 @@ returns-3 c =
     let solve = v .solve in
     let x = c .before .before .before .before .before .r .given in
     let put = c .before .before .put-refusal in
-    let m = refusal-right (a .source .now) (a .work .now) (a .table .now) (a .text .now) (i .if1 .left) (solve .result) (solve .last .1 .1 .0) (solve .last .1 .0) (solve .ensures .0) (solve .ensures .1 .0) (solve .ensures .1 .1 .0) (x .0 .0) (x .1) (Text (put .result)) (put .last .0) (ap Text (put .ensures .0)) (put .ensures .1) in
+    let m = refusal-right (a .source .now) (a .work .now) (a .table .now) (a .text .now) (i .if1 .left) (solve .result) (solve .last .1 .1 .0)
+    (solve .last .1 .0) (solve .ensures .0) (solve .ensures .1 .0) (solve .ensures .1 .1 .0) (x .0 .0) (x .1) (Text (put .result)) (put .last .0)
+    (ap Text (put .ensures .0)) (put .ensures .1) in
     (m .0, (m .1, (m .2, m .3)))
 
 pub respond-spec : {M : Type 1} → statement M

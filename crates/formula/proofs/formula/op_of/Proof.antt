@@ -67,7 +67,8 @@ returns-13 c =
     let e3 = e4 .before in
     let e2 = e3 .before in
     let e1 = e2 .before in
-    sym (opOf-other _ (e1 .if1 .left) (e2 .if2 .left) (e3 .if3 .left) (e4 .if4 .left) (e5 .if5 .left) (e6 .if6 .left) (e7 .if7 .left) (e8 .if8 .left) (e9 .if9 .left) (e10 .if10 .left) (e11 .if11 .left) (c .if12 .left))
+    sym (opOf-other _ (e1 .if1 .left) (e2 .if2 .left) (e3 .if3 .left) (e4 .if4 .left) (e5 .if5 .left) (e6 .if6 .left) (e7 .if7 .left) (e8 .if8 .left)
+    (e9 .if9 .left) (e10 .if10 .left) (e11 .if11 .left) (c .if12 .left))
 
 pub op-of-spec : {M : Type 1} → statement M
 op-of-spec =

@@ -14,8 +14,8 @@ enum-known-next c = search needs
 enum-told : tie.Need-enum-told
 enum-told c = search needs
 
-clear-cells-requires : tie.Need-clear-cells-requires
-clear-cells-requires c κs = search needs
+clear-words-requires : tie.Need-clear-words-requires
+clear-words-requires c κs = search needs
 
 same-length : tie.Need-same-length
 same-length c = search needs
@@ -26,7 +26,7 @@ returns c =
     let at-told = at-cleared .before .before in
     let at-read = at-told .before .before .before .before in
     formula-bad _ (at-read .read-level .ensures) (at-told .enum-told .given .1) (at-read .read-level .kept .1 .1 .1 .1 .1 .1 .0)
-    (at-cleared .clear-cells .ensures)
+    (at-cleared .clear-words .ensures)
 
 token-at-requires : tie.Need-token-at-requires
 token-at-requires c κs =
@@ -34,8 +34,8 @@ token-at-requires c κs =
     let at-read = at-next .before .before .before .before in
     span ltlf-laws _ 4 0 (omega arith) (at-read .read-level .ensures) (at-next .next .given .1) .high
 
-clear-cells-requires-2 : tie.Need-clear-cells-requires-2
-clear-cells-requires-2 c κs = search needs
+clear-words-requires-2 : tie.Need-clear-words-requires-2
+clear-words-requires-2 c κs = search needs
 
 same-length-2 : tie.Need-same-length-2
 same-length-2 c = search needs
@@ -48,7 +48,7 @@ returns-2 c =
     let at-next = at-token .before .before in
     let at-read = at-next .before .before .before .before in
     formula-more _ (at-read .read-level .ensures) (at-next .next .given .1) _ (at-token .token-at .ensures) (at-if .if1 .taken)
-    (at-read .read-level .kept .1 .1 .1 .1 .1 .1 .0) (at-cleared .clear-cells2 .ensures)
+    (at-read .read-level .kept .1 .1 .1 .1 .1 .1 .0) (at-cleared .clear-words2 .ensures)
 
 same-length-3 : tie.Need-same-length-3
 same-length-3 c = search needs
@@ -68,11 +68,11 @@ read-formula-spec =
     read-level-requires
     enum-known-next
     enum-told
-    clear-cells-requires
+    clear-words-requires
     same-length
     returns
     token-at-requires
-    clear-cells-requires-2
+    clear-words-requires-2
     same-length-2
     returns-2
     same-length-3

@@ -55,7 +55,8 @@ returns-3 c =
     let a = start .args in
     few-operators (a .cells .now) (a .line) (a .s) (a .parts .now)
     _ _ refl (at-temporals-in .before .before .with-joint .ensures) (at-temporals-in .before .if1 .left)
-    _ (at-temporals-in .temporals-in .ensures) (at-put-codes .before .before .if2 .left) _ _ (at-put-codes .put-codes .ensures) (c .before .before .join .ensures)
+    _ (at-temporals-in .temporals-in .ensures) (at-put-codes .before .before .if2 .left) _ _ (at-put-codes .put-codes .ensures)
+    (c .before .before .join .ensures)
 
 pub add-cells-spec : {M : Type 1} → statement M
 add-cells-spec =

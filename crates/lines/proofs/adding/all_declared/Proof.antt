@@ -61,7 +61,8 @@ returns-2 : tie.Need-returns-2 Inv-loop μ-loop
 returns-2 c =
     let l = c .before .before .before .before .before .before .loop in
     let t = c .before .before .before .before .before .token-at in
-    sym (l .inv .1 (c .before .before .before .before .before .before .before .before .before .before .args .s) ∙ declared-none _ _ (l .inv .0) _ (t .ensures) (c .before .before .before .before .if1 .left) _ _ (c .before .lookup .ensures) (c .before .before .before .if2 .taken) (c .if3 .taken))
+    sym (l .inv .1 (c .before .before .before .before .before .before .before .before .before .before .args .s) ∙ declared-none _ _ (l .inv .0) _
+    (t .ensures) (c .before .before .before .before .if1 .left) _ _ (c .before .lookup .ensures) (c .before .before .before .if2 .taken) (c .if3 .taken))
 
 loop-less : tie.Need-loop-less Inv-loop μ-loop
 loop-less c =
@@ -75,8 +76,12 @@ loop-again : tie.Need-loop-again Inv-loop μ-loop
 loop-again c =
     let l = c .before .before .before .before .before .before .loop in
     let t = c .before .before .before .before .before .token-at in
-    let i = c .before .lookup in
-    (tok-high ltlf-laws _ _ (l .inv .0) _ (t .ensures), λ s. l .inv .1 s ∙ declared-name _ _ (l .inv .0) _ (t .ensures) (c .before .before .before .before .if1 .left) _ _ (i .ensures) (c .before .before .before .if2 .taken) (index-below _ _ _ _ (i .ensures) (c .if3 .left)))
+    let i = c .before .lookup in (
+      tok-high ltlf-laws _ _ (l .inv .0) _ (t .ensures),
+      λ s. l .inv .1 s ∙ declared-name _ _ (l .inv .0) _ (t .ensures)
+          (c .before .before .before .before .if1 .left) _ _ (i .ensures) (c .before .before .before .if2 .taken)
+          (index-below _ _ _ _ (i .ensures) (c .if3 .left)),
+    )
 
 loop-less-2 : tie.Need-loop-less-2 Inv-loop μ-loop
 loop-less-2 c =
@@ -89,8 +94,11 @@ loop-less-2 c =
 loop-again-2 : tie.Need-loop-again-2 Inv-loop μ-loop
 loop-again-2 c =
     let l = c .before .before .before .loop in
-    let t = c .before .before .token-at in
-    (tok-high ltlf-laws _ _ (l .inv .0) _ (t .ensures), λ s. l .inv .1 s ∙ declared-other _ _ (l .inv .0) _ (t .ensures) (c .before .if1 .left) _ (c .if2 .left))
+    let t = c .before .before .token-at in (
+      tok-high ltlf-laws _ _ (l .inv .0) _ (t .ensures),
+      λ s. l .inv .1 s ∙ declared-other _ _ (l .inv .0) _ (t .ensures) (c .before .if1 .left) _
+          (c .if2 .left),
+    )
 
 pub all-declared-spec : {M : Type 1} → statement M
 all-declared-spec =

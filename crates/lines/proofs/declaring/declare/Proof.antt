@@ -40,7 +40,8 @@ returns-2 c =
     let at-is-name = at-if1 .before in
     let start = at-is-name .before .before .before .before in
     let a = start .args in
-    name-twice (a .source .now) (a .start) (a .end) (a .line) (a .kind) (a .s) (a .spans .now) (sym (at-is-name .is-name .ensures) ∙ not-false _ (at-if1 .if1 .left)) (at-lookup .lookup .result) (at-lookup .lookup .ensures) (c .if2 .taken)
+    name-twice (a .source .now) (a .start) (a .end) (a .line) (a .kind) (a .s) (a .spans .now)
+    (sym (at-is-name .is-name .ensures) ∙ not-false _ (at-if1 .if1 .left)) (at-lookup .lookup .result) (at-lookup .lookup .ensures) (c .if2 .taken)
 
 count-in-requires : tie.Need-count-in-requires
 count-in-requires c κs = search needs
@@ -57,7 +58,9 @@ returns-3 c =
     let at-is-name = at-if1 .before in
     let start = at-is-name .before .before .before .before in
     let a = start .args in
-    kind-full (a .source .now) (a .start) (a .end) (a .line) (a .kind) (a .s) (a .spans .now) (sym (at-is-name .is-name .ensures) ∙ not-false _ (at-if1 .if1 .left)) (at-lookup .lookup .result) (at-lookup .lookup .ensures) (at-if2 .if2 .left) (sym (at-count-in .count-in .ensures) ∙ c .if3 .taken)
+    kind-full (a .source .now) (a .start) (a .end) (a .line) (a .kind) (a .s) (a .spans .now)
+    (sym (at-is-name .is-name .ensures) ∙ not-false _ (at-if1 .if1 .left)) (at-lookup .lookup .result) (at-lookup .lookup .ensures)
+    (at-if2 .if2 .left) (sym (at-count-in .count-in .ensures) ∙ c .if3 .taken)
 
 add-if4 : tie.Need-add-if4
 add-if4 c = search needs
@@ -76,7 +79,9 @@ returns-4 c =
     let at-is-name = at-if1 .before in
     let start = at-is-name .before .before .before .before in
     let a = start .args in
-    all-full (a .source .now) (a .start) (a .end) (a .line) (a .kind) (a .s) (a .spans .now) (sym (at-is-name .is-name .ensures) ∙ not-false _ (at-if1 .if1 .left)) (at-lookup .lookup .result) (at-lookup .lookup .ensures) (at-if2 .if2 .left) (c .if4 .taken)
+    all-full (a .source .now) (a .start) (a .end) (a .line) (a .kind) (a .s) (a .spans .now)
+    (sym (at-is-name .is-name .ensures) ∙ not-false _ (at-if1 .if1 .left)) (at-lookup .lookup .result) (at-lookup .lookup .ensures)
+    (at-if2 .if2 .left) (c .if4 .taken)
 
 first-bit-requires : tie.Need-first-bit-requires
 first-bit-requires c κs = search needs
@@ -198,7 +203,11 @@ returns-5 c =
     let at-is-name = at-if1 .before in
     let start = at-is-name .before .before .before .before in
     let a = start .args in
-    new-signal (a .source .now) (a .start) (a .end) (a .line) (a .kind) (a .s) (a .spans .now) (sym (at-is-name .is-name .ensures) ∙ not-false _ (at-if1 .if1 .left)) (at-lookup .lookup .result) (at-lookup .lookup .ensures) (at-if2 .if2 .left) (λ e. at-if3 .if3 .left (at-count-in .count-in .ensures ∙ e)) (at-if4 .if4 .left) (c .more-signals .result) (c .more-signals .ensures) (at-first-bit .first-bit .result + at-count-in .count-in .result) (ap₂ _+_ (at-first-bit .first-bit .ensures) (at-count-in .count-in .ensures))
+    new-signal (a .source .now) (a .start) (a .end) (a .line) (a .kind) (a .s) (a .spans .now)
+    (sym (at-is-name .is-name .ensures) ∙ not-false _ (at-if1 .if1 .left)) (at-lookup .lookup .result) (at-lookup .lookup .ensures)
+    (at-if2 .if2 .left) (λ e. at-if3 .if3 .left (at-count-in .count-in .ensures ∙ e)) (at-if4 .if4 .left) (c .more-signals .result)
+    (c .more-signals .ensures) (at-first-bit .first-bit .result + at-count-in .count-in .result)
+    (ap₂ _+_ (at-first-bit .first-bit .ensures) (at-count-in .count-in .ensures))
 
 pub declare-spec : {M : Type 1} → statement M
 declare-spec =

@@ -55,7 +55,17 @@ returns-4 c =
     let at-same2 = at-if2 .before in
     let at-if1 = at-same2 .before .before in
     let at-same = at-if1 .before in
-    rw (← (at-same .same .ensures), at-if1 .if1 .left, ← (at-same2 .same2 .ensures), at-if2 .if2 .left, ← (at-same3 .same3 .ensures), at-if3 .if3 .left, ← (at-same4 .same4 .ensures), c .if4 .taken)
+    rw (
+      ← (at-same .same .ensures),
+      at-if1 .if1 .left,
+      ← (at-same2 .same2 .ensures),
+      at-if2 .if2 .left,
+      ← (at-same3 .same3 .ensures),
+      at-if3 .if3
+          .left,
+      ← (at-same4 .same4 .ensures),
+      c .if4 .taken,
+    )
 
 returns-5 : tie.Need-returns-5
 unfolding wordOf
@@ -67,7 +77,17 @@ returns-5 c =
     let at-same2 = at-if2 .before in
     let at-if1 = at-same2 .before .before in
     let at-same = at-if1 .before in
-    rw (← (at-same .same .ensures), at-if1 .if1 .left, ← (at-same2 .same2 .ensures), at-if2 .if2 .left, ← (at-same3 .same3 .ensures), at-if3 .if3 .left, ← (at-same4 .same4 .ensures), c .if4 .left)
+    rw (
+      ← (at-same .same .ensures),
+      at-if1 .if1 .left,
+      ← (at-same2 .same2 .ensures),
+      at-if2 .if2 .left,
+      ← (at-same3 .same3 .ensures),
+      at-if3 .if3
+          .left,
+      ← (at-same4 .same4 .ensures),
+      c .if4 .left,
+    )
 
 pub word-of-spec : {M : Type 1} → statement M
 word-of-spec =

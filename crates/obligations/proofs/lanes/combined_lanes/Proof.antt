@@ -39,10 +39,12 @@ returns-11 : tie.Need-returns-11
 returns-11 c = let f = c .before .before .fits in combines _ _ _ _ (c .enum-told11 .given .1) (ands (own (f .x .fits)) (nots (own (f .o .fits))))
 
 returns-12 : tie.Need-returns-12
-returns-12 c = let f = c .before .before .fits in combines _ _ _ _ (c .enum-told12 .given .1) (ors (own (f .y .fits)) (ands (own (f .x .fits)) (own (f .o .fits))))
+returns-12 c = let f = c .before .before .fits in combines _ _ _ _ (c .enum-told12 .given .1)
+    (ors (own (f .y .fits)) (ands (own (f .x .fits)) (own (f .o .fits))))
 
 returns-13 : tie.Need-returns-13
-returns-13 c = let f = c .before .before .fits in combines _ _ _ _ (c .enum-told13 .given .1) (ands (own (f .y .fits)) (ors (own (f .x .fits)) (nots (own (f .o .fits)))))
+returns-13 c = let f = c .before .before .fits in combines _ _ _ _ (c .enum-told13 .given .1)
+    (ands (own (f .y .fits)) (ors (own (f .x .fits)) (nots (own (f .o .fits)))))
 
 pub combined-lanes-spec : {M : Type 1} → statement M
 combined-lanes-spec =

@@ -34,7 +34,8 @@ cast-result c =
     record { fits = letter-fits k (c .pre .0) (c .pre .1 .0) (c .pre .1 .1 .0) (c .args .i) (c .pre .1 .1 .1) }
 
 returns : tie.Need-returns
-returns c = letter-code (counts (c .args .outputs) (c .args .observed) (c .args .hidden)) (c .pre .0) (c .pre .1 .0) (c .pre .1 .1 .0) (c .args .i) (c .pre .1 .1 .1)
+returns c = letter-code (counts (c .args .outputs) (c .args .observed) (c .args .hidden)) (c .pre .0) (c .pre .1 .0) (c .pre .1 .1 .0) (c .args .i)
+    (c .pre .1 .1 .1)
 
 pub letter-of-spec : {M : Type 1} → statement M
 letter-of-spec =

@@ -29,7 +29,8 @@ is-blank-requires c κs = search needs
 returns : tie.Need-returns Inv-loop μ-loop
 returns c =
     let a = c .before .before .before .before .before .before .args in
-    rows-fail (a .table .now) (a .rows) (a .observed) (c .before .before .before .before .loop .row) _ _ (c .before .before .is-row .ensures) (c .before .is-blank .ensures)
+    rows-fail (a .table .now) (a .rows) (a .observed) (c .before .before .before .before .loop .row) _ _ (c .before .before .is-row .ensures)
+    (c .before .is-blank .ensures)
     (c .before .before .before .loop-test .taken) (c .if1 .taken)
 
 add-row : tie.Need-add-row Inv-loop μ-loop
@@ -41,8 +42,11 @@ loop-less c = search needs
 loop-again : tie.Need-loop-again Inv-loop μ-loop
 loop-again c =
     let l = c .before .before .before .before .loop in
-    let a = c .before .before .before .before .before .before .args in
-    (omega arith, rows-more (a .table .now) (a .rows) (a .observed) (l .row) _ _ (c .before .before .is-row .ensures) (c .before .is-blank .ensures) (c .if1 .left) (l .inv .1))
+    let a = c .before .before .before .before .before .before .args in (
+      omega arith,
+      rows-more (a .table .now) (a .rows) (a .observed) (l .row) _ _ (c .before .before .is-row .ensures) (c .before .is-blank .ensures)
+          (c .if1 .left) (l .inv .1),
+    )
 
 returns-2 : tie.Need-returns-2 Inv-loop μ-loop
 returns-2 c =

@@ -53,8 +53,11 @@ loop-less c = search needs
 loop-again : tie.Need-loop-again Inv-loop μ-loop
 loop-again c =
     let l = c .before .before .before .loop in
-    let a = c .before .before .before .before .before .before .args in
-    (omega arith, blank-more (a .table .now) (a .observed) (a .row) _ (c .before .before .before .before .next-count .ensures) (l .s) (c .if1 .left) (l .inv .1))
+    let a = c .before .before .before .before .before .before .args in (
+      omega arith,
+      blank-more (a .table .now) (a .observed) (a .row) _ (c .before .before .before .before .next-count .ensures) (l .s) (c .if1 .left)
+          (l .inv .1),
+    )
 
 returns-2 : tie.Need-returns-2 Inv-loop μ-loop
 returns-2 c =

@@ -66,7 +66,8 @@ returns-2 c =
     let e = c .before .before .before .before .before .before .before in
     let a = e .before .before .before .args in
     row-fails (a .table .now) (a .rows) (a .observed) (a .row) _ (e .is-answer .ensures) (c .before .before .before .before .before .before .if1 .left)
-    _ (c .before .before .before .before .before .next-count .ensures) (c .before .before .before .before .loop .s) (c .before .before .before .loop-test .taken)
+    _ (c .before .before .before .before .before .next-count .ensures) (c .before .before .before .before .loop .s)
+    (c .before .before .before .loop-test .taken)
     _ (c .before .is-next .ensures) (c .if2 .taken)
 
 add-s : tie.Need-add-s Inv-loop μ-loop

@@ -50,7 +50,8 @@ put-field-requires c κs =
     let t = c .before .before in
     let s = t .before .before .before .before in
     let a = s .args in
-    let r = turn field (λ i. decimal (cell (a .table .now) (a .row) i)) (a .at) (a .n) (a .text .now) (s .pre .1 .1) _ (t .loop-test .taken) (t .before .loop .inv .2) in
+    let r = turn field (λ i. decimal (cell (a .table .now) (a .row) i)) (a .at) (a .n) (a .text .now) (s .pre .1 .1) _ (t .loop-test .taken)
+    (t .before .loop .inv .2) in
     r .room
 
 add-i : tie.Need-add-i Inv-loop μ-loop

@@ -26,7 +26,12 @@ put-line-requires : tie.Need-put-line-requires
 put-line-requires c κs =
     let number = c .before .before .before .number in
     let place = c .before .before .place in
-    omega (arith, words-fit (bytesOf "refused") (number .result) (place .result) (omega arith) (number .ok) (place .ok), c .before .before .before .before .before .pre)
+    omega (
+      arith,
+      words-fit (bytesOf "refused") (number .result) (place .result) (omega arith) (number .ok) (place .ok),
+      c .before .before .before
+          .before .before .pre,
+    )
 
 same-length : tie.Need-same-length
 same-length c = search needs
@@ -40,7 +45,8 @@ returns c =
     let s = l .before .before .before .before .before .before in
     let fits = words-fit (bytesOf "refused") (number .result) (place .result) (omega arith) (number .ok) (place .ok) in (
       l .put-line .ensures .0 ∙ ap length same,
-      l .put-line .ensures .1 ∙ put-front (line (bytesOf "refused") (decimal (number .result) ∷ decimal (place .result) ∷ [])) (s .args .text .now) (omega (arith, fits, s .pre)) ∙ ap (λ b. written b (s .args .text .now)) same,
+      l .put-line .ensures .1 ∙ put-front (line (bytesOf "refused") (decimal (number .result) ∷ decimal (place .result) ∷ [])) (s .args .text .now)
+          (omega (arith, fits, s .pre)) ∙ ap (λ b. written b (s .args .text .now)) same,
     )
 
 pub put-refusal-spec : {M : Type 1} → statement M

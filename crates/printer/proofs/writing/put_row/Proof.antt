@@ -28,8 +28,14 @@ put-moves-requires c κs =
     let n = c .before .before .before in
     let w = n .before .before .before .before in
     let s = w .before .before .before .before .before in
-    let a = s .args in
-    (s .pre .0, (s .pre .1 .0, room-3 (row-puts (a .table .now) (a .observed) (a .row) (a .at) (a .text .now) (s .pre .1 .1)) (w .put-bytes .ensures) (n .put-field .ensures)))
+    let a = s .args in (
+      s .pre .0,
+      (
+        s .pre .1 .0,
+        room-3 (row-puts (a .table .now) (a .observed) (a .row) (a .at) (a .text .now) (s .pre .1 .1)) (w .put-bytes .ensures)
+            (n .put-field .ensures),
+      ),
+    )
 
 put-byte-requires : tie.Need-put-byte-requires
 put-byte-requires c κs =
@@ -40,7 +46,8 @@ put-byte-requires c κs =
     let a = s .args in
     omega (
       arith,
-      room-4 (row-puts (a .table .now) (a .observed) (a .row) (a .at) (a .text .now) (s .pre .1 .1)) (w .put-bytes .ensures) (n .put-field .ensures) (m .put-moves .ensures),
+      room-4 (row-puts (a .table .now) (a .observed) (a .row) (a .at) (a .text .now) (s .pre .1 .1)) (w .put-bytes .ensures) (n .put-field .ensures)
+          (m .put-moves .ensures),
     )
 
 same-length : tie.Need-same-length
@@ -53,7 +60,8 @@ returns c =
     let w = n .before .before .before .before in
     let s = w .before .before .before .before .before in
     let a = s .args in
-    put-4 (row-puts (a .table .now) (a .observed) (a .row) (a .at) (a .text .now) (s .pre .1 .1)) (w .put-bytes .ensures) (n .put-field .ensures) (m .put-moves .ensures)
+    put-4 (row-puts (a .table .now) (a .observed) (a .row) (a .at) (a .text .now) (s .pre .1 .1)) (w .put-bytes .ensures) (n .put-field .ensures)
+    (m .put-moves .ensures)
     (c .before .before .put-byte .ensures)
 
 pub put-row-spec : {M : Type 1} → statement M

@@ -29,7 +29,8 @@ put-row-requires c κs =
     let t = c .before in
     let s = t .before .before .before .before in
     let a = s .args in
-    let r = turn (rowText (a .table .now) (a .observed)) (λ row. row) (a .at) (a .rows) (a .text .now) (s .pre .1 .1) _ (t .loop-test .taken) (t .before .loop .inv .2) in
+    let r = turn (rowText (a .table .now) (a .observed)) (λ row. row) (a .at) (a .rows) (a .text .now) (s .pre .1 .1) _ (t .loop-test .taken)
+    (t .before .loop .inv .2) in
     (s .pre .0, (omega (arith, s .pre .1 .0), r .room))
 
 add-row : tie.Need-add-row Inv-loop μ-loop

@@ -20,7 +20,8 @@ slice-aggregate-judge-source : tie.Need-slice-aggregate-judge-source
 slice-aggregate-judge-source c = sym (length-take-le 256 (c .before .before .before .before .before .args .work .now) (omega (arith, c .before .if1 .left)))
 
 judge-source-requires : tie.Need-judge-source-requires
-judge-source-requires c κs = rw (length-take-le 256 (c .before .before .before .before .before .args .work .now) (omega (arith, c .before .if1 .left))) (omega arith)
+judge-source-requires c κs = rw (length-take-le 256 (c .before .before .before .before .before .args .work .now)
+    (omega (arith, c .before .if1 .left))) (omega arith)
 
 clear-requires : tie.Need-clear-requires
 clear-requires c κs = search needs
@@ -35,7 +36,9 @@ returns-2 c =
     let at-if1 = at-judge-source .before .before in
     let start = at-if1 .before .before .before .before in
     let a = start .args in
-    let m = long-memory (a .source .now) (a .work .now) (a .trace .now) (at-if1 .if1 .left) (at-judge-source .judge-source .result) (at-judge-source .judge-source .ensures) _ (length-front (a .work .now) (at-judge-source .judge-source .last .1 .1 .0) 256 (at-judge-source .judge-source .kept .1 .1 .0)) in
+    let m = long-memory (a .source .now) (a .work .now) (a .trace .now) (at-if1 .if1 .left) (at-judge-source .judge-source .result)
+    (at-judge-source .judge-source .ensures) _ (length-front (a .work .now) (at-judge-source .judge-source .last .1 .1 .0) 256
+    (at-judge-source .judge-source .kept .1 .1 .0)) in
     (m .0, (at-clear .clear .ensures ∙ m .1, m .2))
 
 pub judge-spec : {M : Type 1} → statement M

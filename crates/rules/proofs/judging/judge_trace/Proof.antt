@@ -1,9 +1,10 @@
 -- `rules::judging::judge_trace` meets its contract, by those of `bad_step` and `holds_on`.
 -- Assumes nothing.
+use mathlib.Core.Bool.{cond}
 use borrow.Author.Needs.{needs}
 use mathlib.Core.Path.{sym, ap, _∙_}
 use Rattle.rules.specs.declared.judging.Verdict.the-variants.{True, False}
-use Rattle.rules.specs.Trace.{countsOf, pickVerdict}
+use Rattle.rules.specs.Trace.{countsOf}
 use Rattle.rules.proofs.TraceLaws.{verdict-length, verdict-step, verdict-judged}
 use Rattle.rules.proofs.judging.judge_trace.Statement.{statement}
 use Rattle.rules.proofs.judging.judge_trace.Tie as tie
@@ -38,7 +39,7 @@ returns-3 c =
     let a = start .args in
     sym (verdict-judged (countsOf (a .s)) (a .trace .now) _ _ _
     (at-bad-step .before .if1 .left) (at-bad-step .bad-step .ensures) (at-holds-on .before .before .if2 .left) (at-holds-on .holds-on .ensures .0)
-    ∙ ap (λ b. pickVerdict b True False) (c .if3 .taken))
+    ∙ ap (λ b. cond b True False) (c .if3 .taken))
 
 same-length-2 : tie.Need-same-length-2
 same-length-2 c = search needs
@@ -51,7 +52,7 @@ returns-4 c =
     let a = start .args in
     sym (verdict-judged (countsOf (a .s)) (a .trace .now) _ _ _
     (at-bad-step .before .if1 .left) (at-bad-step .bad-step .ensures) (at-holds-on .before .before .if2 .left) (at-holds-on .holds-on .ensures .0)
-    ∙ ap (λ b. pickVerdict b True False) (c .if3 .left))
+    ∙ ap (λ b. cond b True False) (c .if3 .left))
 
 pub judge-trace-spec : {M : Type 1} → statement M
 judge-trace-spec =

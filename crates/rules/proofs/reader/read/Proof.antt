@@ -16,8 +16,8 @@ enum-known-s c = search needs
 enum-known-r : tie.Need-enum-known-r
 enum-known-r c = search needs
 
-clear-codes-requires : tie.Need-clear-codes-requires
-clear-codes-requires c κs = search needs
+clear-words-requires : tie.Need-clear-words-requires
+clear-words-requires c κs = search needs
 
 same-length : tie.Need-same-length
 same-length c = search needs
@@ -43,7 +43,7 @@ returns-2 c =
     let done = at-read-source .read-source .ensures in
     let is = at-r .r .given .1 in
     let kept = at-read-source .read-source .kept .1 .0 in
-    (sym is ∙ done .0, c .before .before .clear-codes .ensures ∙ parts-refused (readProblem (a .source .now)) _ (done .0) (a .parts .now) _ is _ kept)
+    (sym is ∙ done .0, c .before .before .clear-words .ensures ∙ parts-refused (readProblem (a .source .now)) _ (done .0) (a .parts .now) _ is _ kept)
 
 pub read-spec : {M : Type 1} → statement M
 read-spec =
@@ -52,7 +52,7 @@ read-spec =
     read-source-requires
     enum-known-s
     enum-known-r
-    clear-codes-requires
+    clear-words-requires
     same-length
     returns
     same-length-2

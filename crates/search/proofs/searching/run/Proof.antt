@@ -24,7 +24,8 @@ use Rattle.search.proofs.searching.run.Tie as tie
 abbrev Inv-loop : tie.InvT-loop
 Inv-loop maps firsts d count mem₀ successors₀ n₀ i₀ mem successors n i =
     (length mem ≡ (stateLimit + 1) * setSize) × (length successors ≡ stateLimit * letterLimit)
-    × Turn (2 ^ suc d) packed (next d (mapIn maps firsts d)) (start d) stateLimit letterLimit count (reachableSets d (mapIn maps firsts d) (below count) stateLimit) mem successors n i
+    × Turn (2 ^ suc d) packed (next d (mapIn maps firsts d)) (start d) stateLimit letterLimit count
+    (reachableSets d (mapIn maps firsts d) (below count) stateLimit) mem successors n i
 
 abbrev μ-loop : tie.MeasureT-loop
 μ-loop maps firsts d count mem₀ successors₀ n₀ i₀ mem successors n i = stateLimit - i

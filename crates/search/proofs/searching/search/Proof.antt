@@ -74,8 +74,10 @@ same-length-2 c = search needs
 
 returns : tie.Need-returns
 returns c =
-    let a′ = c .before .before .before .before .before .before .before .before .before .before .before .before .before .before .before .before .before .before .args in
-    let p = c .before .before .before .before .before .before .before .before .before .before .before .before .before .before .before .before .before .before .pre in
+    let a′ = c .before .before .before .before .before .before .before .before .before .before .before .before .before .before .before .before .before
+    .before .args in
+    let p = c .before .before .before .before .before .before .before .before .before .before .before .before .before .before .before .before .before
+    .before .pre in
     let run = c .before .before .before .before .before .before .before .before .before .before .before .run in
     let n = c .before .before .before .before .before .n .given in
     let r = run in
@@ -107,7 +109,8 @@ same-length-4 c = search needs
 
 returns-2 : tie.Need-returns-2
 returns-2 c =
-    let a′ = c .before .before .before .before .before .before .before .before .before .before .before .before .before .before .before .before .before .before .before .before .before .args in
+    let a′ = c .before .before .before .before .before .before .before .before .before .before .before .before .before .before .before .before .before
+    .before .before .before .before .args in
     let run = c .before .before .before .before .before .before .before .before .before .before .before .before .before .before .run in
     let enum-told = c .before .before .before .before .before .before .before .before .enum-told in
     let r = run in
