@@ -35,7 +35,7 @@ unfolding cases size partsFrom partsOf partAt bottomUp resultAt fromBits member 
 accepted-right = refl
 
 -- how many states there are; 0 means more than the limit
-abbrev count : Listing PatternSet → ℕ
+abbrev pub count : Listing PatternSet → ℕ
 count (closed xs) = length xs
 count over = 0
 

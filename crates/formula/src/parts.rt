@@ -1,7 +1,7 @@
 // The parts of a formula, one number for each, read by value.
 ghost use mathlib.Core.Path.{_≡_};
 ghost use Prim.Native.Nat.{_<_};
-ghost use lib.ListN.{length, replicate};
+ghost use lib.ListN.{length};
 ghost use Rattle.formula.specs.Parts.{partAt, isTemporal, byteOf};
 ghost use Rattle.formula.specs.Codes.{partOf, partsIn};
 use crate::formula::Op;

@@ -1,19 +1,13 @@
 -- Cells stored one behind another. Assumes nothing.
-use Prim.Native.Nat.{ℕ, suc, _+_, _≤_}
-use native.Mathlib.Nat.{add-zero, add-suc, suc-add}
+use Prim.Native.Nat.{ℕ, _+_, _≤_}
 use native.Mathlib.Omega.{arith}
-use mathlib.Core.Path.{_≡_, refl, sym, ap, _∙_}
+use mathlib.Core.Path.{_≡_, refl, ap, _∙_}
 use mathlib.Core.List.{List, [], _∷_, _++_}
 use lib.ListN.{length, set, drop, length-append}
 use lib.Seq.{sets, sets-eq}
+use Rattle.basics.proofs.Stores.{sets-append}
 use Rattle.grammar.specs.declared.lex.Token.{Token}
 use Rattle.grammar.specs.Tree.{Tree, leaf, pre, bin, size, cell, oneSided, twoSided, cells}
-
--- entries stored behind others are stored with them
-pub sets-append {ℓ} : {A : Type ℓ} (l : List A) (i : ℕ) (a b : List A) → sets l i (a ++ b) ≡ sets (sets l i a) (i + length a) b
-sets-append l i [] b = ap (λ k. sets l k b) (sym (add-zero i))
-sets-append l i (x ∷ a) b = sets-append (set l i x) (suc i) a b
-    ∙ ap (λ k. sets (sets (set l i x) (suc i) a) k b) (suc-add i (length a) ∙ sym (add-suc i (length a)))
 
 module _ (val : Token → ℕ) where
   pub length-cells : (a : Tree) → length (cells val a) ≡ size a

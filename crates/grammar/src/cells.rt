@@ -1,7 +1,7 @@
 // Stores of cells: a cell is one number for a part of a formula.
 ghost use mathlib.Core.Path.{_≡_};
 ghost use Prim.Native.Nat.{_-_, _%_, _≤_, _<_};
-ghost use lib.ListN.{length, set, replicate};
+ghost use lib.ListN.{set};
 ghost use Rattle.grammar.specs.Tree.{cell, twoSided};
 
 // What stands beside the kind of an operator with one operand, and of one with two.

@@ -9,11 +9,11 @@ use basics::past;
 use basics::same;
 
 // The kinds of tokens; that of any other sign is its byte.
-pub(crate) const END: u8 = 0;
+pub const END: u8 = 0;
 
 const NO_TOKEN: u8 = 1;
 
-pub(crate) const NAME: u8 = 97;
+pub const NAME: u8 = 97;
 
 pub(crate) const TRUE: u8 = 116;
 

@@ -5,6 +5,8 @@ mod lex;
 mod names;
 mod phrase;
 
+pub use lex::END;
+pub use lex::NAME;
 pub use lex::token_at;
 pub use names::lookup;
 pub use phrase::Read;

@@ -10,7 +10,7 @@ use lib.Dec.{eqb}
 use lib.ListN.{length}
 use Rattle.grammar.specs.declared.lex.Token.{Token}
 use Rattle.basics.specs.Bytes.{between, sameBytes}
-use Rattle.grammar.specs.Lex.{tokenAt, tokens}
+use Rattle.grammar.specs.Lex.{tokenAt, tokens, nameKind}
 use Rattle.grammar.specs.Names.{Name, bits, indexOf, namesIn, leafValue}
 use Rattle.grammar.proofs.Spelt.{tokens-end, tokens-more, falls}
 use Rattle.lines.specs.Effect.{Signals, allDeclared}
@@ -35,7 +35,7 @@ index-below source spans name i e n = omega (arith, indexOf-le name (namesIn sou
 pub leaf-values : (names : List Name) (text : List ℕ) → length names ≡ bits → Values (leafValue names text)
 unfolding leafValue
 leaf-values names text e =
-    record { small = λ t. go (eqb (t .kind) 97) _ (indexOf-le (between text (t .from) (t .next)) names); constant = λ t e. rw e }
+    record { small = λ t. go (eqb (t .kind) nameKind) _ (indexOf-le (between text (t .from) (t .next)) names); constant = λ t e. rw e }
   where
     go : (b : Bool) (i : ℕ) → i ≤ length names → cond b i 0 < 256
     go true i h = omega arith
@@ -56,15 +56,15 @@ module _ (text : List ℕ) (at : ℕ) (h : at ≤ length text) (tok : Token) (it
     token-past = subst (λ (x : Token). at < x .next) (sym it) (falls text at h (λ z. f (ap (λ (x : Token). x .kind) it ∙ z)))
 
     module _ (g : Signals) where
-      pub declared-other : (tok .kind ≡ 97 → ⊥) → allDeclared g text (tokens text at) ≡ allDeclared g text (tokens text (tok .next))
+      pub declared-other : (tok .kind ≡ nameKind → ⊥) → allDeclared g text (tokens text at) ≡ allDeclared g text (tokens text (tok .next))
       unfolding allDeclared
-      declared-other n = rw (here, ne-eqb (tok .kind) 97 n)
+      declared-other n = rw (here, ne-eqb (tok .kind) nameKind n)
 
-      module _ (i : ℕ) (e : i ≡ indexOf (between text (tok .from) (tok .next)) (g .names)) (k : tok .kind ≡ 97) where
+      module _ (i : ℕ) (e : i ≡ indexOf (between text (tok .from) (tok .next)) (g .names)) (k : tok .kind ≡ nameKind) where
         pub declared-name : i < bits → allDeclared g text (tokens text at) ≡ allDeclared g text (tokens text (tok .next))
         unfolding allDeclared
-        declared-name l = rw (here, eq-eqb (tok .kind) 97 k, ← e, lt-ltb i bits l)
+        declared-name l = rw (here, eq-eqb (tok .kind) nameKind k, ← e, lt-ltb i bits l)
 
         pub declared-none : i ≡ bits → allDeclared g text (tokens text at) ≡ false
         unfolding allDeclared
-        declared-none b = rw (here, eq-eqb (tok .kind) 97 k, ← e, le-ltb i bits (omega arith))
+        declared-none b = rw (here, eq-eqb (tok .kind) nameKind k, ← e, le-ltb i bits (omega arith))

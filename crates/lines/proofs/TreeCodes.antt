@@ -6,6 +6,7 @@ use mathlib.Core.Path.{_≡_, refl, sym, subst, ap, ap₂, _∙_}
 use mathlib.Core.Bool.{true, false}
 use mathlib.Core.List.{List, [], _∷_, _++_, append-assoc, map-append}
 use lib.Dec.{eqb}
+use Rattle.grammar.specs.Lex.{nameKind}
 use Rattle.grammar.specs.declared.lex.Token.{Token}
 use Rattle.grammar.specs.Tree.{Tree, leaf, pre, bin, cell, oneSided, twoSided, cells}
 use Rattle.grammar.specs.Tree as tree
@@ -26,7 +27,7 @@ use Rattle.formula.proofs.TemporalCount.{temporals-from}
 record Nullary (k : ℕ) : Type 0 where
   byte : byteOf (opOf k) ≡ k
   sized : (b : ℕ) → size (build (opOf k) b False False) ≡ 1
-  parts : (b n : ℕ) → (eqb k 97 ≡ false → b ≡ 0) → partsFrom (build (opOf k) b False False) n ≡ onePart (opOf k) b 0
+  parts : (b n : ℕ) → (eqb k nameKind ≡ false → b ≡ 0) → partsFrom (build (opOf k) b False False) n ≡ onePart (opOf k) b 0
 
 record Unary (k : ℕ) : Type 0 where
   byte : byteOf (opOf k) ≡ k
@@ -78,7 +79,7 @@ known (grouped o c _ _ d) = known d
 -- the values of leaves are bytes, and only names have one
 pub record Values (val : Token → ℕ) : Type 0 where
   pub small : (t : Token) → val t < 256
-  pub constant : (t : Token) → eqb (t .kind) 97 ≡ false → val t ≡ 0
+  pub constant : (t : Token) → eqb (t .kind) nameKind ≡ false → val t ≡ 0
 
 kind-small : {k : ℕ} → byteOf (opOf k) ≡ k → k < 256
 kind-small {k} e = subst (λ n. n < 256) e (byte-small (opOf k))

@@ -2,14 +2,14 @@
 -- order.
 -- Assumes nothing.
 use Prim.Native.Nat.{ℕ, zero, suc, _+_}
-use mathlib.Core.Bool.{Bool, true, false, not, _&&_, _||_, cond}
+use mathlib.Core.Bool.{Bool, true, not, _&&_, _||_, cond}
 use mathlib.Core.Option.{none, some}
 use mathlib.Core.List.{List, [], _∷_}
 use lib.Dec.{eqb, ltb}
 use lib.ListN.{set, replicate}
 use Rattle.grammar.specs.declared.lex.Token.{Token}
 use Rattle.basics.specs.Bytes.{between}
-use Rattle.grammar.specs.Lex.{tokens}
+use Rattle.grammar.specs.Lex.{tokens, nameKind}
 use Rattle.grammar.specs.Tree.{Tree, leaf, pre, bin}
 use Rattle.grammar.specs.Parse.{Res, parseFormula}
 use Rattle.grammar.specs.Parse as parse
@@ -76,7 +76,7 @@ formulaOf val (bin t a b) = build (opOf (t .kind)) 0 (formulaOf val a) (formulaO
 -- every name among the tokens of a text is declared
 unfoldable pub allDeclared : Signals → List ℕ → List Token → Bool
 allDeclared g text [] = true
-allDeclared g text (t ∷ ts) = (not (eqb (t .kind) 97) || isDeclared g (between text (t .from) (t .next))) && allDeclared g text ts
+allDeclared g text (t ∷ ts) = (not (eqb (t .kind) nameKind) || isDeclared g (between text (t .from) (t .next))) && allDeclared g text ts
 
 -- the "and" that joins a formula to the n parts before it, if there are any, is one part
 abbrev pub joint : ℕ → ℕ

@@ -6,7 +6,7 @@ use mathlib.Core.List.{List, [], _∷_}
 use lib.Dec.{eqb, leb, ltb}
 use lib.ListN.{length, take, drop}
 use Rattle.basics.specs.Bytes.{notTab, run, bytesOf, sameBytes}
-use Rattle.grammar.specs.Lex.{tokenAt}
+use Rattle.grammar.specs.Lex.{tokenAt, nameKind}
 use Rattle.lines.specs.declared.problem.Kind.the-variants.{Output, Observed, Hidden}
 use Rattle.lines.specs.declared.problem.Word.{Word}
 use Rattle.lines.specs.declared.problem.Word.the-variants.{Declare, Rule, Unknown}
@@ -55,9 +55,9 @@ wordOf w =
 
 -- ---- the second field
 
--- a name: one token of the kind of names (97) and nothing else, not too long
+-- a name: one token of the kind of names and nothing else, not too long
 unfoldable pub isName : List ℕ → Bool
-isName s = eqb (tokenAt s 0 .kind) 97 && (eqb (tokenAt s 0 .from) 0 && (eqb (tokenAt s 0 .next) (length s) && leb (length s) nameLimit))
+isName s = eqb (tokenAt s 0 .kind) nameKind && (eqb (tokenAt s 0 .from) 0 && (eqb (tokenAt s 0 .next) (length s) && leb (length s) nameLimit))
 
 -- a formula's text: some bytes, not too many, and no tab
 unfoldable pub isText : List ℕ → Bool

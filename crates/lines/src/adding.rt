@@ -17,6 +17,8 @@ use crate::refusal::Refusal;
 use basics::Class;
 use basics::past;
 use formula::is_temporal;
+use grammar::END;
+use grammar::NAME;
 use grammar::Read;
 use grammar::lookup;
 use grammar::read_formula;
@@ -53,10 +55,10 @@ fn all_declared(source: &[u8], spans: &[usize], text: &[u8], s: Sizes) -> bool
         let kind = t.kind;
         let from = t.from;
         let next = t.next;
-        if kind == 0 {
+        if kind == END {
             return true;
         }
-        if kind == 97 {
+        if kind == NAME {
             if lookup(source, spans, &text[from..next]) == 12 {
                 return false;
             }

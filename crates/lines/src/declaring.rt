@@ -12,6 +12,7 @@ use crate::problem::Kind;
 use crate::problem::Reading;
 use crate::problem::Sizes;
 use crate::refusal::Refusal;
+use grammar::NAME;
 use grammar::lookup;
 use grammar::token_at;
 
@@ -22,7 +23,7 @@ fn is_name(name: &[u8]) -> bool
     let kind = t.kind;
     let from = t.from;
     let next = t.next;
-    if kind != 97 {
+    if kind != NAME {
         return false;
     }
     if from != 0 {

@@ -9,7 +9,7 @@ use lib.Dec.{eqb, leb}
 use lib.ListN.{length, set}
 use Rattle.grammar.specs.declared.lex.Token.{Token}
 use Rattle.basics.specs.Bytes.{between}
-use Rattle.grammar.specs.Lex.{tokenAt}
+use Rattle.grammar.specs.Lex.{tokenAt, nameKind}
 use Rattle.grammar.specs.Names.{bits, indexOf, namesIn}
 use Rattle.lines.specs.declared.refusal.Refusal.the-variants.{BadLine, NameTwice, TooManySignals}
 use Rattle.lines.specs.declared.problem.Kind.{Kind}
@@ -25,11 +25,11 @@ use Rattle.lines.specs.Memory.{signalsIn, countIn, moreSignals, readingA
 -- ---- a name
 
 module _ (name : List ℕ) (t : Token) (it : t ≡ tokenAt name 0) where
-  pub name-kind : (t .kind ≡ 97 → ⊥) → false ≡ isName name
+  pub name-kind : (t .kind ≡ nameKind → ⊥) → false ≡ isName name
   unfolding isName
   name-kind n = rw (← it, ne-eqb _ _ n)
 
-  module _ (k : t .kind ≡ 97) where
+  module _ (k : t .kind ≡ nameKind) where
     pub name-from : (t .from ≡ 0 → ⊥) → false ≡ isName name
     unfolding isName
     name-from n = rw (← it, eq-eqb _ _ k, ne-eqb _ _ n)
