@@ -5,5 +5,5 @@ pub mod OperatorBytes
 pub mod PartsLaws
 pub mod TemporalCount
 -- judging by parts, and parts in memory
-pub mod RowLaws
+pub mod EntriesLaws
 pub mod CodesLaws

@@ -1,2 +1,2 @@
 -- Laws of the loops beside the proofs of `formula::evaluate`.
-pub mod RowLoop
+pub mod EntryLoop

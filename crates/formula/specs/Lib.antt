@@ -4,5 +4,5 @@ pub mod Letter
 pub mod Formula
 pub mod Semantics
 pub mod Parts
-pub mod Row
+pub mod Entries
 pub mod Codes

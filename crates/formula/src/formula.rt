@@ -2,7 +2,7 @@
 ghost use mathlib.Core.Path.{_≡_};
 ghost use Rattle.basics.specs.Bits.{bit};
 ghost use Rattle.formula.specs.Parts.{opOf, isTemporal};
-ghost use Rattle.formula.specs.Row.{combine, owed, entry, entryBack};
+ghost use Rattle.formula.specs.Entries.{combine, owed, entry, entryBack};
 
 pub enum Op {
     Signal,

@@ -17,7 +17,7 @@ use Rattle.formula.specs.declared.formula.Op.the-variants as op
 use Rattle.basics.specs.Bits.{bit, fromBits}
 use Rattle.formula.specs.declared.parts.Part.{Part}
 use Rattle.formula.specs.Parts.{byteOf, isTemporal, lastOf, partAt, arity, bottomUp, resultAt}
-use Rattle.formula.specs.Row.{combine, owed}
+use Rattle.formula.specs.Entries.{combine, owed}
 use Rattle.obligations.specs.Obligation.{isOperator, operatorsOf, numberOf, spots, valueAt, owedAt, back}
 use Rattle.basics.proofs.BitsLaws.{bit-fromBits, fromBits-lt, bit-mod, bit-out}
 use Rattle.basics.proofs.ListsLaws.{getD-map-in, map-ext-in}

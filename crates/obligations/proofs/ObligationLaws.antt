@@ -9,7 +9,7 @@ use Rattle.formula.specs.declared.formula.Op.the-variants as op
 use Rattle.basics.specs.Bits.{bit}
 use Rattle.formula.specs.declared.parts.Part.{Part}
 use Rattle.formula.specs.Parts.{arity, partAt, Earlier}
-use Rattle.formula.specs.Row.{combine}
+use Rattle.formula.specs.Entries.{combine}
 use Rattle.formula.proofs.PartsLaws.{Reads, reads-none, reads-one, reads-both, getD-bottomUp, resultAt-last}
 use Rattle.obligations.specs.Obligation.{numberOf, valueAt}
 

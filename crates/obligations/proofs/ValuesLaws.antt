@@ -15,7 +15,7 @@ use Rattle.formula.specs.Codes.{partsIn}
 use Rattle.basics.specs.Lists.{tabulate}
 use Rattle.formula.specs.declared.parts.Part.{Part}
 use Rattle.formula.specs.Parts.{arity, partAt, Earlier}
-use Rattle.formula.specs.Row.{combine}
+use Rattle.formula.specs.Entries.{combine}
 use Rattle.basics.proofs.ListsLaws.{length-tabulate, getD-tabulate, tabulate-suc}
 use Rattle.obligations.specs.Obligation.{numberOf, valueAt}
 use Rattle.obligations.specs.Words.{allLanes, obligationLanes, combineLanes, valueLanes}

@@ -11,7 +11,7 @@ use lib.Pow.{shr-shr}
 use lib.Dec.{eqb}
 use Rattle.formula.specs.declared.formula.Op.{Op}
 use Rattle.basics.specs.Bits.{bit}
-use Rattle.formula.specs.Row.{combine, owed}
+use Rattle.formula.specs.Entries.{combine, owed}
 use Rattle.obligations.specs.Words.{lanes, allLanes, obligationLanes, combineLanes, owedLanes}
 use Rattle.basics.proofs.BitsLaws.{bit-low, bit-high, bit-zero, bit-mod, bit-table, table-lt, table-unique}
 

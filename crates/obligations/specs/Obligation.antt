@@ -10,7 +10,7 @@ use Rattle.basics.specs.Bits.{bit, digit, fromBits}
 use Rattle.formula.specs.Semantics.{Trace, orAtEnd, holds}
 use Rattle.formula.specs.declared.parts.Part.{Part}
 use Rattle.formula.specs.Parts.{byteOf, isTemporal, partAt, lastOf, resultAt, formulaAt}
-use Rattle.formula.specs.Row.{combine, owed}
+use Rattle.formula.specs.Entries.{combine, owed}
 
 -- part i is a temporal operator
 abbrev pub isOperator : List Part → ℕ → Bool

@@ -7,7 +7,7 @@ use Rattle.formula.specs.declared.formula.Op.{Op}
 use Rattle.basics.specs.Bits.{bit, fromBits}
 use Rattle.basics.specs.Lists.{tabulate}
 use Rattle.formula.specs.declared.parts.Part.{Part}
-use Rattle.formula.specs.Row.{combine, owed}
+use Rattle.formula.specs.Entries.{combine, owed}
 use Rattle.obligations.specs.Obligation.{valueAt, back}
 
 -- 64 answers as one number

@@ -22,7 +22,7 @@ use Rattle.formula.specs.Formula.{Formula}
 use Rattle.formula.specs.Semantics.{Trace, holds}
 use Rattle.formula.specs.Parts.{partsOf}
 use Rattle.formula.specs.Codes.{codeOf, codesOf, partsIn}
-use Rattle.formula.specs.Row.{judgedTrue}
+use Rattle.formula.specs.Entries.{judgedTrue}
 use Rattle.rules.specs.Problem.{Problem, Outcome, accepted, refused, readProblem}
 use Rattle.rules.specs.Denotes.{Denotes}
 use Rattle.rules.specs.Reading.{sizesOf, readingOf, partsOfOutcome}

@@ -21,10 +21,10 @@ use Rattle.lines.specs.Limits.{kindLimit}
 use Rattle.rules.specs.Limits.{traceLimit}
 use Rattle.formula.specs.Semantics.{Trace, holds}
 use Rattle.formula.specs.Parts.{partsOf}
-use Rattle.formula.specs.Row.{judgedTrue}
+use Rattle.formula.specs.Entries.{judgedTrue}
 use Rattle.rules.specs.Trace.{badStep, stepNumber, orBadStep, verdictOn}
 use Rattle.formula.specs.Letter.{Counts, isLetter}
-use Rattle.formula.proofs.RowLaws.{judged-holds}
+use Rattle.formula.proofs.EntriesLaws.{judged-holds}
 
 -- ---- a letter
 

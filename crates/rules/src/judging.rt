@@ -3,7 +3,7 @@ ghost use mathlib.Core.Path.{_≡_};
 ghost use Prim.Native.Nat.{_≤_, _<_};
 ghost use lib.ListN.{length};
 ghost use Rattle.formula.specs.Codes.{partsIn};
-ghost use Rattle.formula.specs.Row.{judgedTrue};
+ghost use Rattle.formula.specs.Entries.{judgedTrue};
 ghost use Rattle.lines.specs.Limits.{kindLimit};
 ghost use Rattle.rules.specs.Trace.{countsOf, badStep, stepNumber, verdictOn};
 ghost use Rattle.formula.specs.Letter.{isLetter};
@@ -56,13 +56,13 @@ const TRACE_LIMIT: usize = 1000;
 
 pub const WORK_SIZE: usize = 65536;
 
-// The verdict on a trace by a formula's parts; the row is room to work in.
-fn judge_trace(parts: &[u32], s: Sizes, trace: &[u16], row: &mut [u8]) -> Verdict
+// The verdict on a trace by a formula's parts; the entries are room to work in.
+fn judge_trace(parts: &[u32], s: Sizes, trace: &[u16], entries: &mut [u8]) -> Verdict
     requires { ⌜ 0 < length (now parts) ⌝ }
-    requires { ⌜ (length (now parts) ≤ length (now row)) × (256 ≤ length (now row)) ⌝ }
+    requires { ⌜ (length (now parts) ≤ length (now entries)) × (256 ≤ length (now entries)) ⌝ }
     requires { ⌜ (s .outputs ≤ kindLimit) × (s .observed ≤ kindLimit) × (s .hidden ≤ kindLimit) ⌝ }
     ensures { λ r. ⌜ r ≡ verdictOn (countsOf s) (now (trace .entry))
-        (judgedTrue (partsIn (now (parts .entry))) (length (now (row .entry))) (now (trace .entry))) ⌝ }
+        (judgedTrue (partsIn (now (parts .entry))) (length (now (entries .entry))) (now (trace .entry))) ⌝ }
 {
     let steps = trace.len();
     if (steps == 0) | (steps > TRACE_LIMIT) {
@@ -72,16 +72,16 @@ fn judge_trace(parts: &[u32], s: Sizes, trace: &[u16], row: &mut [u8]) -> Verdic
     if bad != 0 {
         return Verdict::Refused(Refusal::BadTrace(bad));
     }
-    if holds_on(parts, trace, row) {
+    if holds_on(parts, trace, entries) {
         Verdict::True
     } else {
         Verdict::False
     }
 }
 
-// The verdict on a trace by a problem's text; the row is room to work in.
-fn judge_source(source: &[u8], trace: &[u16], row: &mut [u8]) -> Verdict
-    requires { ⌜ 256 ≤ length (now row) ⌝ }
+// The verdict on a trace by a problem's text; the entries are room to work in.
+fn judge_source(source: &[u8], trace: &[u16], entries: &mut [u8]) -> Verdict
+    requires { ⌜ 256 ≤ length (now entries) ⌝ }
     ensures { λ r. ⌜ r ≡ judgedBy (readProblem (now (source .entry))) (now (trace .entry)) ⌝ }
 {
     let mut parts = [0u32; PART_LIMIT];
@@ -89,7 +89,7 @@ fn judge_source(source: &[u8], trace: &[u16], row: &mut [u8]) -> Verdict
         Reading::Refused(r) => Verdict::Refused(r),
         Reading::Accepted(s) => {
             let n = s.parts;
-            judge_trace(&parts[..n], s, trace, row)
+            judge_trace(&parts[..n], s, trace, entries)
         }
     }
 }

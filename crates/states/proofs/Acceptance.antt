@@ -13,10 +13,10 @@ use Rattle.formula.specs.Formula.{Formula}
 use Rattle.formula.specs.Semantics.{Trace, Sat, orAtEnd, holds}
 use Rattle.formula.specs.declared.parts.Part.{Part}
 use Rattle.formula.specs.Parts.{lastOf, partsOf, partAt, arity, build, formulaAt}
-use Rattle.formula.specs.Row.{owed}
+use Rattle.formula.specs.Entries.{owed}
 use Rattle.formula.proofs.Agreement.{holds-iff-Sat}
 use Rattle.formula.proofs.PartsLaws.{formulaAt-step, WellFormed, parts-formed, parts-formula, last-below}
-use Rattle.formula.proofs.RowLaws.{asks, holds-build}
+use Rattle.formula.proofs.EntriesLaws.{asks, holds-build}
 use Rattle.search.specs.PatternSet.{member, start, accepts}
 use Rattle.obligations.specs.Obligation.{isOperator, operatorsOf, numberOf, spots, valueAt, owedAt, back, dueAt, duePattern}
 use Rattle.states.specs.States.{startState, stateAfter}

@@ -14,7 +14,7 @@ use Rattle.basics.specs.Bits.{bit}
 use Rattle.formula.specs.Codes.{partsIn}
 use Rattle.formula.specs.declared.parts.Part.{Part}
 use Rattle.formula.specs.Parts.{partAt, lastOf}
-use Rattle.formula.specs.Row.{owed}
+use Rattle.formula.specs.Entries.{owed}
 use Rattle.formula.proofs.CodesLaws.{length-in}
 use Rattle.obligations.specs.Obligation.{isOperator, operatorsOf, spots, valueAt, owedAt, back}
 use Rattle.obligations.specs.Words.{lanes, owedLanes, valueLanes, backLanes}

@@ -1,14 +1,14 @@
--- `formula::evaluate::holds_on` meets its contract, by that of `row_at`.
+-- `formula::evaluate::holds_on` meets its contract, by that of `entries_at`.
 -- Assumes nothing.
 use borrow.Author.Needs.{needs}
 use mathlib.Core.Path.{_∙_}
 use lib.ListN.{length}
-use Rattle.formula.proofs.evaluate.RowLoop.{judged-last}
+use Rattle.formula.proofs.evaluate.EntryLoop.{judged-last}
 use Rattle.formula.proofs.evaluate.holds_on.Statement.{statement}
 use Rattle.formula.proofs.evaluate.holds_on.Tie as tie
 
-row-at-requires : tie.Need-row-at-requires
-row-at-requires c κs = search needs
+entries-at-requires : tie.Need-entries-at-requires
+entries-at-requires c κs = search needs
 
 sub-value-in : tie.Need-sub-value-in
 sub-value-in c = search needs
@@ -24,17 +24,17 @@ same-length c = search needs
 
 returns : tie.Need-returns
 returns c =
-    let at-row-at = c .before .before .before .before in
-    let start = at-row-at .before .before .before .before .before in
+    let at-entries-at = c .before .before .before .before in
+    let start = at-entries-at .before .before .before .before .before in
     let a = start .args in
-    let done = at-row-at .row-at .ensures in
-    (c .value-in .ensures ∙ judged-last (a .parts .now) (length (a .row .now)) (a .trace .now) _ (start .pre .0) done, done)
+    let done = at-entries-at .entries-at .ensures in
+    (c .value-in .ensures ∙ judged-last (a .parts .now) (length (a .entries .now)) (a .trace .now) _ (start .pre .0) done, done)
 
 pub holds-on-spec : {M : Type 1} → statement M
 holds-on-spec =
     tie.close
     (tie.spec
-    row-at-requires
+    entries-at-requires
     sub-value-in
     slice-read-value-in
     value-in-requires

@@ -1,7 +1,7 @@
 -- `formula::formula::entry_back` meets its contract, by those of the functions it calls.
 -- Assumes nothing.
 use borrow.Author.Needs.{needs}
-use Rattle.formula.proofs.evaluate.RowLoop.{entry-made}
+use Rattle.formula.proofs.evaluate.EntryLoop.{entry-made}
 use Rattle.formula.proofs.formula.entry_back.Statement.{statement}
 use Rattle.formula.proofs.formula.entry_back.Tie as tie
 

@@ -1,6 +1,5 @@
--- How a trace is judged: from its last step back to its first, a row of numbers has for each part its value at the present
--- step, in bit 0, and its obligation (document 01's term) about that step, in bit 1. Behind the last step nothing is owed,
--- and the row is all zero.
+-- How a trace is judged: from its last step back to its first, an entry for each part has its value at the present step, in bit 0,
+-- and its obligation (document 01's term) about that step, in bit 1. Behind the last step nothing is owed, and all entries are zero.
 -- Assumes nothing.
 use Prim.Native.Nat.{ℕ, zero, suc, _+_, _*_}
 use mathlib.Core.Bool.{Bool, true, false, not, _&&_, _||_}
@@ -54,20 +53,20 @@ entry v o = digit v + 2 * digit o
 abbrev pub entryBack : Op → Bool → ℕ → Bool → Bool → ℕ
 entryBack k s e x y = let v = combine k s (bit e 1) x y in entry v (owed k x v)
 
--- part q's entry for the step with letter a, from a row that has its entry n for the next step and its operands' for this one
+-- part q's entry for the step with letter a, from entries that have its own, entry n, for the next step and its operands' for this one
 abbrev pub partBack : Part → ℕ → ℕ → List ℕ → ℕ
 partBack q a n r = entryBack (q .kind) (bit a (q .left)) (getD r n 0) (bit (getD r (q .left) 0) 0) (bit (getD r (q .right) 0) 0)
 
--- the row with its first n entries taken one step back, to the step with letter a
-unfoldable pub rowBack : List Part → ℕ → ℕ → List ℕ → List ℕ
-rowBack ps a zero row = row
-rowBack ps a (suc n) row = let r = rowBack ps a n row in set r n (partBack (partAt ps n) a n r)
+-- the entries with the first n of them taken one step back, to the step with letter a
+unfoldable pub entriesBack : List Part → ℕ → ℕ → List ℕ → List ℕ
+entriesBack ps a zero entries = entries
+entriesBack ps a (suc n) entries = let r = entriesBack ps a n entries in set r n (partBack (partAt ps n) a n r)
 
--- the row of w entries at the first step of a trace
-unfoldable pub rowAt : List Part → ℕ → Trace → List ℕ
-rowAt ps w [] = replicate w 0
-rowAt ps w (a ∷ π) = rowBack ps a (length ps) (rowAt ps w π)
+-- w entries at the first step of a trace
+unfoldable pub entriesAt : List Part → ℕ → Trace → List ℕ
+entriesAt ps w [] = replicate w 0
+entriesAt ps w (a ∷ π) = entriesBack ps a (length ps) (entriesAt ps w π)
 
 -- whether the last part is true at the first step of a trace
 unfoldable pub judgedTrue : List Part → ℕ → Trace → Bool
-judgedTrue ps w π = bit (getD (rowAt ps w π) (lastOf ps) 0) 0
+judgedTrue ps w π = bit (getD (entriesAt ps w π) (lastOf ps) 0) 0

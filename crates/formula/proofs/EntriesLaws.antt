@@ -1,9 +1,9 @@
--- The row against the meaning of formulas: judging a trace by its parts says whether the formula is true of it.
+-- The entries against the meaning of formulas: judging a trace by its parts says whether the formula is true of it.
 -- Assumes nothing.
 use mathlib.Core.Path.{_≡_, refl, sym, ap, _∙_}
 use mathlib.Core.Bool.{Bool, true, false, not, _&&_, _||_, Bool·not-not}
 use Rattle.basics.specs.Bits.{bit}
-use Rattle.formula.specs.Row.{entry, combine, owed, entryBack, rowBack, rowAt, judgedTrue}
+use Rattle.formula.specs.Entries.{entry, combine, owed, entryBack, entriesBack, entriesAt, judgedTrue}
 use Prim.Native.Nat.{ℕ, zero, suc, _≤_, _<_}
 use native.Mathlib.Nat.{eq-or-lt-of-le, le-of-suc-le-suc}
 use native.Mathlib.Omega.{arith}
@@ -84,7 +84,7 @@ entryBack-reads op.Always s e = reads-one (λ x. entryBack op.Always s e x true)
 entryBack-reads op.Until s e = reads-both _
 entryBack-reads op.Release s e = reads-both _
 
--- ---- the entries of a row
+-- ---- entry by entry
 
 -- the entry of a part that is φ, with the left operand x: its value and its obligation about what is left of the trace
 abbrev entryOf : Op → Formula → Formula → Trace → ℕ
@@ -111,31 +111,31 @@ module _ (ps : List Part) (formed : WellFormed ps) where
   entryAt-value i a π =
       entry-value (holds (formulaAt ps i) (a ∷ π)) (asks (partAt ps i .kind) (formulaAt ps (partAt ps i .left)) (formulaAt ps i) (a ∷ π))
 
-  length-rowBack : (a n : ℕ) (row : List ℕ) → length (rowBack ps a n row) ≡ length row
-  unfolding rowBack
-  length-rowBack a zero row = refl
-  length-rowBack a (suc n) row = simp length-set (length-rowBack a n row)
+  length-entriesBack : (a n : ℕ) (entries : List ℕ) → length (entriesBack ps a n entries) ≡ length entries
+  unfolding entriesBack
+  length-entriesBack a zero entries = refl
+  length-entriesBack a (suc n) entries = simp length-set (length-entriesBack a n entries)
 
-  length-rowAt : (w : ℕ) (π : Trace) → length (rowAt ps w π) ≡ w
-  unfolding rowAt
-  length-rowAt w [] = length-replicate w 0
-  length-rowAt w (a ∷ π) = length-rowBack a (length ps) (rowAt ps w π) ∙ length-rowAt w π
+  length-entriesAt : (w : ℕ) (π : Trace) → length (entriesAt ps w π) ≡ w
+  unfolding entriesAt
+  length-entriesAt w [] = length-replicate w 0
+  length-entriesAt w (a ∷ π) = length-entriesBack a (length ps) (entriesAt ps w π) ∙ length-entriesAt w π
 
-  -- one step back, over a row that is right for the rest of the trace
-  module _ (a : ℕ) (π : Trace) (row : List ℕ) (fits : length ps ≤ length row)
-      (right : (i : ℕ) → i < length ps → getD row i 0 ≡ entryAt i π) where
+  -- one step back, over entries that are right for the rest of the trace
+  module _ (a : ℕ) (π : Trace) (entries : List ℕ) (fits : length ps ≤ length entries)
+      (right : (i : ℕ) → i < length ps → getD entries i 0 ≡ entryAt i π) where
     -- an entry that is still to come
-    back-later : (n i : ℕ) → n ≤ i → getD (rowBack ps a n row) i 0 ≡ getD row i 0
-    unfolding rowBack
+    back-later : (n i : ℕ) → n ≤ i → getD (entriesBack ps a n entries) i 0 ≡ getD entries i 0
+    unfolding entriesBack
     back-later zero i h = refl
-    back-later (suc n) i h = getD-set-other (rowBack ps a n row) n i _ 0 (λ e. absurd (omega arith)) ∙ back-later n i (omega arith)
+    back-later (suc n) i h = getD-set-other (entriesBack ps a n entries) n i _ 0 (λ e. absurd (omega arith)) ∙ back-later n i (omega arith)
 
     -- the next entry, from those before it
-    back-here : (n : ℕ) → n < length ps → ((i : ℕ) → i < n → getD (rowBack ps a n row) i 0 ≡ entryAt i (a ∷ π))
-        → getD (rowBack ps a (suc n) row) n 0 ≡ entryAt n (a ∷ π)
-    unfolding rowBack WellFormed
+    back-here : (n : ℕ) → n < length ps → ((i : ℕ) → i < n → getD (entriesBack ps a n entries) i 0 ≡ entryAt i (a ∷ π))
+        → getD (entriesBack ps a (suc n) entries) n 0 ≡ entryAt n (a ∷ π)
+    unfolding entriesBack WellFormed
     back-here n h before =
-        getD-set-same r n _ 0 (rw length-rowBack (omega arith))
+        getD-set-same r n _ 0 (rw length-entriesBack (omega arith))
         ∙ entryBack-reads (q .kind) (bit a (q .left)) (getD r n 0) _ _ _ _ (λ l. value (q .left) (e .left-earlier l))
         (λ l. value (q .right) (e .right-earlier l))
         ∙ ap (λ m. entryBack (q .kind) (bit a (q .left)) m (holds (formulaAt ps (q .left)) (a ∷ π)) (holds (formulaAt ps (q .right)) (a ∷ π)))
@@ -143,7 +143,7 @@ module _ (ps : List Part) (formed : WellFormed ps) where
         ∙ entry-step (q .kind) (q .left) (formulaAt ps (q .left)) (formulaAt ps (q .right)) (formulaAt ps n) a π (formulaAt-step ps n e)
       where
         r : List ℕ
-        r = rowBack ps a n row
+        r = entriesBack ps a n entries
 
         q : Part
         q = partAt ps n
@@ -154,20 +154,20 @@ module _ (ps : List Part) (formed : WellFormed ps) where
         value : (i : ℕ) → i < n → bit (getD r i 0) 0 ≡ holds (formulaAt ps i) (a ∷ π)
         value i l = ap (λ m. bit m 0) (before i l) ∙ entryAt-value i a π
 
-    back-right : (n : ℕ) → n ≤ length ps → (i : ℕ) → i < n → getD (rowBack ps a n row) i 0 ≡ entryAt i (a ∷ π)
-    unfolding rowBack
+    back-right : (n : ℕ) → n ≤ length ps → (i : ℕ) → i < n → getD (entriesBack ps a n entries) i 0 ≡ entryAt i (a ∷ π)
+    unfolding entriesBack
     back-right zero h i l = absurd (omega arith)
     back-right (suc n) h i l = at (eq-or-lt-of-le (le-of-suc-le-suc l)) (back-right n (omega arith))
       where
-        at : (i ≡ n) ⊎ (i < n) → ((j : ℕ) → j < n → getD (rowBack ps a n row) j 0 ≡ entryAt j (a ∷ π))
-            → getD (rowBack ps a (suc n) row) i 0 ≡ entryAt i (a ∷ π)
+        at : (i ≡ n) ⊎ (i < n) → ((j : ℕ) → j < n → getD (entriesBack ps a n entries) j 0 ≡ entryAt j (a ∷ π))
+            → getD (entriesBack ps a (suc n) entries) i 0 ≡ entryAt i (a ∷ π)
         at (inl e) before = rw e (back-here n h before)
-        at (inr k) before = getD-set-other (rowBack ps a n row) n i _ 0 (λ e. absurd (omega arith)) ∙ before i k
+        at (inr k) before = getD-set-other (entriesBack ps a n entries) n i _ 0 (λ e. absurd (omega arith)) ∙ before i k
 
-  row-right : (w : ℕ) → length ps ≤ w → (π : Trace) (i : ℕ) → i < length ps → getD (rowAt ps w π) i 0 ≡ entryAt i π
-  unfolding rowAt
-  row-right w f [] i h = getD-replicate w i 0 0 (omega arith)
-  row-right w f (a ∷ π) i h = back-right a π (rowAt ps w π) (rw length-rowAt f) (row-right w f π) (length ps) (omega arith) i h
+  entries-right : (w : ℕ) → length ps ≤ w → (π : Trace) (i : ℕ) → i < length ps → getD (entriesAt ps w π) i 0 ≡ entryAt i π
+  unfolding entriesAt
+  entries-right w f [] i h = getD-replicate w i 0 0 (omega arith)
+  entries-right w f (a ∷ π) i h = back-right a π (entriesAt ps w π) (rw length-entriesAt f) (entries-right w f π) (length ps) (omega arith) i h
 
 -- ---- the theorem
 
@@ -175,5 +175,5 @@ pub judged-holds : (φ : Formula) (w : ℕ) (π : Trace) → length (partsOf φ)
 unfolding judgedTrue
 judged-holds φ w [] f h = absurd (omega arith)
 judged-holds φ w (a ∷ π) f h =
-    ap (λ n. bit n 0) (row-right (partsOf φ) (parts-formed φ) w f (a ∷ π) (lastOf (partsOf φ)) (last-below φ))
+    ap (λ n. bit n 0) (entries-right (partsOf φ) (parts-formed φ) w f (a ∷ π) (lastOf (partsOf φ)) (last-below φ))
     ∙ entryAt-value (partsOf φ) (parts-formed φ) (lastOf (partsOf φ)) a π ∙ ap (λ ψ. holds ψ (a ∷ π)) (parts-formula φ)
