@@ -4,6 +4,7 @@ pub mod LexLaws
 pub mod Spelt
 pub mod NamesLaws
 pub mod TreeLaws
+pub mod CellsLaws
 -- the reader: its equations, and that it finds exactly what the grammar derives
 pub mod ReadsInside
 pub mod ParseLaws

@@ -1,6 +1,7 @@
 -- The text of a formula (a rule in document 01), from its bytes to a tree of tokens and its cells. In reading order:
 pub mod Lex
 pub mod Tree
+pub mod Cells
 pub mod Grammar
 pub mod Parse
 pub mod Names

@@ -1,7 +1,9 @@
-// Stores of cells: a cell is one number for a part of a formula.
+// Cells: one number for a part of a formula, which does not tell its place; and the numbers of parts, which do.
 ghost use mathlib.Core.Path.{_≡_};
-ghost use Prim.Native.Nat.{_-_, _%_, _≤_, _<_};
-ghost use lib.ListN.{set};
+ghost use Prim.Native.Nat.{_+_, _-_, _%_, _≤_, _<_};
+ghost use lib.ListN.{length, set};
+ghost use lib.Seq.{sets};
+ghost use Rattle.grammar.specs.Cells.{codeAt, codesFrom};
 ghost use Rattle.grammar.specs.Tree.{cell, twoSided};
 
 // What stands beside the kind of an operator with one operand, and of one with two.
@@ -31,4 +33,42 @@ pub(crate) fn put_two(cells: &mut [u32], n: usize, k: u8, c: usize)
     ensures { λ _. ⌜ now (cells .exit) ≡ set (now (cells .entry)) n (cell k (twoSided (n - c))) ⌝ }
 {
     put(cells, n, k, TWO_SIDED + ((n - c) % 256) as u32);
+}
+
+// The index that is s places before the last of n, 0 where there is none.
+fn index_before(n: usize, s: u32) -> u32
+    requires { ⌜ n ≤ 256 ⌝ }
+    ensures { λ r. ⌜ r ≡ n - 1 - s ⌝ }
+{
+    let m = n as u32;
+    if s < m { m - 1 - s } else { 0 }
+}
+
+// The number of part n from its cell.
+fn code_at(n: usize, cell: u32) -> u32
+    requires { ⌜ n ≤ 256 ⌝ }
+    ensures { λ r. ⌜ r ≡ codeAt n cell ⌝ }
+{
+    let kind = cell % 256;
+    let x = cell / 256;
+    if x < ONE_SIDED {
+        return cell;
+    }
+    let last = index_before(n, 0);
+    if x < TWO_SIDED {
+        return kind + 256 * last;
+    }
+    kind + 256 * index_before(n, x - TWO_SIDED) + 65536 * last
+}
+
+// Writes the numbers of the parts from n on.
+pub fn put_codes(cells: &[u32], n: usize, parts: &mut [u32])
+    requires { ⌜ (n + length (now cells) ≤ length (now parts)) × (length (now parts) ≤ 256) ⌝ }
+    ensures { λ _. ⌜ now (parts .exit) ≡ sets (now (parts .entry)) n (codesFrom n (now (cells .entry))) ⌝ }
+{
+    let mut i = 0;
+    while i < cells.len() {
+        parts[n + i] = code_at(n + i, cells[i]);
+        i += 1;
+    }
 }

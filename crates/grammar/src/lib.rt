@@ -5,6 +5,7 @@ mod lex;
 mod names;
 mod phrase;
 
+pub use cells::put_codes;
 pub use lex::END;
 pub use lex::NAME;
 pub use lex::token_at;

@@ -7,5 +7,5 @@ pub mod DeclaredNames
 pub mod SignalSpans
 -- from cells to the parts in memory
 pub mod MemoryLaws
-pub mod CellsLaws
+pub mod CellKinds
 pub mod TreeCodes

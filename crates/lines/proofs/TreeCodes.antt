@@ -17,9 +17,10 @@ use Rattle.formula.specs.Formula.{Formula, False, size, operators}
 use Rattle.formula.specs.Parts.{byteOf, opOf, temporals, onePart, unaryParts, binaryParts, partsFrom, build}
 use Rattle.formula.specs.Codes.{codeOf, codesOf}
 use Rattle.lines.specs.Effect.{formulaOf}
-use Rattle.lines.specs.Cells.{codeAt, codesFrom, kindsIn}
+use Rattle.grammar.specs.Cells.{codeAt, codesFrom, kindsIn}
 use Rattle.formula.proofs.CodesLaws.{byte-small, Held, Coded, held-one, held-unary, held-binary}
-use Rattle.lines.proofs.CellsLaws.{leaf-code, prefix-code, infix-code, codes-append, kinds-from, kinds-of}
+use Rattle.grammar.proofs.CellsLaws.{leaf-code, prefix-code, infix-code, codes-append}
+use Rattle.lines.proofs.CellKinds.{kinds-from, kinds-of}
 use Rattle.formula.proofs.TemporalCount.{temporals-from}
 
 -- ---- what a kind of token makes, by how many operands it takes

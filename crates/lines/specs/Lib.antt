@@ -3,5 +3,4 @@ pub mod Limits
 pub mod Refusal
 pub mod Lines
 pub mod Effect
-pub mod Cells
 pub mod Memory

@@ -2,14 +2,13 @@
 ghost use mathlib.Core.Path.{_≡_};
 ghost use Prim.Native.Nat.{_+_, _-_, _≤_, _<_};
 ghost use lib.ListN.{length};
-ghost use lib.Seq.{sets};
 ghost use Rattle.grammar.specs.Lex.{tokens};
 ghost use Rattle.grammar.specs.Names.{Spans};
 ghost use Rattle.formula.specs.Limits.{partLimit, operatorLimit};
 ghost use Rattle.formula.specs.Parts.{temporals};
 ghost use Rattle.lines.specs.Lines.{isText};
 ghost use Rattle.lines.specs.Effect.{joint, allDeclared, stateEffect};
-ghost use Rattle.lines.specs.Cells.{codeAt, codesFrom, kindsIn};
+ghost use Rattle.grammar.specs.Cells.{kindsIn};
 ghost use Rattle.lines.specs.Memory.{signalsIn, joinPart, storedFrom, readingAfter, partsAfter, cellsReading, cellsStored, Kept};
 use crate::problem::Reading;
 use crate::problem::Sizes;
@@ -21,6 +20,7 @@ use grammar::END;
 use grammar::NAME;
 use grammar::Read;
 use grammar::lookup;
+use grammar::put_codes;
 use grammar::read_formula;
 use grammar::token_at;
 
@@ -80,44 +80,6 @@ fn temporals_in(cells: &[u32]) -> usize
         i += 1;
     }
     n
-}
-
-// The index that is s places before the last of n, 0 where there is none.
-fn index_before(n: usize, s: u32) -> u32
-    requires { ⌜ n ≤ 256 ⌝ }
-    ensures { λ r. ⌜ r ≡ n - 1 - s ⌝ }
-{
-    let m = n as u32;
-    if s < m { m - 1 - s } else { 0 }
-}
-
-// The number of part n from its cell.
-fn code_at(n: usize, cell: u32) -> u32
-    requires { ⌜ n ≤ 256 ⌝ }
-    ensures { λ r. ⌜ r ≡ codeAt n cell ⌝ }
-{
-    let kind = cell % 256;
-    let x = cell / 256;
-    if x < 256 {
-        return cell;
-    }
-    let last = index_before(n, 0);
-    if x < 512 {
-        return kind + 256 * last;
-    }
-    kind + 256 * index_before(n, x - 512) + 65536 * last
-}
-
-// Writes the numbers of the parts from n on.
-fn put_codes(cells: &[u32], n: usize, parts: &mut [u32])
-    requires { ⌜ (n + length (now cells) ≤ length (now parts)) × (length (now parts) ≤ 256) ⌝ }
-    ensures { λ _. ⌜ now (parts .exit) ≡ sets (now (parts .entry)) n (codesFrom n (now (cells .entry))) ⌝ }
-{
-    let mut i = 0;
-    while i < cells.len() {
-        parts[n + i] = code_at(n + i, cells[i]);
-        i += 1;
-    }
 }
 
 // The count of parts with the "and" that joins a formula to the n parts before it.

@@ -34,10 +34,10 @@ use Rattle.formula.specs.Parts.{temporals, partsFrom}
 use Rattle.formula.specs.Codes.{codeOf, codesOf}
 use Rattle.lines.specs.Lines.{isText}
 use Rattle.lines.specs.Effect.{Signals, formulaOf, allDeclared, joint, isLarge, Effect, states, refuses, stateEffect}
-use Rattle.lines.specs.Cells.{codesFrom, kindsIn}
+use Rattle.grammar.specs.Cells.{codesFrom, kindsIn}
 use Rattle.lines.specs.Memory.{joinPart, storedFrom, moreParts, readingAfter, partsAfter, cellsReading, cellsStored}
 use Rattle.basics.proofs.Stores.{sets-append}
-use Rattle.lines.proofs.CellsLaws.{length-codes}
+use Rattle.grammar.proofs.CellsLaws.{length-codes}
 use Rattle.lines.proofs.TreeCodes.{size-formula, codes-formula, operators-formula}
 use Rattle.lines.proofs.SignalSpans.{length-names}
 use Rattle.lines.proofs.DeclaredNames.{leaf-values}

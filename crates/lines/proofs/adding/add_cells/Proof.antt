@@ -2,7 +2,7 @@
 -- Assumes nothing.
 use native.Mathlib.Omega.{arith}
 use mathlib.Core.Path.{refl}
-use Rattle.lines.proofs.CellsLaws.{temporals-few}
+use Rattle.lines.proofs.CellKinds.{temporals-few}
 use Rattle.lines.proofs.adding.AddFormula.{many-parts, many-operators, few-operators}
 use borrow.Author.Needs.{needs}
 use Rattle.lines.proofs.adding.add_cells.Statement.{statement}

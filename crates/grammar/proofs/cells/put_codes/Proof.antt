@@ -1,4 +1,4 @@
--- `lines::adding::put_codes` meets its contract. The invariant: the numbers of the cells passed are written.
+-- `grammar::cells::put_codes` meets its contract. The invariant: the numbers of the cells passed are written.
 -- Assumes nothing.
 use borrow.Author.Needs.{needs}
 use Prim.Native.Nat.{_+_, _≤_, _<_, _-_}
@@ -6,10 +6,10 @@ use native.Mathlib.Omega.{arith}
 use mathlib.Core.Path.{_≡_, refl, ap₂, _∙_}
 use lib.ListN.{length, take, set, length-set}
 use lib.Seq.{sets, take-length}
-use Rattle.lines.specs.Cells.{codesFrom}
-use Rattle.lines.proofs.CellsLaws.{codes-none, codes-more}
-use Rattle.lines.proofs.adding.put_codes.Statement.{statement}
-use Rattle.lines.proofs.adding.put_codes.Tie as tie
+use Rattle.grammar.specs.Cells.{codesFrom}
+use Rattle.grammar.proofs.CellsLaws.{codes-none, codes-more}
+use Rattle.grammar.proofs.cells.put_codes.Statement.{statement}
+use Rattle.grammar.proofs.cells.put_codes.Tie as tie
 
 abbrev Inv-loop : tie.InvT-loop
 Inv-loop cells n parts₀ i₀ parts i = (i ≤ length cells) × (length parts ≡ length parts₀) × (parts ≡ sets parts₀ n (codesFrom n (take i cells)))

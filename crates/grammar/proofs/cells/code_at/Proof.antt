@@ -1,9 +1,9 @@
--- `lines::adding::code_at` meets its contract.
+-- `grammar::cells::code_at` meets its contract.
 -- Assumes nothing.
-use Rattle.lines.proofs.CellsLaws.{made-leaf, made-prefix, made-infix}
+use Rattle.grammar.proofs.CellsLaws.{made-leaf, made-prefix, made-infix}
 use borrow.Author.Needs.{needs}
-use Rattle.lines.proofs.adding.code_at.Statement.{statement}
-use Rattle.lines.proofs.adding.code_at.Tie as tie
+use Rattle.grammar.proofs.cells.code_at.Statement.{statement}
+use Rattle.grammar.proofs.cells.code_at.Tie as tie
 
 returns : tie.Need-returns
 returns c = made-leaf _ _ (c .if1 .taken)

@@ -1,5 +1,4 @@
--- The numbers of a formula's parts from its cells, which the reader of its text leaves and which do not tell a part's place
--- (`grammar/specs/Tree.antt`).
+-- From cells, which do not tell a part's place, to the numbers of parts, which do: the kind lowest, then the left and the right number.
 -- Assumes nothing.
 use Prim.Native.Nat.{ℕ, suc, _+_, _-_, _*_, _/_, _%_}
 use mathlib.Core.Bool.{cond}
