@@ -10,6 +10,7 @@ pub use bytes::past;
 pub use bytes::same;
 pub use memory::clear;
 pub use memory::clear_words;
+pub use text::LINE_END;
 pub use text::put_byte;
 pub use text::put_bytes;
 pub use text::put_decimal;

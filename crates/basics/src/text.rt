@@ -10,7 +10,7 @@ ghost use Rattle.basics.specs.Text.{decimal, field, line};
 // Bytes that part fields, and end lines.
 const TAB: u8 = 9;
 
-const LINE_END: u8 = 10;
+pub const LINE_END: u8 = 10;
 
 // One byte.
 pub fn put_byte(text: &mut [u8], at: usize, b: u8) -> usize

@@ -1,2 +1,2 @@
--- Laws of the loops beside the proofs of `cabinet::position`.
+-- What the proofs of `cabinet::position` use.
 pub mod Walk

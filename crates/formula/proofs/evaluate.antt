@@ -1,2 +1,2 @@
--- Laws of the loops beside the proofs of `formula::evaluate`.
+-- What the proofs of `formula::evaluate` use.
 pub mod EntryLoop

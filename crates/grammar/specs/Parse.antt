@@ -1,4 +1,4 @@
--- The reader of a grammar: it finds the tree of a text. `proofs/Reading.antt` shows that it finds exactly what the grammar
+-- The reader of a grammar: it finds the tree of a text. `proofs/ReadIffDerived.antt` shows that it finds exactly what the grammar
 -- derives.
 -- Assumes nothing.
 use Prim.Native.Nat.{ℕ, zero, suc, _+_, _-_, _*_}

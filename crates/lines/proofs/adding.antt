@@ -1,4 +1,4 @@
--- Laws of the loops beside the proofs of `lines::adding`.
+-- What the proofs of `lines::adding` use.
 pub mod AddFormula
 pub mod Joint
 pub mod TextTest

@@ -1,2 +1,2 @@
--- Laws of the loops beside the proofs of `lines::declaring`.
+-- What the proofs of `lines::declaring` use.
 pub mod DeclareSignal

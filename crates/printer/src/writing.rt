@@ -10,6 +10,7 @@ ghost use Rattle.basics.specs.Lists.{written};
 ghost use Rattle.printer.specs.Limits.{textSize};
 ghost use Rattle.printer.specs.Text.{cellFields, rowFields, rowText, rowsText, tableText, refusalText};
 ghost use Rattle.basics.specs.Text.{field};
+use basics::LINE_END;
 use basics::put_byte;
 use basics::put_bytes;
 use basics::put_field;
@@ -50,9 +51,6 @@ fn put_moves(text: &mut [u8], at: usize, table: &[u16], observed: usize, row: us
     }
     put_cells(text, at, table, row, 1 + (1 << observed))
 }
-
-// The byte that ends a line.
-const LINE_END: u8 = 10;
 
 // A row's line.
 fn put_row(text: &mut [u8], at: usize, table: &[u16], observed: usize, row: usize) -> usize

@@ -1,5 +1,5 @@
 -- What a problem's text means by the written grammar: the formula that its rules derive, with no reader in between.
--- `proofs/Denotation.antt` shows that reading a problem finds exactly this, and hence that it is one.
+-- `proofs/DenotesLaws.antt` shows that reading a problem finds exactly this, and hence that it is one.
 -- Assumes nothing.
 use Prim.Native.Nat.{ℕ, _≤_}
 use mathlib.Core.Path.{_≡_}

@@ -1,3 +1,3 @@
--- Laws of the loops beside the proofs of `search::searching`.
+-- What the proofs of `search::searching` use.
 pub mod SearchEnd
 pub mod ExpandLoop

@@ -1,2 +1,2 @@
--- Laws of the loops beside the proofs of `search::sets`.
+-- What the proofs of `search::sets` use.
 pub mod SetLoops

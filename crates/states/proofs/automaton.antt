@@ -1,2 +1,2 @@
--- Laws of the loops beside the proofs of `states::automaton`.
+-- What the proofs of `states::automaton` use.
 pub mod Prepared

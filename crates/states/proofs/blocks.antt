@@ -1,2 +1,2 @@
--- Laws of the loops beside the proofs of `states::blocks`.
+-- What the proofs of `states::blocks` use.
 pub mod CarriedWords

@@ -1,2 +1,2 @@
--- Laws of the loops beside the proofs of `states::maps`.
+-- What the proofs of `states::maps` use.
 pub mod MapLoops

@@ -1,4 +1,4 @@
--- The cycle of calls that reads a phrase: a lemma of `Reader` for each way through a function. The measure is 8 times the
+-- The cycle of calls that reads a phrase: a lemma of `AnswerLaws` for each way through a function. The measure is 8 times the
 -- unread bytes, and the level. Assumes nothing.
 use Prim.Native.Nat.{_+_, _-_, _*_, ℕ, _<_}
 use lib.Dec.{eqb}

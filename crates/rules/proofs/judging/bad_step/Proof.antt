@@ -1,4 +1,4 @@
--- `rules::judge::bad_step` meets its contract. The invariant: the first bad step is that of the letters that are left.
+-- `rules::judging::bad_step` meets its contract. The invariant: the first bad step is that of the letters that are left.
 -- Assumes nothing.
 use borrow.Author.Needs.{needs}
 use Prim.Native.Nat.{_+_, _-_, _≤_, _<_}

@@ -1,4 +1,4 @@
--- `rules::judge::is_letter` meets its contract, field by field.
+-- `rules::judging::is_letter` meets its contract, field by field.
 -- Assumes nothing.
 use borrow.Author.Needs.{needs}
 use Rattle.rules.proofs.TraceLaws.{letter-test}

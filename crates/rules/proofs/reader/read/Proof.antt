@@ -1,4 +1,4 @@
--- `rules::lines::read` meets its contract, by that of `read_source`.
+-- `rules::reader::read` meets its contract, by that of `read_source`.
 -- Assumes nothing.
 use borrow.Author.Needs.{needs}
 use mathlib.Core.Path.{sym, _∙_}

@@ -1,4 +1,4 @@
--- `rules::lines::read_line` meets its contract: each return by the law of its word.
+-- `rules::reader::read_line` meets its contract: each return by the law of its word.
 -- Assumes nothing.
 use borrow.Author.Needs.{needs}
 use native.Mathlib.Omega.{arith}

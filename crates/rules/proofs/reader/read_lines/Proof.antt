@@ -1,4 +1,4 @@
--- `rules::lines::read_lines` meets its contract. The invariant is `Going`.
+-- `rules::reader::read_lines` meets its contract. The invariant is `Going`.
 -- Assumes nothing.
 use borrow.Author.Needs.{needs}
 use Prim.Native.Nat.{_-_}

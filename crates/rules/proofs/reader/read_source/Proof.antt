@@ -1,4 +1,4 @@
--- `rules::lines::read_source` meets its contract, by that of `read_lines`.
+-- `rules::reader::read_source` meets its contract, by that of `read_lines`.
 -- Assumes nothing.
 use borrow.Author.Needs.{needs}
 use native.Mathlib.Omega.{arith}

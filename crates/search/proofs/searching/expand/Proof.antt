@@ -1,4 +1,4 @@
--- `search::search::expand` meets its contract. The invariant: the memory holds the sets that the letters passed lead to, behind
+-- `search::searching::expand` meets its contract. The invariant: the memory holds the sets that the letters passed lead to, behind
 -- those that were there, and the row has their places.
 -- Assumes nothing.
 use Prim.Native.Nat.{_-_}

@@ -1,4 +1,4 @@
--- `search::search::half_of` meets its contract.
+-- `search::searching::half_of` meets its contract.
 -- Assumes nothing.
 use borrow.Author.Needs.{needs}
 use Rattle.search.proofs.HalfSets.{half-one, half-shift}

@@ -1,4 +1,4 @@
--- `search::search::put_set` meets its contract, by those of `put_next` and `find`.
+-- `search::searching::put_set` meets its contract, by those of `put_next` and `find`.
 -- Assumes nothing.
 use Prim.Native.Nat.{_+_, _*_, _≤_}
 use native.Mathlib.Omega.{arith}

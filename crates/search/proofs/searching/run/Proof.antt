@@ -1,4 +1,4 @@
--- `search::search::run` meets its contract. The invariant: the memory holds the sets found so far, and those read have their rows.
+-- `search::searching::run` meets its contract. The invariant: the memory holds the sets found so far, and those read have their rows.
 -- Assumes nothing.
 use Prim.Native.Nat.{suc, _+_, _-_, _*_, _^_}
 use native.Mathlib.Omega.{arith}

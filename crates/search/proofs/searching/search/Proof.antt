@@ -1,4 +1,4 @@
--- `search::search::search` meets its contract, by that of `run`: what `run` does not use it clears.
+-- `search::searching::search` meets its contract, by that of `run`: what `run` does not use it clears.
 -- Assumes nothing.
 use Prim.Native.Nat.{_*_, _≤_}
 use native.Mathlib.Omega.{arith}
