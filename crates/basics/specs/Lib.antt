@@ -1,4 +1,6 @@
 -- What belongs to no layer.
+-- sizes that several layers build on
+pub mod Limits
 -- lists, and statements as Booleans
 pub mod Lists
 pub mod Member

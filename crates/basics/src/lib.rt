@@ -2,6 +2,7 @@
 // bytes, lent memory, and numbers and lines of text, as code too. Every function here is proved, and the crate assumes nothing.
 mod bytes;
 mod memory;
+mod sizes;
 mod text;
 
 pub use bytes::Class;
@@ -10,6 +11,9 @@ pub use bytes::past;
 pub use bytes::same;
 pub use memory::clear;
 pub use memory::clear_words;
+pub use sizes::KIND_LIMIT;
+pub use sizes::OPERATOR_LIMIT;
+pub use sizes::SIGNAL_LIMIT;
 pub use text::LINE_END;
 pub use text::put_byte;
 pub use text::put_bytes;

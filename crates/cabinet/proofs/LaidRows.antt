@@ -11,7 +11,7 @@ use lib.Dec.{eqb, ltb}
 use lib.ListN.{length, take, length-take}
 use lib.Seq.{getD-take}
 use borrow.Author.Tests.{lt-ltb, ltb-false, le-leb, eqb-true, eq-eqb}
-use Rattle.lines.specs.Limits.{kindLimit}
+use Rattle.basics.specs.Limits.{kindLimit}
 use Rattle.play.specs.Limits.{beliefLimit, sideLimit, rowSize, stopCell}
 use Rattle.play.specs.Table.{cell, isStop, LaidRow, Laid}
 use Rattle.basics.proofs.BoundedLaws.{all-of}

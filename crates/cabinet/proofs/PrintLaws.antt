@@ -7,7 +7,7 @@ use mathlib.Core.Bool.{Bool, true, false, not}
 use mathlib.Core.List.{List}
 use lib.ListN.{length}
 use borrow.Author.Tests.{lt-ltb, le-ltb, not-true, not-false}
-use Rattle.lines.specs.Limits.{kindLimit}
+use Rattle.basics.specs.Limits.{kindLimit}
 use Rattle.lines.specs.declared.refusal.Refusal.the-variants.{ShortMemory, BadTable}
 use Rattle.play.specs.Limits.{rowSize}
 use Rattle.basics.specs.Lists.{written}

@@ -2,9 +2,6 @@
 -- Assumes nothing.
 use Prim.Native.Nat.{ℕ}
 
+-- parts
 abbrev pub partLimit : ℕ
 partLimit = 96
-
--- temporal operators
-abbrev pub operatorLimit : ℕ
-operatorLimit = 7

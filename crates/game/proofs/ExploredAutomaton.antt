@@ -12,7 +12,7 @@ use Rattle.basics.specs.Bits.{bit}
 use Rattle.formula.specs.declared.parts.Part.{Part}
 use Rattle.formula.specs.Letter.{Counts}
 use Rattle.basics.proofs.ListsLaws.{length-tabulate, getD-tabulate}
-use Rattle.lines.specs.Limits.{signalLimit}
+use Rattle.basics.specs.Limits.{signalLimit}
 use Rattle.formula.specs.Semantics.{Trace}
 use Rattle.search.specs.Limits.{stateLimit, letterLimit, setSize}
 use Rattle.obligations.specs.Letters.{letterCount, letterOf, lettersOf}

@@ -9,6 +9,7 @@ pub use cells::put_codes;
 pub use lex::END;
 pub use lex::NAME;
 pub use lex::token_at;
+pub use names::BITS;
 pub use names::lookup;
 pub use phrase::Read;
 pub use phrase::read_formula;

@@ -1,7 +1,7 @@
 -- What one line of a problem says: it declares a signal, states a formula, or is refused, with the tests of document 01 in their
 -- order.
 -- Assumes nothing.
-use Prim.Native.Nat.{ℕ, zero, suc, _+_}
+use Prim.Native.Nat.{ℕ, zero, suc, _+_, _*_}
 use mathlib.Core.Bool.{Bool, true, not, _&&_, _||_, cond}
 use mathlib.Core.Option.{none, some}
 use mathlib.Core.List.{List, [], _∷_}
@@ -20,8 +20,8 @@ use Rattle.lines.specs.declared.problem.Kind.{Kind}
 use Rattle.lines.specs.declared.problem.Kind.the-variants.{Output, Observed, Hidden}
 use Rattle.lines.specs.declared.problem.Word.{Word}
 use Rattle.lines.specs.declared.problem.Word.the-variants.{Declare, Rule, Unknown}
-use Rattle.lines.specs.Limits.{kindLimit, signalLimit}
-use Rattle.formula.specs.Limits.{partLimit, operatorLimit}
+use Rattle.basics.specs.Limits.{kindLimit, signalLimit, operatorLimit}
+use Rattle.formula.specs.Limits.{partLimit}
 use Rattle.formula.specs.Formula.{Formula, False, size, operators}
 use Rattle.formula.specs.Parts.{opOf, build}
 use Rattle.lines.specs.Lines.{hasTab, firstField, secondField, wordOf, isName, isText}
@@ -29,7 +29,7 @@ use Rattle.lines.specs.Lines.{hasTab, firstField, secondField, wordOf, i
 -- ---- signals
 
 -- how many signals of each kind are declared, and the name of the signal of each bit of a letter, empty where there is none:
--- output signals have the bits from 0 on, observed ones from 4, hidden ones from 8
+-- each kind has `kindLimit` bits, output signals the lowest and hidden ones the highest
 pub record Signals : Type 0 where
   pub outputs : ℕ
   pub observed : ℕ
@@ -46,8 +46,8 @@ count Hidden g = g .hidden
 
 abbrev pub firstBit : Kind → ℕ
 firstBit Output = 0
-firstBit Observed = 4
-firstBit Hidden = 8
+firstBit Observed = kindLimit
+firstBit Hidden = 2 * kindLimit
 
 -- one more signal, which gets the next bit of its kind
 abbrev pub withName : Kind → Name → Signals → List Name

@@ -9,10 +9,3 @@ textLimit = 240
 -- bytes of a name
 abbrev pub nameLimit : ℕ
 nameLimit = 12
-
--- signals of a kind, and in all
-abbrev pub kindLimit : ℕ
-kindLimit = 4
-
-abbrev pub signalLimit : ℕ
-signalLimit = 9

@@ -15,8 +15,8 @@ use Rattle.lines.specs.declared.problem.Kind.the-variants.{Output, Obser
 use Rattle.lines.specs.declared.problem.Sizes.{Sizes}
 use Rattle.lines.specs.declared.problem.Reading.{Reading}
 use Rattle.lines.specs.declared.problem.Reading.the-variants.{Accepted, Refused}
-use Rattle.lines.specs.Limits.{kindLimit}
-use Rattle.formula.specs.Limits.{partLimit, operatorLimit}
+use Rattle.basics.specs.Limits.{kindLimit, operatorLimit}
+use Rattle.formula.specs.Limits.{partLimit}
 use Rattle.lines.specs.Lines.{tabPlace}
 use Rattle.formula.specs.Formula.{Formula, size, operators}
 use Rattle.formula.specs.Parts.{partsFrom, temporals}

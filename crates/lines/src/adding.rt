@@ -4,7 +4,8 @@ ghost use Prim.Native.Nat.{_+_, _-_, _≤_, _<_};
 ghost use lib.ListN.{length};
 ghost use Rattle.grammar.specs.Lex.{tokens};
 ghost use Rattle.grammar.specs.Names.{Spans};
-ghost use Rattle.formula.specs.Limits.{partLimit, operatorLimit};
+ghost use Rattle.basics.specs.Limits.{operatorLimit};
+ghost use Rattle.formula.specs.Limits.{partLimit};
 ghost use Rattle.formula.specs.Parts.{temporals};
 ghost use Rattle.lines.specs.Lines.{isText};
 ghost use Rattle.lines.specs.Effect.{joint, allDeclared, stateEffect};
@@ -14,8 +15,10 @@ use crate::problem::Reading;
 use crate::problem::Sizes;
 use crate::refusal::Refusal;
 use basics::Class;
+use basics::OPERATOR_LIMIT;
 use basics::past;
 use formula::is_temporal;
+use grammar::BITS;
 use grammar::END;
 use grammar::NAME;
 use grammar::Read;
@@ -24,12 +27,10 @@ use grammar::put_codes;
 use grammar::read_formula;
 use grammar::token_at;
 
-// The most bytes of a formula's text, and the most parts and temporal operators of a problem.
+// The most bytes of a formula's text, and the most parts of a problem.
 const TEXT_LIMIT: usize = 240;
 
 pub const PART_LIMIT: usize = 96;
-
-const OPERATOR_LIMIT: usize = 7;
 
 // Whether a second field is a formula's text: some bytes, not too many, and no tab.
 fn is_text(text: &[u8]) -> bool
@@ -59,7 +60,7 @@ fn all_declared(source: &[u8], spans: &[usize], text: &[u8], s: Sizes) -> bool
             return true;
         }
         if kind == NAME {
-            if lookup(source, spans, &text[from..next]) == 12 {
+            if lookup(source, spans, &text[from..next]) == BITS {
                 return false;
             }
         }

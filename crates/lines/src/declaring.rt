@@ -4,7 +4,7 @@ ghost use Prim.Native.Nat.{_≤_};
 ghost use lib.ListN.{length};
 ghost use Rattle.basics.specs.Bytes.{between};
 ghost use Rattle.grammar.specs.Names.{Spans};
-ghost use Rattle.lines.specs.Limits.{kindLimit};
+ghost use Rattle.basics.specs.Limits.{kindLimit};
 ghost use Rattle.lines.specs.Lines.{isName};
 ghost use Rattle.lines.specs.Effect.{firstBit, declareEffect};
 ghost use Rattle.lines.specs.Memory.{signalsIn, countIn, moreSignals, readingAfter, spansAfter};
@@ -12,9 +12,15 @@ use crate::problem::Kind;
 use crate::problem::Reading;
 use crate::problem::Sizes;
 use crate::refusal::Refusal;
+use basics::KIND_LIMIT;
+use basics::SIGNAL_LIMIT;
+use grammar::BITS;
 use grammar::NAME;
 use grammar::lookup;
 use grammar::token_at;
+
+// The most bytes of a name.
+const NAME_LIMIT: usize = 12;
 
 fn is_name(name: &[u8]) -> bool
     ensures { λ r. ⌜ r ≡ isName (now (name .entry)) ⌝ }
@@ -32,7 +38,7 @@ fn is_name(name: &[u8]) -> bool
     if next != name.len() {
         return false;
     }
-    name.len() <= 12
+    name.len() <= NAME_LIMIT
 }
 
 fn count_in(kind: Kind, s: Sizes) -> usize
@@ -50,8 +56,8 @@ fn first_bit(kind: Kind) -> usize
 {
     match kind {
         Kind::Output => 0,
-        Kind::Observed => 4,
-        Kind::Hidden => 8,
+        Kind::Observed => KIND_LIMIT,
+        Kind::Hidden => 2 * KIND_LIMIT,
     }
 }
 
@@ -91,14 +97,14 @@ pub fn declare(
     if !is_name(name) {
         return Reading::Refused(Refusal::BadLine(line));
     }
-    if lookup(source, spans, name) < 12 {
+    if lookup(source, spans, name) < BITS {
         return Reading::Refused(Refusal::NameTwice(line));
     }
     let n = count_in(kind, s);
-    if n == 4 {
+    if n == KIND_LIMIT {
         return Reading::Refused(Refusal::TooManySignals(line));
     }
-    if s.outputs + s.observed + s.hidden == 9 {
+    if s.outputs + s.observed + s.hidden == SIGNAL_LIMIT {
         return Reading::Refused(Refusal::TooManySignals(line));
     }
     let b = first_bit(kind) + n;

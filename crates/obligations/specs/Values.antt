@@ -6,7 +6,8 @@ use lib.ListN.{length, getD}
 use lib.Seq.{sets}
 use Rattle.basics.specs.Bits.{bit}
 use Rattle.formula.specs.Codes.{partsIn}
-use Rattle.formula.specs.Limits.{partLimit, operatorLimit}
+use Rattle.basics.specs.Limits.{operatorLimit}
+use Rattle.formula.specs.Limits.{partLimit}
 use Rattle.basics.specs.Lists.{tabulate}
 use Rattle.formula.specs.declared.parts.Part.{Part}
 use Rattle.formula.specs.Parts.{partAt, Earlier}

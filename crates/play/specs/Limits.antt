@@ -1,20 +1,21 @@
 -- The sizes of document 01 that concern the game and its table.
 -- Assumes nothing.
-use Prim.Native.Nat.{ℕ, _+_, _*_}
+use Prim.Native.Nat.{ℕ, _+_, _*_, _^_}
+use Rattle.basics.specs.Limits.{kindLimit}
 
 -- the most beliefs
 abbrev pub beliefLimit : ℕ
 beliefLimit = 256
 
--- the most choices, and the most observations: those of four signals
+-- the most choices, and the most observations: the values of the signals of one kind
 abbrev pub sideLimit : ℕ
-sideLimit = 16
+sideLimit = 2 ^ kindLimit
 
 -- the most pairs of a choice and an observation
 abbrev pub pairLimit : ℕ
 pairLimit = sideLimit * sideLimit
 
--- a row of a table is 17 cells: its choice, or 65535 for stop; then the next row for observations 0 to 15, unused cells 0
+-- cells of a row of a table: its choice, or 65535 for stop; then the next row for each observation, unused cells 0
 abbrev pub rowSize : ℕ
 rowSize = sideLimit + 1
 

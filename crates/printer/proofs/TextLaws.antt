@@ -10,7 +10,7 @@ use lib.Dec.{ltb}
 use lib.ListN.{length, getD, length-append}
 use borrow.Author.Tests.{ltb-true}
 use Rattle.basics.specs.Bytes.{bytesOf}
-use Rattle.lines.specs.Limits.{kindLimit}
+use Rattle.basics.specs.Limits.{kindLimit}
 use Rattle.play.specs.Limits.{beliefLimit, sideLimit, rowSize, stopCell}
 use Rattle.play.specs.Table.{cell, isStop}
 use Rattle.printer.specs.Limits.{textSize}

@@ -11,7 +11,7 @@ use lib.Dec.{eqb, leb, ltb}
 use lib.ListN.{getD, length}
 use lib.Pow.{pow-mono}
 use borrow.Author.Tests.{ltb-true, ltb-false, leb-true, leb-false, eqb-true, eqb-false, lt-ltb, le-ltb, le-leb, lt-leb, eq-eqb, ne-eqb, not-true, not-false}
-use Rattle.lines.specs.Limits.{kindLimit}
+use Rattle.basics.specs.Limits.{kindLimit}
 use Rattle.basics.proofs.BitsLaws.{shl-one}
 use Rattle.play.specs.Limits.{beliefLimit, sideLimit, rowSize, stopCell}
 use Rattle.basics.specs.Bounded.{all}

@@ -5,7 +5,7 @@ use mathlib.Core.Bool.{Bool, cond, _&&_, _||_}
 use mathlib.Core.List.{List}
 use lib.Dec.{eqb, leb, ltb}
 use lib.ListN.{length}
-use Rattle.lines.specs.Limits.{kindLimit}
+use Rattle.basics.specs.Limits.{kindLimit}
 use Rattle.play.specs.Limits.{beliefLimit, sideLimit, rowSize, stopCell}
 use Rattle.basics.specs.Bounded.{all}
 use Rattle.play.specs.Table.{cell, isStop}

@@ -2,11 +2,11 @@
 ghost use mathlib.Core.Path.{_≡_};
 ghost use Prim.Native.Nat.{_+_, _*_, _≤_, _<_};
 ghost use lib.ListN.{length};
-ghost use Rattle.lines.specs.Limits.{kindLimit};
+ghost use Rattle.basics.specs.Limits.{kindLimit};
 ghost use Rattle.play.specs.Limits.{rowSize};
 ghost use Rattle.basics.specs.Bounded.{all};
 ghost use Rattle.printer.specs.WellFormed.{isSized, isAnswer, isNext, nextCount, isRow, isBlank, isPrintableRow, isPrintable};
-use crate::sizes::OBSERVED_LIMIT;
+use basics::KIND_LIMIT;
 use tables::BELIEF_LIMIT;
 use tables::ROW;
 use tables::SIDE_LIMIT;
@@ -19,7 +19,7 @@ pub fn is_sized(cells: usize, rows: usize, observed: usize) -> bool
     if (rows == 0) | (rows > BELIEF_LIMIT) {
         return false;
     }
-    (rows * ROW <= cells) & (observed <= OBSERVED_LIMIT)
+    (rows * ROW <= cells) & (observed <= KIND_LIMIT)
 }
 
 // Whether a cell holds a choice, or stop.

@@ -4,7 +4,7 @@ ghost use mathlib.Core.List.{flatMap};
 ghost use Prim.Native.Nat.{_+_, _*_, _≤_, _<_};
 ghost use lib.ListN.{length};
 ghost use lib.Seq.{sets};
-ghost use Rattle.lines.specs.Limits.{kindLimit};
+ghost use Rattle.basics.specs.Limits.{kindLimit};
 ghost use Rattle.play.specs.Limits.{rowSize};
 ghost use Rattle.basics.specs.Lists.{written};
 ghost use Rattle.printer.specs.Limits.{textSize};

@@ -15,7 +15,7 @@ use Rattle.lines.specs.declared.problem.Reading.{Reading}
 use Rattle.lines.specs.declared.problem.Reading.the-variants as reading
 use Rattle.rules.specs.declared.judging.Verdict.{Verdict}
 use Rattle.rules.specs.declared.judging.Verdict.the-variants.{True, False, Refused}
-use Rattle.lines.specs.Limits.{kindLimit}
+use Rattle.basics.specs.Limits.{kindLimit}
 use Rattle.formula.specs.Limits.{partLimit}
 use Rattle.rules.specs.Limits.{traceLimit, workSize}
 use Rattle.formula.specs.Formula.{Formula}

@@ -19,9 +19,9 @@ use Rattle.lines.specs.declared.problem.Kind.the-variants.{Output, Observed, Hi
 use Rattle.lines.specs.declared.problem.Sizes.{Sizes}
 use Rattle.lines.specs.declared.problem.Reading.{Reading}
 use Rattle.lines.specs.declared.problem.Reading.the-variants.{Accepted, Refused}
-use Rattle.lines.specs.Limits.{kindLimit}
+use Rattle.basics.specs.Limits.{kindLimit, operatorLimit}
 use Rattle.rules.specs.Limits.{sourceLimit}
-use Rattle.formula.specs.Limits.{partLimit, operatorLimit}
+use Rattle.formula.specs.Limits.{partLimit}
 use Rattle.formula.specs.Formula.{Formula, size, operators}
 use Rattle.lines.specs.Lines.{lines, tabPlace, hasTab}
 use Rattle.rules.specs.Problem.{sizeIn, operatorsIn, Draft, Outcome, accepted, refused, finish, withDeclared, withFormula, after, readLines, blank, readProblem}

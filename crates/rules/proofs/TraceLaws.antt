@@ -17,7 +17,7 @@ use Rattle.rules.specs.declared.judging.Verdict.{Verdict}
 use Rattle.rules.specs.declared.judging.Verdict.the-variants.{True, False, Refused}
 use Rattle.lines.specs.declared.refusal.Refusal.the-variants.{BadTrace}
 use Rattle.formula.specs.Formula.{Formula}
-use Rattle.lines.specs.Limits.{kindLimit}
+use Rattle.basics.specs.Limits.{kindLimit}
 use Rattle.rules.specs.Limits.{traceLimit}
 use Rattle.formula.specs.Semantics.{Trace, holds}
 use Rattle.formula.specs.Parts.{partsOf}

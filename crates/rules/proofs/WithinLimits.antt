@@ -13,8 +13,8 @@ use Rattle.grammar.specs.Names.{bits}
 use Rattle.formula.specs.declared.formula.Op.the-variants as op
 use Rattle.lines.specs.declared.problem.Kind.{Kind}
 use Rattle.lines.specs.declared.problem.Kind.the-variants.{Output, Observed, Hidden}
-use Rattle.lines.specs.Limits.{kindLimit, signalLimit}
-use Rattle.formula.specs.Limits.{partLimit, operatorLimit}
+use Rattle.basics.specs.Limits.{kindLimit, signalLimit, operatorLimit}
+use Rattle.formula.specs.Limits.{partLimit}
 use Rattle.formula.specs.Formula.{Formula, size, operators}
 use Rattle.formula.specs.Parts.{partsFrom, partsOf}
 use Rattle.lines.specs.Lines.{SourceLine}

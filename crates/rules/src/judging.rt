@@ -4,7 +4,7 @@ ghost use Prim.Native.Nat.{_≤_, _<_};
 ghost use lib.ListN.{length};
 ghost use Rattle.formula.specs.Codes.{partsIn};
 ghost use Rattle.formula.specs.Entries.{judgedTrue};
-ghost use Rattle.lines.specs.Limits.{kindLimit};
+ghost use Rattle.basics.specs.Limits.{kindLimit};
 ghost use Rattle.rules.specs.Trace.{countsOf, badStep, stepNumber, verdictOn};
 ghost use Rattle.formula.specs.Letter.{isLetter};
 ghost use Rattle.rules.specs.Problem.{readProblem};

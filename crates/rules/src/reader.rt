@@ -11,6 +11,7 @@ ghost use Rattle.rules.specs.Reading.{readingOf, PartsRead, partsOfOutco
 use basics::Class;
 use basics::clear_words;
 use basics::past;
+use grammar::BITS;
 use lines::Reading;
 use lines::Refusal;
 use lines::Sizes;
@@ -53,7 +54,7 @@ fn read_lines(source: &[u8], parts: &mut [u32]) -> Reading
     ensures { λ r. ⌜ r ≡ readingOf (readLines 1 (lines (now (source .entry))) blank) ⌝ }
     ensures { λ _. ⌜ PartsRead (readLines 1 (lines (now (source .entry))) blank) (now (parts .entry)) (now (parts .exit)) ⌝ }
 {
-    let mut spans = [0usize; 24];
+    let mut spans = [0usize; 2 * BITS];
     let mut s = Sizes {
         outputs: 0,
         observed: 0,

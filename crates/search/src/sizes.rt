@@ -1,13 +1,15 @@
 // The sizes of document 01 that concern states, and those of the memory that a search keeps them in.
+use basics::OPERATOR_LIMIT;
+use basics::SIGNAL_LIMIT;
 
 // The most states.
 pub const STATE_LIMIT: usize = 128;
 
-// The most letters: those of nine signals.
-pub const LETTER_LIMIT: usize = 512;
+// The most letters: the values of all signals.
+pub const LETTER_LIMIT: usize = 1 << SIGNAL_LIMIT;
 
-// Bytes of a set.
-pub const SET: usize = 32;
+// Bytes of a set: a bit for each pattern of one obligation more than there are operators.
+pub const SET: usize = (1 << (OPERATOR_LIMIT + 1)) / 8;
 
-// Entries of a letter's map.
-pub const MAP: usize = 128;
+// Entries of a letter's map: one for each pattern of the operators alone.
+pub const MAP: usize = 1 << OPERATOR_LIMIT;

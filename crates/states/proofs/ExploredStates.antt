@@ -9,7 +9,7 @@ use lib.ListN.{length, getD}
 use lib.Seq.{take-length}
 use Rattle.basics.specs.Lists.{tabulate, below, padded}
 use Rattle.formula.specs.declared.parts.Part.{Part}
-use Rattle.lines.specs.Limits.{signalLimit}
+use Rattle.basics.specs.Limits.{signalLimit}
 use Rattle.formula.specs.Letter.{Counts}
 use Rattle.search.specs.declared.searching.Explored.{Explored}
 use Rattle.search.specs.Limits.{stateLimit, letterLimit}

@@ -6,7 +6,7 @@ use mathlib.Core.Bool.{true, false}
 use mathlib.Core.List.{List, [], _∷_, foldr}
 use lib.ListN.{length, getD}
 use Rattle.formula.specs.Formula.{Formula}
-use Rattle.lines.specs.Limits.{kindLimit}
+use Rattle.basics.specs.Limits.{kindLimit}
 use Rattle.formula.specs.declared.parts.Part.{Part}
 use Rattle.formula.specs.Parts.{lastOf, partsOf}
 use Rattle.formula.specs.Semantics.{Trace, Sat}

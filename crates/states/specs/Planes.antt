@@ -11,12 +11,12 @@ use lib.Seq.{sets}
 use Rattle.lines.specs.declared.problem.Sizes.{Sizes}
 use Rattle.basics.specs.Bits.{bit, fromBits}
 use Rattle.formula.specs.Codes.{partsIn}
-use Rattle.lines.specs.Limits.{kindLimit, signalLimit}
+use Rattle.basics.specs.Limits.{kindLimit, signalLimit, operatorLimit}
 use Rattle.basics.specs.Lists.{tabulate}
 use Rattle.formula.specs.declared.parts.Part.{Part}
 use Rattle.formula.specs.Parts.{partAt, lastOf}
 use Rattle.basics.specs.Bounded.{agree, firstThat}
-use Rattle.search.specs.Limits.{mapSize}
+use Rattle.search.specs.Limits.{letterLimit, mapSize}
 use Rattle.obligations.specs.Obligation.{operatorsOf, back}
 use Rattle.obligations.specs.Words.{owedLanes, backLanes}
 use Rattle.obligations.specs.Values.{blockSize}
@@ -34,11 +34,11 @@ pub record Sized (codes : List ℕ) (s : Sizes) : Type 0 where
 
 -- words of a letter in a plane: one for each bit of a pattern
 abbrev pub slotSize : ℕ
-slotSize = 8
+slotSize = suc operatorLimit
 
 -- words of a plane: those of all letters
 abbrev pub planeSize : ℕ
-planeSize = 4096
+planeSize = letterLimit * slotSize
 
 -- word k of the block's letter x, from the values of all parts: an operator's obligation, then the whole formula's, then none
 unfoldable pub carriedLane : List Part → List ℕ → ℕ → List ℕ → ℕ → ℕ → ℕ

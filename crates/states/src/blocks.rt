@@ -8,17 +8,19 @@ ghost use Rattle.search.specs.Limits.{letterLimit};
 ghost use Rattle.obligations.specs.Obligation.{operatorsOf, spots as spotsOf};
 ghost use Rattle.obligations.specs.Values.{Stored, numbersOf, blockSize, valuesTo};
 ghost use Rattle.states.specs.Planes.{slotSize, planeSize, carriedLane, plane, planesTo};
+use basics::OPERATOR_LIMIT;
 use formula::part_at;
 use obligations::BLOCK;
 use obligations::number_parts;
 use obligations::owed_lanes;
 use obligations::put_values;
+use search::LETTER_LIMIT;
 
 // Words of a letter in a plane.
-pub(crate) const SLOT: usize = 8;
+pub(crate) const SLOT: usize = OPERATOR_LIMIT + 1;
 
 // Words of a plane.
-pub(crate) const PLANE: usize = 4096;
+pub(crate) const PLANE: usize = LETTER_LIMIT * SLOT;
 
 // Word k of the block's letter x: an operator's obligation, then the whole formula's, then none.
 fn carried_lane(parts: &[u32], spots: &[u8], d: usize, v: &[u64], x: usize, k: usize) -> u64

@@ -1,10 +1,11 @@
 // The sizes of document 01 that concern tables, and those of the memory that positions are kept in.
+use basics::KIND_LIMIT;
 
 // The most beliefs.
 pub const BELIEF_LIMIT: usize = 256;
 
-// The most choices, and the most observations: those of four signals.
-pub const SIDE_LIMIT: usize = 16;
+// The most choices, and the most observations: the values of the signals of one kind.
+pub const SIDE_LIMIT: usize = 1 << KIND_LIMIT;
 
 // The most pairs of a choice and an observation.
 pub const PAIR_LIMIT: usize = SIDE_LIMIT * SIDE_LIMIT;

@@ -10,7 +10,7 @@ use Rattle.lines.specs.declared.problem.Sizes.{Sizes}
 use Rattle.lines.specs.declared.problem.Reading.{Reading}
 use Rattle.lines.specs.declared.problem.Reading.the-variants as reading
 use Rattle.formula.specs.Formula.{operators}
-use Rattle.formula.specs.Limits.{operatorLimit}
+use Rattle.basics.specs.Limits.{operatorLimit}
 use Rattle.rules.specs.Judge.{countsIn}
 use Rattle.rules.specs.Reading.{readingOf}
 use Rattle.formula.specs.Codes.{partsIn}

@@ -28,7 +28,8 @@ use Rattle.lines.specs.declared.refusal.Refusal.the-variants.{BadLine, B
 use Rattle.lines.specs.declared.problem.Sizes.{Sizes}
 use Rattle.lines.specs.declared.problem.Reading.{Reading}
 use Rattle.lines.specs.declared.problem.Reading.the-variants.{Accepted, Refused}
-use Rattle.formula.specs.Limits.{partLimit, operatorLimit}
+use Rattle.basics.specs.Limits.{operatorLimit}
+use Rattle.formula.specs.Limits.{partLimit}
 use Rattle.formula.specs.Formula.{Formula, size, operators}
 use Rattle.formula.specs.Parts.{temporals, partsFrom}
 use Rattle.formula.specs.Codes.{codeOf, codesOf}

@@ -17,7 +17,8 @@ use Rattle.lines.specs.declared.problem.Kind.the-variants.{Output, Obser
 use Rattle.lines.specs.declared.problem.Sizes.{Sizes}
 use Rattle.lines.specs.declared.problem.Reading.{Reading}
 use Rattle.lines.specs.declared.problem.Reading.the-variants.{Accepted, Refused}
-use Rattle.lines.specs.Limits.{kindLimit, nameLimit}
+use Rattle.basics.specs.Limits.{kindLimit}
+use Rattle.lines.specs.Limits.{nameLimit}
 use Rattle.lines.specs.Lines.{isName}
 use Rattle.lines.specs.Effect.{Signals, count, firstBit, Effect, refuses, declares, declareEffect}
 use Rattle.lines.specs.Memory.{signalsIn, countIn, moreSignals, readingAfter, spansAfter}
