@@ -1,7 +1,8 @@
 -- Bits of numbers, numbers made of a table of bits, and how a loop makes one from the highest bit down.
 -- Assumes nothing.
 use Prim.Native.Nat.{ℕ, _/_, _^_, _<_, zero, suc, _+_, _*_, _%_, _-_, _≤_}
-use native.Mathlib.Nat.{div-eq-of-lt, div-one, pow-suc, pow-succ', div-div-eq-div-mul, mul-add-mod-self-right, zero-div, div-add-mod', mod-lt, div-lt-iff-lt-mul, mod-eq-of-lt, one-mul, add-zero, zero-add}
+use native.Mathlib.Nat.{div-eq-of-lt, div-one, pow-suc, pow-succ', div-div-eq-div-mul, mul-add-mod-self-right, zero-div, div-add-mod'}
+use native.Mathlib.Nat.{mod-lt, div-lt-iff-lt-mul, mod-eq-of-lt, one-mul, add-zero, zero-add, lt-of-lt-of-le}
 use mathlib.Core.Path.{_≡_, refl, ap, sym, ap₂, _∙_, subst}
 use mathlib.Core.Bool.{Bool, true, false, true≢false, false≢true}
 use lib.Bits.{bitAnd, and-mask, mask-lt}
@@ -12,6 +13,7 @@ use mathlib.Core.List.{List, [], _∷_}
 use lib.Arith.{digits-div, digits-lt}
 use lib.Pow.{field, mod-mod-pow, shl-exact, pow-mono}
 use lib.ListN.{length, getD}
+use Rattle.basics.specs.Limits.{wordSize}
 use Rattle.basics.specs.Lists.{tabulate}
 use Rattle.basics.proofs.ListsLaws.{length-tabulate, getD-tabulate, tabulate-ext}
 
@@ -41,8 +43,8 @@ pub low-lt : (x : ℕ) → bitAnd x 1 < 2
 low-lt x = mask-lt x 1
 
 -- a shift of 1
-pub shl-one : (k : ℕ) → k ≤ 12 → 1 * 2 ^ k % 18446744073709551616 ≡ 2 ^ k
-shl-one k h = shl-exact 1 k 64 (lit< tt) (omega arith) ∙ one-mul (2 ^ k)
+pub shl-one : (k : ℕ) → k < wordSize → 1 * 2 ^ k % 2 ^ wordSize ≡ 2 ^ k
+shl-one k h = shl-exact 1 k wordSize (lit< tt) (omega arith) ∙ one-mul (2 ^ k)
 
 -- bit 0 tells whether a number is odd, and the higher bits are those of its half
 pub bit-low : (n : ℕ) → bit n 0 ≡ eqb (n % 2) 1
@@ -143,23 +145,40 @@ module _ (f : ℕ → Bool) where
   unfolding tableFrom
   from-all m = ap fromBits (tabulate-ext m (λ j. f (0 + j)) f (λ j h. ap f (zero-add j)))
 
--- a loop that makes a byte so: n is the number of the bits from j on
+-- a loop that makes a number of w bits so: n is the number of the bits from j on
+
+module _ (w : ℕ) (f : ℕ → Bool) where
+  pub bits-none : 0 ≡ tableFrom f w 0
+  bits-none = sym (from-none f w)
+
+  pub bits-small : (n j : ℕ) → 0 < j → n ≡ tableFrom f j (w - j) → n < 2 ^ (w - 1)
+  bits-small n j h e =
+      lt-of-lt-of-le (subst (λ x. x < 2 ^ (w - j)) (sym e) (from-lt f j (w - j))) (pow-mono {i = w - j} {j = w - 1} (omega arith))
+
+  pub bits-more : (n j x : ℕ) → 0 < j → j ≤ w → n ≡ tableFrom f j (w - j) → x ≡ digit (f (j - 1))
+      → n * 2 + x ≡ tableFrom f (j - 1) (w - (j - 1))
+  bits-more n j x h l e q =
+      let k : w - (j - 1) ≡ suc (w - j) = omega arith in
+      let i : suc (j - 1) ≡ j = omega arith in
+      ap₂ (λ m y. m * 2 + y) (e ∙ ap (λ t. tableFrom f t (w - j)) (sym i)) q ∙ sym (from-more f (j - 1) (w - j)) ∙ ap (tableFrom f (j - 1)) (sym k)
+
+  pub bits-done : (n j : ℕ) → j ≤ 0 → n ≡ tableFrom f j (w - j) → n ≡ tableFrom f 0 w
+  bits-done n j h e =
+      let z : j ≡ 0 = omega arith in
+      let all : w - j ≡ w = omega arith in
+      e ∙ ap₂ (tableFrom f) z all
+
+-- a byte
 
 pub byte-none : (f : ℕ → Bool) → 0 ≡ tableFrom f 8 0
-byte-none f = sym (from-none f 8)
+byte-none = bits-none 8
 
 pub byte-small : (f : ℕ → Bool) (n j : ℕ) → 0 < j → n ≡ tableFrom f j (8 - j) → n < 128
-byte-small f n j h e =
-    let l : tableFrom f j (8 - j) < 2 ^ (8 - j) = from-lt f j (8 - j) in
-    let m : 2 ^ (8 - j) ≤ 2 ^ 7 = pow-mono {i = 8 - j} {j = 7} (omega arith) in
-    omega arith
+byte-small = bits-small 8
 
 pub byte-more : (f : ℕ → Bool) (n j x : ℕ) → 0 < j → j ≤ 8 → n ≡ tableFrom f j (8 - j) → x ≡ digit (f (j - 1))
     → n * 2 + x ≡ tableFrom f (j - 1) (8 - (j - 1))
-byte-more f n j x h l e q =
-    let k : 8 - (j - 1) ≡ suc (8 - j) = omega arith in
-    let i : suc (j - 1) ≡ j = omega arith in
-    ap₂ (λ m y. m * 2 + y) (e ∙ ap (λ t. tableFrom f t (8 - j)) (sym i)) q ∙ sym (from-more f (j - 1) (8 - j)) ∙ ap (tableFrom f (j - 1)) (sym k)
+byte-more = bits-more 8
 
 pub byte-done : (f : ℕ → Bool) (n j : ℕ) → j ≤ 0 → n ≡ tableFrom f j (8 - j) → n ≡ tableFrom f 0 8
-byte-done f n j h e = let z : j ≡ 0 = omega arith in e ∙ ap (λ k. tableFrom f k (8 - k)) z
+byte-done = bits-done 8

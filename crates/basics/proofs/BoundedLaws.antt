@@ -212,6 +212,14 @@ none-first ok n none-is =
       | no k ↦ let b = first-le ok n in omega arith
     ]
 
+-- some number passes just where the search finds one
+pub any-first : (ok : ℕ → Bool) (n : ℕ) → any n ok ≡ ltb (firstThat ok n) n
+any-first ok n =
+    elim (test (any n ok)) [
+      | inl t ↦ let (i, h, o) = any-at n ok t in t ∙ sym (lt-ltb (firstThat ok n) n (first-of ok n i h o .0))
+      | inr f ↦ let e = none-first ok n (any-not n ok f) in f ∙ sym (le-ltb (firstThat ok n) n (omega arith))
+    ]
+
 -- searches by tests that agree below the bound
 pub all-ext : (n : ℕ) (f g : ℕ → Bool) → ((i : ℕ) → i < n → f i ≡ g i) → all n f ≡ all n g
 all-ext zero f g e = refl

@@ -1,7 +1,7 @@
 -- Lists of equally long rows one after another.
 -- Assumes nothing.
-use Prim.Native.Nat.{ℕ, zero, suc, _+_, _*_, _≤_, _<_}
-use native.Mathlib.Nat.{zero-mul, zero-add, suc-mul, add-assoc, add-comm, not-suc-le-zero, le-of-suc-le-suc, mul-le-mul-right}
+use Prim.Native.Nat.{ℕ, zero, suc, _+_, _*_, _/_, _%_, _≤_, _<_}
+use native.Mathlib.Nat.{zero-mul, zero-add, suc-mul, add-assoc, add-comm, not-suc-le-zero, le-of-suc-le-suc, mul-le-mul-right, mul-zero, zero-lt-suc, div-lt-iff-lt-mul, mod-lt}
 use mathlib.Core.Path.{_≡_, sym, ap, _∙_, subst}
 use mathlib.Core.List.{List, [], _∷_, _++_, flatMap}
 use lib.ListN.{length, getD, length-append, List·getD-append}
@@ -10,6 +10,11 @@ use lib.Seq.{getD-append-add}
 -- row j ends where the next begins, or before
 pub row-ends : (w i j : ℕ) → j < i → j * w + w ≤ i * w
 row-ends w i j h = subst (λ n. n ≤ i * w) (suc-mul j w) (mul-le-mul-right w h)
+
+-- every entry stands in a row
+pub row-at : (w n y : ℕ) → y < n * w → (y / w < n) × (y % w < w)
+row-at zero n y h = absurd (not-suc-le-zero (subst (λ m. y < m) (mul-zero n) h))
+row-at (suc w) n y h = (div-lt-iff-lt-mul (zero-lt-suc w) .1 h, mod-lt y (zero-lt-suc w))
 
 module _ {A : Type 0} (w : ℕ) (g : A → List ℕ) (wide : (x : A) → length (g x) ≡ w) where
   pub length-rows : (xs : List A) → length (flatMap g xs) ≡ length xs * w

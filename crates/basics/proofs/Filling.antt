@@ -1,12 +1,12 @@
 -- A loop that fills a list d from the front: after n turns it is the list made so far, with `drop n d` behind it.
 -- Assumes nothing.
-use Prim.Native.Nat.{_+_, _≤_, _<_, ℕ, suc}
+use Prim.Native.Nat.{_+_, _-_, _≤_, _<_, ℕ, suc}
 use native.Mathlib.Numerals.{add-one}
 use native.Mathlib.Omega.{arith}
 use mathlib.Core.Path.{sym, ap, ap₂, _∙_, _≡_, subst}
 use mathlib.Core.List.{List, [], _∷_, _++_, append-nil}
-use lib.ListN.{length, getD, set, drop, length-append, length-drop}
-use lib.Seq.{drop-cons, set-at, append-snoc, drop-length}
+use lib.ListN.{length, getD, set, drop}
+use lib.Seq.{drop-cons, set-at, append-snoc, drop-length, getD-append-add, getD-drop}
 use Rattle.basics.specs.Lists.{tabulate}
 use Rattle.basics.proofs.ListsLaws.{length-tabulate, tabulate-suc}
 
@@ -29,9 +29,12 @@ table-all n m f d w q l e =
     e ∙ ap (λ k. tabulate k f ++ drop k d) (q ∙ sym l) ∙ ap (λ r. tabulate (length d) f ++ r) (drop-length d)
     ∙ append-nil (tabulate (length d) f) ∙ ap (λ k. tabulate k f) l
 
--- the length stays
-pub front-length : (p d w : List ℕ) (n : ℕ) → length p ≡ n → n ≤ length d → w ≡ p ++ drop n d → length w ≡ length d
-front-length p d w n e h q = ap length q ∙ length-append p (drop n d) ∙ ap₂ (λ x y. x + y) e (length-drop n d) ∙ omega arith
+-- the entries behind stay
+pub front-behind : (p d w : List ℕ) (n i : ℕ) → length p ≡ n → n ≤ i → w ≡ p ++ drop n d → getD w i 0 ≡ getD d i 0
+front-behind p d w n i e h q =
+    let here : i ≡ length p + (i - n) = omega arith in
+    let back : n + (i - n) ≡ i = omega arith in
+    ap₂ (λ l j. getD l j 0) q here ∙ getD-append-add p (drop n d) (i - n) 0 ∙ getD-drop n d (i - n) 0 ∙ ap (λ j. getD d j 0) back
 
 -- a table that a loop filled is filled as far as wanted
 pub filled : (k n : ℕ) (f : ℕ → ℕ) (d w : List ℕ) → k ≡ n → w ≡ tabulate k f ++ drop k d → w ≡ tabulate n f ++ drop n d

@@ -15,6 +15,7 @@ pub mod EqualRows
 pub mod BitsLaws
 -- what can be reached
 pub mod ReachLaws
+pub mod SameSearch
 pub mod GrowingList
 pub mod BreadthFirst
 -- bytes and text

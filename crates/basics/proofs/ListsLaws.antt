@@ -4,8 +4,8 @@ use Prim.Native.Nat.{ℕ, zero, suc, _+_, _<_, _-_, _≤_}
 use native.Mathlib.Nat.{not-suc-le-zero, le-of-suc-le-suc, zero-add}
 use mathlib.Core.Path.{_≡_, refl, sym, ap, _∙_, ap₂, subst}
 use mathlib.Core.List.{List, [], _∷_, _++_, map, List·Memᴰ·head, List·Memᴰ·tail}
-use lib.ListN.{length, getD, take, replicate, length-map, length-replicate, List·getD-append, length-append}
-use lib.Seq.{getD-append-add}
+use lib.ListN.{length, getD, take, drop, replicate, length-map, length-replicate, List·getD-append, length-append}
+use lib.Seq.{getD-append-add, getD-drop}
 use Rattle.basics.specs.Lists.{tabulate, below, padded}
 use native.Mathlib.Omega.{arith}
 use Rattle.basics.specs.Member.{_∈_}
@@ -40,10 +40,31 @@ tabulate-append (suc m) n f g e =
     let more : suc (m + n) ≡ suc m + n = omega arith in
     ap (λ l. f 0 ∷ l) (tabulate-append m n (λ k. f (suc k)) g (λ k h. e k h ∙ ap f (omega arith))) ∙ ap (λ x. tabulate x f) more
 
+-- a table written over the front of another
+pub table-over : (n m : ℕ) (f g h : ℕ → ℕ) → n ≤ m → ((i : ℕ) → i < n → f i ≡ h i) → ((i : ℕ) → n ≤ i → g i ≡ h i)
+    → tabulate n f ++ drop n (tabulate m g) ≡ tabulate m h
+table-over zero m f g h l e d = tabulate-ext m g h (λ i b. d i (omega arith))
+table-over (suc n) zero f g h l e d = absurd (omega arith)
+table-over (suc n) (suc m) f g h l e d =
+    ap₂ (λ x xs. x ∷ xs) (e 0 (omega arith))
+    (table-over n m (λ k. f (suc k)) (λ k. g (suc k)) (λ k. h (suc k)) (omega arith) (λ i b. e (suc i) (omega arith)) (λ i b. d (suc i) (omega arith)))
+
+-- a table of zeros
+pub table-zeros : (n : ℕ) → tabulate {A = ℕ} n (λ i. 0) ≡ replicate n 0
+table-zeros zero = refl
+table-zeros (suc n) = ap (λ l. 0 ∷ l) (table-zeros n)
+
 -- a table with other entries behind it
 pub getD-table : (f : ℕ → ℕ) (n i : ℕ) (r : List ℕ) → i < n → getD (tabulate n f ++ r) i 0 ≡ f i
 getD-table f n i r h =
     List·getD-append (tabulate n f) r 0 i (subst (λ k. i < k) (sym (length-tabulate n f)) h) ∙ getD-tabulate n f i 0 h
+
+-- what a table was written over, behind it
+pub getD-behind : (f : ℕ → ℕ) (n i : ℕ) (l : List ℕ) → n ≤ i → getD (tabulate n f ++ drop n l) i 0 ≡ getD l i 0
+getD-behind f n i l h =
+    let e : i ≡ n + (i - n) = omega arith in
+    ap (λ k. getD (tabulate n f ++ drop n l) k 0) (e ∙ ap (λ m. m + (i - n)) (sym (length-tabulate n f)))
+    ∙ getD-append-add (tabulate n f) (drop n l) (i - n) 0 ∙ getD-drop n l (i - n) 0 ∙ ap (λ k. getD l k 0) (sym e)
 
 -- the first n entries of a list as a table
 pub table-take : (n : ℕ) (l : List ℕ) → n ≤ length l → tabulate n (λ i. getD l i 0) ≡ take n l
@@ -76,6 +97,11 @@ getD-map-below n f b e h = ap (λ l. getD l b e) (map-table f n (λ k. k)) ∙ g
 
 pub zeros-length : (w : List ℕ) (n : ℕ) → w ≡ replicate n 0 → length w ≡ n
 zeros-length w n e = ap length e ∙ length-replicate n 0
+
+pub take-zeros : (k m : ℕ) → k ≤ m → take k (replicate m 0) ≡ replicate {A = ℕ} k 0
+take-zeros zero m h = refl
+take-zeros (suc k) zero h = absurd (omega arith)
+take-zeros (suc k) (suc m) h = ap (λ l. 0 ∷ l) (take-zeros k m (le-of-suc-le-suc h))
 
 pub getD-zeros : (n i : ℕ) → getD {A = ℕ} (replicate n 0) i 0 ≡ 0
 getD-zeros zero i = refl

@@ -1,6 +1,6 @@
 -- The list of what can be reached is right, and it is given up exactly where there is more than the limit.
 -- Assumes nothing.
-use Prim.Native.Nat.{ℕ, zero, suc, _+_, _≤_, _<_}
+use Prim.Native.Nat.{ℕ, zero, suc, _+_, _≤_, _<_, suc-le-suc}
 use native.Mathlib.Nat.{le-of-suc-le-suc, eq-or-lt-of-le}
 use native.Mathlib.Omega.{arith}
 use mathlib.Core.Path.{_≡_, refl, sym, ap, _∙_, subst}
@@ -10,7 +10,7 @@ use mathlib.Core.List.{List, [], _∷_, _++_, map, foldl, append-assoc, append-n
 use lib.Dec.{eqb, ltb}
 use lib.ListN.{length, getD, take, length-append, List·getD-append}
 use lib.Seq.{length-take-le}
-use borrow.Author.Tests.{ltb-true, ltb-false, eqb-true, eqb-false}
+use borrow.Author.Tests.{ltb-true, ltb-false, le-ltb, eqb-true, eqb-false, eq-eqb, ne-eqb}
 use Rattle.basics.specs.Says.{Says}
 use Rattle.basics.specs.Member.{_∈_, Distinct, distinct-nil, distinct-cons}
 use Rattle.basics.specs.Reach.{Listing, closed, over, isIn, addNew, addAll, explore, reachable, Reached, reached-first, reached-step, Enumerates, AtLeast, Spelled, indexIn}
@@ -250,6 +250,15 @@ module _ {A : Type 0} (same : A → A → Bool) (says : (x y : A) → Says (same
   pub index-right : (x : A) (xs : List A) (e : A) → x ∈ xs → (indexIn same x xs < length xs) × (getD xs (indexIn same x xs) e ≡ x)
   index-right x xs e m = index-at same says x xs e (isIn-says same says x xs .1 m)
 
+  -- what is in a list is told apart by its number
+  pub index-one : (x y : A) (xs : List A) → x ∈ xs → y ∈ xs → eqb (indexIn same x xs) (indexIn same y xs) ≡ same x y
+  index-one x y xs m k = at (same x y) (says x y)
+    where
+      at : (b : Bool) → Says b (x ≡ y) → eqb (indexIn same x xs) (indexIn same y xs) ≡ b
+      at true s = eq-eqb _ _ (ap (λ z. indexIn same z xs) (s .0 refl))
+      at false s = ne-eqb (indexIn same x xs) (indexIn same y xs)
+          (λ e. false≢true (s .1 (sym (index-right x xs x m .1) ∙ ap (λ i. getD xs i x) e ∙ index-right y xs x k .1)))
+
   module _ (steps : A → List A) (first : A) (limit : ℕ) where
     Begins : List A → Listing A → Type 0
     Begins seen (closed xs) = (ys : List A) × (xs ≡ seen ++ ys)
@@ -284,3 +293,32 @@ module _ {A : Type 0} (same : A → A → Bool) (says : (x y : A) → Says (same
     pub closed-begins : (xs : List A) → reachable same steps first limit ≡ closed xs → (ys : List A) × (xs ≡ first ∷ ys)
     unfolding reachable
     closed-begins xs e = explore-tail (suc limit) (first ∷ []) 0 xs e
+
+-- ---- a listing that closes does not depend on its limit
+
+-- listed things are not given up
+pub closed-not-over : {A : Type 0} (xs : List A) → closed xs ≡ over → ⊥
+closed-not-over xs q = let z : _≡_ {A = ℕ} 0 1 = cc in absurd (omega arith)
+
+pub same-listed : {A : Type 0} (xs ys : List A) → closed xs ≡ closed ys → xs ≡ ys
+same-listed xs ys e = cc
+
+module _ {A : Type 0} (same : A → A → Bool) (steps : A → List A) (first : A) (n m : ℕ) (le : n ≤ m) (xs : List A) where
+  explore-limit : (fuel more : ℕ) → fuel ≤ more → (seen : List A) (i : ℕ) → explore same steps first n fuel seen i ≡ closed xs
+      → explore same steps first m more seen i ≡ closed xs
+  unfolding explore
+  explore-limit zero more h seen i e = absurd (closed-not-over xs (sym e))
+  explore-limit (suc fuel) zero h seen i e = absurd (omega arith)
+  explore-limit (suc fuel) (suc more) h seen i e =
+      at (ltb n (length seen)) refl (eqb i (length seen)) _ _
+      (explore-limit fuel more (le-of-suc-le-suc h) (addAll same seen (steps (getD seen i first))) (suc i)) e
+    where
+      at : (b : Bool) → ltb n (length seen) ≡ b → (c : Bool) (rest rest′ : Listing A) → (rest ≡ closed xs → rest′ ≡ closed xs)
+          → cond b over (cond c (closed seen) rest) ≡ closed xs → cond (ltb m (length seen)) over (cond c (closed seen) rest′) ≡ closed xs
+      at true l c rest rest′ f q = absurd (closed-not-over xs (sym q))
+      at false l true rest rest′ f q = rw (le-ltb m (length seen) (omega (arith, ltb-false n (length seen) l))) q
+      at false l false rest rest′ f q = rw (le-ltb m (length seen) (omega (arith, ltb-false n (length seen) l))) (f q)
+
+  pub reachable-limit : reachable same steps first n ≡ closed xs → reachable same steps first m ≡ closed xs
+  unfolding reachable
+  reachable-limit = explore-limit (suc n) (suc m) (suc-le-suc le) (first ∷ []) 0

@@ -75,10 +75,6 @@ module _ {A : Type 0} (g : A → List ℕ) where
       rest-next (flatMap g (tabulate i f)) (g (f i)) (rest-all at _ x (omega (arith, flat-within n f i h)) _ (flat-more i f)) p
 
   -- how long they are
-  pub flat-first : (n : ℕ) (f : ℕ → A) → length (flatMap g (tabulate (1 + n) f)) ≡ length (g (f 0)) + length (flatMap g (tabulate n (λ k. f (suc k))))
-  unfolding flatMap
-  flat-first n f = let e : 1 + n ≡ suc n = omega arith in rw e (length-append (g (f 0)) (flatMap g (tabulate n (λ k. f (suc k)))))
-
   pub flat-length : (n w : ℕ) (f : ℕ → A) → ((i : ℕ) → i < n → length (g (f i)) ≤ w) → length (flatMap g (tabulate n f)) ≤ n * w
   unfolding flatMap
   flat-length zero w f h = omega arith

@@ -1,7 +1,5 @@
 // Runs of bytes of one class, and equality of byte strings.
 ghost use mathlib.Core.Path.{_≡_};
-ghost use Prim.Native.Nat.{_≤_};
-ghost use lib.ListN.{length};
 ghost use Rattle.basics.specs.Bytes.{lower, wordByte, inClass, sameBytes};
 
 // What a run of bytes is made of: spaces, the bytes of a word, those of a field, those of a line.
@@ -47,9 +45,8 @@ fn is_in(class: Class, b: u8) -> bool
     }
 }
 
-// The first place from `at` on whose byte is not of the class, or the end.
+// The first place from `at` on whose byte is not of the class, or the end; `at` itself where it lies behind the end.
 pub fn past(text: &[u8], at: usize, class: Class) -> usize
-    requires { ⌜ at ≤ length (now text) ⌝ }
     ensures { λ r. ⌜ r ≡ Rattle.basics.specs.Bytes.past (inClass class) (now (text .entry)) at ⌝ }
 {
     let mut i = at;

@@ -1,4 +1,5 @@
 -- beliefs in memory
+pub mod LimitsLaws
 pub mod BeliefMemoryLaws
 pub mod TwinsLaws
 pub mod ApartPlaces

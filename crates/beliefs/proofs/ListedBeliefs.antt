@@ -1,13 +1,12 @@
--- The beliefs that are counted: how many they are, how long, and that pairs lead from each to one of them.
+-- The beliefs that are counted: how many they are, and that pairs lead from each to one of them.
 -- Assumes nothing.
 use Prim.Native.Nat.{ℕ, _+_, _*_, _≤_, _<_}
 use native.Mathlib.Omega.{arith}
 use mathlib.Core.Path.{_≡_, refl, sym, ap, _∙_, subst}
-use mathlib.Core.List.{List, Memᴰ·of-map}
+use mathlib.Core.List.{List}
 use lib.ListN.{length, getD}
 use Rattle.basics.proofs.ListsLaws.{length-tabulate}
 use Rattle.search.specs.declared.searching.Explored.the-variants.{Found, TooMany}
-use Rattle.basics.specs.Member.{_∈_}
 use Rattle.basics.specs.Lists.{below, padded}
 use Rattle.basics.specs.Reach.{Listing, closed, over, reachable}
 use Rattle.search.specs.ReachableSets.{sameSet}
@@ -18,9 +17,8 @@ use Rattle.search.proofs.ReachableSetsLaws.{sameSet-says}
 use Rattle.play.specs.Limits.{pairLimit}
 use Rattle.play.specs.Belief.{Belief, alone}
 use Rattle.beliefs.specs.BeliefMemory.{beliefAfter, countedBeliefs, movesOf}
-use Rattle.play.proofs.RankedRows.{reached-all}
 use Rattle.beliefs.proofs.NumberedRows.{rows-inside}
-use Rattle.beliefs.proofs.BeliefMemoryLaws.{beliefs-reachable, length-first, length-after}
+use Rattle.beliefs.proofs.BeliefMemoryLaws.{beliefs-reachable}
 
 -- ---- what a count says
 
@@ -51,13 +49,6 @@ module _ (successors : List ℕ) (n pairs hiddens limit : ℕ) (bs : List Belief
 
   pub beliefs-some : 0 < length bs
   beliefs-some = let (ys, e) = closed-begins sameSet sameSet-says _ _ limit bs listed in omega (arith, ap length e)
-
-  -- every belief has an entry for each state
-  pub belief-length : (b : Belief) → b ∈ bs → length b ≡ n
-  belief-length b m =
-      reached-all (λ y. length y ≡ n) (length-first n)
-      (λ y z e k. let r = Memᴰ·of-map (after y) (below pairs) k in ap length (sym (r .2)) ∙ length-after successors n pairs hiddens y (r .0))
-      (closed-lists sameSet sameSet-says _ _ limit bs listed .0 .exact b .0 m)
 
   -- pairs lead to beliefs that are counted
   pub beliefs-inside : pairs ≤ pairLimit → (size i q : ℕ) → i < length bs → q < pairs

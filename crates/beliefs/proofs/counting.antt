@@ -1,4 +1,4 @@
 -- What the proofs of the functions for the search for all beliefs use.
 pub mod PairLoop
-pub mod MarkLoop
+pub mod VisitLoop
 pub mod Explored

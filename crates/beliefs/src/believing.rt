@@ -1,29 +1,19 @@
 // Beliefs in memory.
 ghost use mathlib.Core.Path.{_≡_};
-ghost use mathlib.Core.List.{_++_};
-ghost use Prim.Native.Nat.{_*_, _≤_, _<_};
-ghost use lib.ListN.{length, drop};
+ghost use Prim.Native.Nat.{ℕ, _+_, _*_, _/_, _≤_, _<_};
+ghost use lib.ListN.{length};
 ghost use Rattle.search.specs.Limits.{stateLimit, letterLimit, setSize};
-ghost use Rattle.beliefs.specs.BeliefMemory.{packBelief, withState, withHidden, membersOf, afterMembers, Members, finalFrom};
-ghost use Rattle.play.specs.Belief.{alone};
+ghost use Rattle.beliefs.specs.BeliefMemory.{beliefSize, beliefIn, successorIn, Members, Leads, beliefOf, allAccept};
+ghost use Rattle.beliefs.specs.BeliefMemory.{withState, withHidden, afterMembers};
+use crate::sizes::BELIEF;
 use basics::clear;
 use search::LETTER_LIMIT;
 use search::SET;
 
-// Writes the belief that has state 0 alone.
-pub(crate) fn put_first(place: &mut [u8], n: usize)
-    requires { ⌜ 0 < n ⌝ }
-    requires { ⌜ n ≤ stateLimit ⌝ }
-    requires { ⌜ length (now place) ≡ setSize ⌝ }
-    ensures { λ _. ⌜ now (place .exit) ≡ packBelief (alone n 0) ⌝ }
-{
-    clear(place);
-    place[0] = 1;
-}
-
 // Adds state t.
 fn add_state(place: &mut [u8], t: u8)
-    requires { ⌜ length (now place) ≡ setSize ⌝ }
+    requires { ⌜ length (now place) ≡ beliefSize ⌝ }
+    requires { ⌜ t < stateLimit ⌝ }
     ensures { λ _. ⌜ now (place .exit) ≡ withState (now (place .entry)) t ⌝ }
 {
     let i = (t / 8) as usize;
@@ -36,7 +26,8 @@ fn add_hidden(successors: &[u8], s: usize, q: usize, pairs: usize, hiddens: usiz
     requires { ⌜ s < stateLimit ⌝ }
     requires { ⌜ q < pairs ⌝ }
     requires { ⌜ hiddens * pairs ≤ letterLimit ⌝ }
-    requires { ⌜ length (now place) ≡ setSize ⌝ }
+    requires { ⌜ ((a : ℕ) → a < hiddens * pairs → successorIn (now successors) s a < stateLimit) ⌝ }
+    requires { ⌜ length (now place) ≡ beliefSize ⌝ }
     ensures { λ _. ⌜ now (place .exit) ≡ withHidden (now (successors .entry)) s q pairs hiddens (now (place .entry)) ⌝ }
 {
     let from = s * LETTER_LIMIT;
@@ -45,26 +36,6 @@ fn add_hidden(successors: &[u8], s: usize, q: usize, pairs: usize, hiddens: usiz
         add_state(place, successors[from + q + h * pairs]);
         h += 1;
     }
-}
-
-// Writes the states that are present, of the first n, upward; answers how many there are.
-pub(crate) fn put_members(present: &[u8], n: usize, members: &mut [u8]) -> usize
-    requires { ⌜ length (now present) ≡ setSize * 8 ⌝ }
-    requires { ⌜ n ≤ stateLimit ⌝ }
-    requires { ⌜ length (now members) ≡ stateLimit ⌝ }
-    ensures { λ r. ⌜ r ≡ length (membersOf (now (present .entry)) n) ⌝ }
-    ensures { λ _. ⌜ now (members .exit) ≡ membersOf (now (present .entry)) n ++ drop (length (membersOf (now (present .entry)) n)) (now (members .entry)) ⌝ }
-{
-    let mut c = 0;
-    let mut s = 0;
-    while s < n {
-        if present[s] == 1 {
-            members[c] = s as u8;
-            c += 1;
-        }
-        s += 1;
-    }
-    c
 }
 
 // Writes the belief after pair q, from its first `count` members.
@@ -78,11 +49,11 @@ pub(crate) fn put_after(
     place: &mut [u8],
 )
     requires { ⌜ length (now successors) ≡ stateLimit * letterLimit ⌝ }
-    requires { ⌜ count ≤ length (now members) ⌝ }
-    requires { ⌜ Members (now members) count ⌝ }
+    requires { ⌜ Members stateLimit (now members) count ⌝ }
+    requires { ⌜ Leads (now successors) pairs hiddens (now members) count ⌝ }
     requires { ⌜ q < pairs ⌝ }
     requires { ⌜ hiddens * pairs ≤ letterLimit ⌝ }
-    requires { ⌜ length (now place) ≡ setSize ⌝ }
+    requires { ⌜ length (now place) ≡ beliefSize ⌝ }
     ensures { λ _. ⌜ now (place .exit) ≡ afterMembers (now (successors .entry)) (now (members .entry)) q pairs hiddens count ⌝ }
 {
     clear(place);
@@ -93,21 +64,38 @@ pub(crate) fn put_after(
     }
 }
 
-// Whether every state that is present accepts.
-pub(crate) fn is_final(sets: &[u8], present: &[u8], n: usize) -> bool
-    requires { ⌜ n * setSize ≤ length (now sets) ⌝ }
-    requires { ⌜ length (now present) ≡ setSize * 8 ⌝ }
+// Lists the members of belief i, of n states, and answers how many there are.
+pub(crate) fn put_members(mem: &[u8], i: usize, n: usize, members: &mut [u8]) -> usize
+    requires { ⌜ i * beliefSize + beliefSize ≤ length (now mem) ⌝ }
     requires { ⌜ n ≤ stateLimit ⌝ }
-    ensures { λ r. ⌜ r ≡ finalFrom (now (sets .entry)) (now (present .entry)) n ⌝ }
+    requires { ⌜ length (now members) ≡ stateLimit ⌝ }
+    ensures { λ r. ⌜ Members n (now (members .exit)) r ⌝ }
+    ensures { λ r. ⌜ beliefOf n (now (members .exit)) r ≡ beliefIn n (now (mem .entry)) i ⌝ }
 {
+    let at = i * BELIEF;
+    let mut c = 0;
     let mut s = 0;
     while s < n {
-        if present[s] == 1 {
-            if sets[s * SET] & 1 == 0 {
-                return false;
-            }
+        if (mem[at + s / 8] >> (s % 8)) & 1 == 1 {
+            members[c] = s as u8;
+            c += 1;
         }
         s += 1;
+    }
+    c
+}
+
+// Whether each of the first `count` members accepts.
+pub(crate) fn is_final(sets: &[u8], members: &[u8], count: usize) -> bool
+    requires { ⌜ Members (length (now sets) / setSize) (now members) count ⌝ }
+    ensures { λ r. ⌜ r ≡ allAccept (now (sets .entry)) (now (members .entry)) count ⌝ }
+{
+    let mut i = 0;
+    while i < count {
+        if sets[members[i] as usize * SET] & 1 == 0 {
+            return false;
+        }
+        i += 1;
     }
     true
 }

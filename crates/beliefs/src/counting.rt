@@ -1,31 +1,31 @@
-// The search for all beliefs: every pair of a choice and an observation is tried in every belief, in the order in which beliefs
-// are found.
+// The search for all beliefs: every belief is marked as final or not, and every pair of a choice and an observation is tried in it, in
+// the order in which beliefs are found.
 ghost use mathlib.Core.Path.{_≡_};
-ghost use mathlib.Core.List.{_++_};
 ghost use Prim.Native.Nat.{_+_, _*_, _≤_, _<_};
-ghost use lib.ListN.{length, drop, replicate};
+ghost use lib.ListN.{length, replicate, set};
 ghost use Rattle.search.specs.Limits.{stateLimit, letterLimit, setSize};
 ghost use Rattle.basics.specs.Bounded.{firstThat};
-ghost use Rattle.basics.specs.Lists.{below, padded, written};
+ghost use Rattle.basics.specs.Lists.{padded, written};
 ghost use Rattle.basics.specs.Member.{Distinct};
-ghost use Rattle.search.specs.Slots.{itemsIn, HoldsItems, withSet, sameSlot, countUpTo, ExpandedItems, exploredOf, RanItems};
+ghost use Rattle.search.specs.Slots.{withItem, sameSlot, countUpTo, exploredOf};
 ghost use Rattle.play.specs.Limits.{beliefLimit, pairLimit};
 ghost use Rattle.play.specs.Table.{listOf};
 ghost use Rattle.beliefs.specs.Twins.{Twins};
-ghost use Rattle.beliefs.specs.BeliefMemory.{packBelief, beliefAfter, triedFrom, triedRow, afterMembers, Members, Apart, Successors, countedBeliefs, finalsOf, movesOf, hintSize};
+ghost use Rattle.beliefs.specs.BeliefMemory.{beliefSize, hintSize, beliefIn, beliefsIn, HoldsBeliefs, Apart};
+ghost use Rattle.beliefs.specs.BeliefMemory.{Successors, triedFrom, Tried, countedBeliefs, movesOf, markOf, finalsOf, RanBeliefs};
+ghost use Rattle.beliefs.specs.BeliefMemory.{Members, Leads, beliefOf, afterMembers};
 use crate::believing::is_final;
 use crate::believing::put_after;
-use crate::believing::put_first;
 use crate::believing::put_members;
 use crate::finding::find_hinted;
+use crate::sizes::BELIEF;
 use crate::sizes::BELIEFS_SIZE;
 use crate::sizes::HINTS;
 use crate::twins::put_twins;
 use basics::clear;
+use basics::put_bytes;
 use search::Explored;
-use search::SET;
 use search::STATE_LIMIT;
-use search::put_spread;
 use tables::BELIEF_LIMIT;
 use tables::PAIR_LIMIT;
 
@@ -42,19 +42,20 @@ fn put_belief(
     hints: &mut [u8],
 ) -> usize
     requires { ⌜ length (now successors) ≡ stateLimit * letterLimit ⌝ }
-    requires { ⌜ count ≤ length (now members) ⌝ }
-    requires { ⌜ Members (now members) count ⌝ }
+    requires { ⌜ Members stateLimit (now members) count ⌝ }
+    requires { ⌜ Leads (now successors) pairs hiddens (now members) count ⌝ }
     requires { ⌜ q < pairs ⌝ }
     requires { ⌜ hiddens * pairs ≤ letterLimit ⌝ }
     requires { ⌜ m ≤ beliefLimit ⌝ }
-    requires { ⌜ length (now mem) ≡ (beliefLimit + 1) * setSize ⌝ }
+    requires { ⌜ length (now mem) ≡ (beliefLimit + 1) * beliefSize ⌝ }
     requires { ⌜ Apart (now mem) m ⌝ }
     requires { ⌜ length (now hints) ≡ hintSize ⌝ }
-    ensures { λ r. ⌜ r ≡ firstThat (sameSlot (withSet (now (mem .entry)) m
+    ensures { λ r. ⌜ r ≡ firstThat (sameSlot beliefSize (withItem beliefSize (now (mem .entry)) m
         (afterMembers (now (successors .entry)) (now (members .entry)) q pairs hiddens count)) m) m ⌝ }
-    ensures { λ _. ⌜ now (mem .exit) ≡ withSet (now (mem .entry)) m (afterMembers (now (successors .entry)) (now (members .entry)) q pairs hiddens count) ⌝ }
+    ensures { λ _. ⌜ now (mem .exit) ≡ withItem beliefSize (now (mem .entry)) m
+        (afterMembers (now (successors .entry)) (now (members .entry)) q pairs hiddens count) ⌝ }
 {
-    let at = m * SET;
+    let at = m * BELIEF;
     put_after(
         successors,
         members,
@@ -62,19 +63,20 @@ fn put_belief(
         q,
         pairs,
         hiddens,
-        &mut mem[at..at + SET],
+        &mut mem[at..at + BELIEF],
     );
     find_hinted(mem, m, hints)
 }
 
-// Tries every pair in belief i, of k. Writes the beliefs that are new behind the others, and for each pair the number of the
-// belief that it leads to; answers how many beliefs there are then.
+// Tries every pair in the belief of the first `count` members, with k beliefs in memory. Writes the beliefs that are new behind the
+// others, and for each pair the number of the belief that it leads to; answers how many beliefs there are then.
 fn expand_belief(
     successors: &[u8],
     twins: &[u8],
+    members: &[u8],
+    count: usize,
     n: usize,
     hiddens: usize,
-    i: usize,
     k: usize,
     mem: &mut [u8],
     hints: &mut [u8],
@@ -82,26 +84,22 @@ fn expand_belief(
 ) -> Explored
     requires { ⌜ length (now successors) ≡ stateLimit * letterLimit ⌝ }
     requires { ⌜ length (now twins) ≡ pairLimit ⌝ }
+    requires { ⌜ Members n (now members) count ⌝ }
     requires { ⌜ n ≤ stateLimit ⌝ }
     requires { ⌜ length (now row) ≤ pairLimit ⌝ }
     requires { ⌜ hiddens * length (now row) ≤ letterLimit ⌝ }
     requires { ⌜ Successors (now successors) n (length (now row)) hiddens ⌝ }
     requires { ⌜ Twins (now successors) n (length (now row)) hiddens (now twins) ⌝ }
-    requires { ⌜ i < k ⌝ }
     requires { ⌜ k ≤ beliefLimit ⌝ }
-    requires { ⌜ length (now mem) ≡ (beliefLimit + 1) * setSize ⌝ }
-    requires { ⌜ HoldsItems n packBelief (now mem) k ⌝ }
-    requires { ⌜ Distinct (itemsIn n (now mem) k) ⌝ }
+    requires { ⌜ length (now mem) ≡ (beliefLimit + 1) * beliefSize ⌝ }
+    requires { ⌜ HoldsBeliefs n (now mem) k ⌝ }
+    requires { ⌜ Distinct (beliefsIn n (now mem) k) ⌝ }
     requires { ⌜ length (now hints) ≡ hintSize ⌝ }
-    ensures { λ r. ⌜ r ≡ countUpTo beliefLimit (triedFrom (now (successors .entry)) n (length (now (row .entry))) hiddens (now (mem .entry)) k i) ⌝ }
-    ensures { λ _. ⌜ ExpandedItems n packBelief beliefLimit (triedFrom (now (successors .entry)) n (length (now (row .entry))) hiddens (now (mem .entry)) k i)
-        (triedRow (now (successors .entry)) n (length (now (row .entry))) hiddens (now (mem .entry)) k i) (now (mem .exit)) (now (row .exit)) ⌝ }
+    ensures { λ r. ⌜ r ≡ countUpTo beliefLimit (triedFrom (now (successors .entry)) n (length (now (row .entry))) hiddens (now (mem .entry)) k
+        (beliefOf n (now (members .entry)) count)) ⌝ }
+    ensures { λ _. ⌜ Tried (now (successors .entry)) n (length (now (row .entry))) hiddens (now (mem .entry)) k
+        (beliefOf n (now (members .entry)) count) (now (mem .exit)) (now (row .exit)) ⌝ }
 {
-    let mut present = [0u8; SET * 8];
-    let mut members = [0u8; STATE_LIMIT];
-    let place = i * SET;
-    put_spread(&mem[place..place + SET], &mut present);
-    let count = put_members(&present, n, &mut members);
     let pairs = row.len();
     let mut m = k;
     let mut q = 0;
@@ -110,17 +108,7 @@ fn expand_belief(
         if b < q {
             row[q] = row[b];
         } else {
-            let t = put_belief(
-                successors,
-                &members,
-                count,
-                q,
-                pairs,
-                hiddens,
-                m,
-                mem,
-                hints,
-            );
+            let t = put_belief(successors, members, count, q, pairs, hiddens, m, mem, hints);
             if t == BELIEF_LIMIT {
                 return Explored::TooMany;
             }
@@ -134,47 +122,125 @@ fn expand_belief(
     Explored::Found(m)
 }
 
-// All beliefs over n states, and for each the row of the beliefs that pairs lead to, into memory that is all zero for the rows.
-// After too many beliefs both memories may hold anything.
+// Lists the members of belief i, marks whether it is final, and answers how many members there are.
+fn mark_belief(
+    sets: &[u8],
+    mem: &[u8],
+    i: usize,
+    n: usize,
+    members: &mut [u8],
+    finals: &mut [u8],
+) -> usize
+    requires { ⌜ n * setSize ≤ length (now sets) ⌝ }
+    requires { ⌜ i * beliefSize + beliefSize ≤ length (now mem) ⌝ }
+    requires { ⌜ n ≤ stateLimit ⌝ }
+    requires { ⌜ length (now members) ≡ stateLimit ⌝ }
+    requires { ⌜ i < length (now finals) ⌝ }
+    ensures { λ r. ⌜ Members n (now (members .exit)) r ⌝ }
+    ensures { λ r. ⌜ beliefOf n (now (members .exit)) r ≡ beliefIn n (now (mem .entry)) i ⌝ }
+    ensures { λ _. ⌜ now (finals .exit) ≡ set (now (finals .entry)) i (markOf (now (sets .entry)) n (beliefIn n (now (mem .entry)) i)) ⌝ }
+{
+    let count = put_members(mem, i, n, members);
+    finals[i] = is_final(sets, members, count) as u8;
+    count
+}
+
+// Marks belief i, of k, and tries every pair in it.
+fn visit_belief(
+    sets: &[u8],
+    successors: &[u8],
+    twins: &[u8],
+    n: usize,
+    hiddens: usize,
+    i: usize,
+    k: usize,
+    mem: &mut [u8],
+    hints: &mut [u8],
+    row: &mut [u8],
+    finals: &mut [u8],
+) -> Explored
+    requires { ⌜ n * setSize ≤ length (now sets) ⌝ }
+    requires { ⌜ length (now successors) ≡ stateLimit * letterLimit ⌝ }
+    requires { ⌜ length (now twins) ≡ pairLimit ⌝ }
+    requires { ⌜ n ≤ stateLimit ⌝ }
+    requires { ⌜ length (now row) ≤ pairLimit ⌝ }
+    requires { ⌜ hiddens * length (now row) ≤ letterLimit ⌝ }
+    requires { ⌜ Successors (now successors) n (length (now row)) hiddens ⌝ }
+    requires { ⌜ Twins (now successors) n (length (now row)) hiddens (now twins) ⌝ }
+    requires { ⌜ i < k ⌝ }
+    requires { ⌜ k ≤ beliefLimit ⌝ }
+    requires { ⌜ length (now mem) ≡ (beliefLimit + 1) * beliefSize ⌝ }
+    requires { ⌜ HoldsBeliefs n (now mem) k ⌝ }
+    requires { ⌜ Distinct (beliefsIn n (now mem) k) ⌝ }
+    requires { ⌜ length (now hints) ≡ hintSize ⌝ }
+    requires { ⌜ length (now finals) ≡ beliefLimit ⌝ }
+    ensures { λ r. ⌜ r ≡ countUpTo beliefLimit (triedFrom (now (successors .entry)) n (length (now (row .entry))) hiddens (now (mem .entry)) k
+        (beliefIn n (now (mem .entry)) i)) ⌝ }
+    ensures { λ _. ⌜ Tried (now (successors .entry)) n (length (now (row .entry))) hiddens (now (mem .entry)) k
+        (beliefIn n (now (mem .entry)) i) (now (mem .exit)) (now (row .exit)) ⌝ }
+    ensures { λ _. ⌜ now (finals .exit) ≡ set (now (finals .entry)) i (markOf (now (sets .entry)) n (beliefIn n (now (mem .entry)) i)) ⌝ }
+{
+    let mut members = [0u8; STATE_LIMIT];
+    let count = mark_belief(sets, mem, i, n, &mut members, finals);
+    expand_belief(
+        successors,
+        twins,
+        &members,
+        count,
+        n,
+        hiddens,
+        k,
+        mem,
+        hints,
+        row,
+    )
+}
+
+// All beliefs over n states: for each the row of the beliefs that pairs lead to, into memory that is all zero, and its mark. After
+// too many beliefs both may hold anything.
 fn count_beliefs(
+    sets: &[u8],
     successors: &[u8],
     n: usize,
     pairs: usize,
     hiddens: usize,
-    mem: &mut [u8],
     moves: &mut [u8],
+    finals: &mut [u8],
 ) -> Explored
+    requires { ⌜ n * setSize ≤ length (now sets) ⌝ }
     requires { ⌜ length (now successors) ≡ stateLimit * letterLimit ⌝ }
     requires { ⌜ 0 < n ⌝ }
     requires { ⌜ n ≤ stateLimit ⌝ }
     requires { ⌜ pairs ≤ pairLimit ⌝ }
     requires { ⌜ hiddens * pairs ≤ letterLimit ⌝ }
     requires { ⌜ Successors (now successors) n pairs hiddens ⌝ }
-    requires { ⌜ length (now mem) ≡ (beliefLimit + 1) * setSize ⌝ }
     requires { ⌜ now moves ≡ replicate (beliefLimit * pairLimit) 0 ⌝ }
+    requires { ⌜ length (now finals) ≡ beliefLimit ⌝ }
     ensures { λ r. ⌜ r ≡ exploredOf (countedBeliefs (now (successors .entry)) n pairs hiddens beliefLimit) ⌝ }
-    ensures { λ _. ⌜ RanItems packBelief (beliefAfter (now (successors .entry)) n pairs hiddens) (below pairs) pairLimit
-        (countedBeliefs (now (successors .entry)) n pairs hiddens beliefLimit)
-        (now (mem .exit)) (now (moves .exit)) ⌝ }
+    ensures { λ _. ⌜ RanBeliefs (now (sets .entry)) (now (successors .entry)) n pairs hiddens
+        (countedBeliefs (now (successors .entry)) n pairs hiddens beliefLimit) (now (moves .exit)) (now (finals .exit)) ⌝ }
 {
+    let mut mem = [0u8; BELIEFS_SIZE];
     let mut twins = [0u8; PAIR_LIMIT];
     let mut hints = [0u8; HINTS];
     put_twins(successors, n, pairs, hiddens, &mut twins);
-    put_first(&mut mem[0..SET], n);
+    mem[0] = 1;
     let mut k = 1;
     let mut i = 0;
     while i < k {
         let at = i * PAIR_LIMIT;
-        match expand_belief(
+        match visit_belief(
+            sets,
             successors,
             &twins,
             n,
             hiddens,
             i,
             k,
-            mem,
+            &mut mem,
             &mut hints,
             &mut moves[at..at + pairs],
+            finals,
         ) {
             Explored::Found(m) => {
                 k = m;
@@ -186,25 +252,6 @@ fn count_beliefs(
         i += 1;
     }
     Explored::Found(k)
-}
-
-// Writes for each of k beliefs whether it is final.
-fn mark_finals(sets: &[u8], mem: &[u8], n: usize, k: usize, finals: &mut [u8])
-    requires { ⌜ n * setSize ≤ length (now sets) ⌝ }
-    requires { ⌜ n ≤ stateLimit ⌝ }
-    requires { ⌜ k * setSize ≤ length (now mem) ⌝ }
-    requires { ⌜ HoldsItems n packBelief (now mem) k ⌝ }
-    requires { ⌜ k ≤ length (now finals) ⌝ }
-    ensures { λ _. ⌜ now (finals .exit) ≡ finalsOf (now (sets .entry)) n (itemsIn n (now (mem .entry)) k) ++ drop k (now (finals .entry)) ⌝ }
-{
-    let mut present = [0u8; SET * 8];
-    let mut i = 0;
-    while i < k {
-        let place = i * SET;
-        put_spread(&mem[place..place + SET], &mut present);
-        finals[i] = is_final(sets, &present, n) as u8;
-        i += 1;
-    }
 }
 
 // All beliefs over n states, by number: for each the row of the beliefs that pairs lead to, into memory that is all zero, and
@@ -233,10 +280,10 @@ pub fn explore_beliefs(
     ensures { λ _. ⌜ now (finals .exit) ≡ written
         (finalsOf (now (sets .entry)) n (listOf (countedBeliefs (now (successors .entry)) n pairs hiddens beliefLimit))) (now (finals .entry)) ⌝ }
 {
-    let mut mem = [0u8; BELIEFS_SIZE];
-    match count_beliefs(successors, n, pairs, hiddens, &mut mem, moves) {
+    let mut marks = [0u8; BELIEF_LIMIT];
+    match count_beliefs(sets, successors, n, pairs, hiddens, moves, &mut marks) {
         Explored::Found(k) => {
-            mark_finals(sets, &mem, n, k, finals);
+            put_bytes(finals, 0, &marks[0..k]);
             Explored::Found(k)
         }
         Explored::TooMany => {

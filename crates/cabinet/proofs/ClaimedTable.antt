@@ -1,8 +1,8 @@
 -- What the solver claims of a table, carried to printer and cabinet.
 -- Assumes nothing.
-use Prim.Native.Nat.{ℕ, _*_, _≤_, _<_}
+use Prim.Native.Nat.{ℕ, _*_, _^_, _≤_, _<_}
 use native.Mathlib.Omega.{arith}
-use mathlib.Core.Path.{_≡_, subst}
+use mathlib.Core.Path.{_≡_, sym, subst}
 use mathlib.Core.Bool.{true}
 use mathlib.Core.List.{List}
 use lib.ListN.{length, take}
@@ -12,9 +12,11 @@ use Rattle.rules.specs.Problem.{Problem}
 use Rattle.rules.proofs.DenotesLaws.{read-iff-denotes, one-problem}
 use Rattle.rules.proofs.WithinLimits.{Few, read-within}
 use Rattle.game.specs.declared.solving.Solved.the-variants.{Table}
-use Rattle.play.specs.Limits.{beliefLimit, rowSize}
+use Rattle.play.specs.Limits.{beliefLimit}
+use Rattle.play.specs.Cells.{rowSize}
+use Rattle.tables.specs.declared.shape.Shape.{Shape}
 use Rattle.play.specs.Game.{Play}
-use Rattle.play.specs.Table.{tableStrategy}
+use Rattle.play.specs.Table.{tableStrategy, Laid}
 use Rattle.play.specs.Answer.{Solves}
 use Rattle.game.specs.Solution.{gameOf}
 use Rattle.game.specs.Claim.{Claim}
@@ -29,28 +31,38 @@ use Rattle.printer.proofs.WellFormedLaws.{side-le}
 use Rattle.cabinet.proofs.LaidRows.{printable}
 use Rattle.cabinet.proofs.RunningLaws.{runs}
 
-module _ (source : List ℕ) (n r : ℕ) (table : List ℕ) (claim : Claim source (Table n r) table) (p : Problem) (denotes : Denotes source p) where
+module _ (source : List ℕ) (shape : Shape) (r : ℕ) (table : List ℕ) (claim : Claim source (Table shape r) table) (p : Problem)
+    (denotes : Denotes source p) where
   -- the claim, told of the problem that the text denotes
-  solves : Solves beliefLimit (gameOf p) n r (take (n * rowSize) table)
-  solves = let (q, d, small, s) = claim in subst (λ q. Solves beliefLimit (gameOf q) n r (take (n * rowSize) table)) (one-problem source q p d denotes) s
+  abbrev Told : Problem → Type 0
+  Told q = (shape .observed ≡ q .signals .observed) × Solves beliefLimit (gameOf q) (shape .rows) r (take (shape .rows * rowSize) table)
+
+  told : Told p
+  told = let (q, d, small, o, s) = claim in subst Told (one-problem source q p d denotes) (o, s)
+
+  declared : shape .observed ≡ p .signals .observed
+  declared = told .0
+
+  solves : Solves beliefLimit (gameOf p) (shape .rows) r (take (shape .rows * rowSize) table)
+  solves = told .1
 
   few : Few (p .signals)
   few = read-within source p (read-iff-denotes source p .1 denotes) .few
 
-  some : 0 < n
+  some : 0 < shape .rows
   some = omega (arith, solves .below)
 
   pub running : (old : Position) (play : Play (gameOf p))
-      → Runs (gameOf p) (tableStrategy (take (n * rowSize) table)) r (answerTo table n (p .signals .observed) old) play
-  running = runs p few n table some (solves .within) (solves .laid) r (solves .optimal)
+      → Runs (gameOf p) (tableStrategy (take (shape .rows * rowSize) table)) r (answerTo table shape old) play
+  running = runs p few shape declared table some (solves .within) (solves .laid) r (solves .optimal)
 
-  pub passes : isPrintable table n r (p .signals .observed) ≡ true
+  pub passes : isPrintable table shape r ≡ true
   passes =
-      printable (gameOf p .choices) (p .signals .observed) n table (side-le (p .signals .outputs) (few .outputs)) (few .observed) some
-      (solves .within) (solves .laid)
+      printable (gameOf p .choices) shape table (side-le (p .signals .outputs) (few .outputs)) (omega (arith, declared, few .observed)) some
+      (solves .within)
+      (subst (λ o. Laid (gameOf p .choices) (2 ^ o) (shape .rows) (take (shape .rows * rowSize) table)) (sym declared) (solves .laid))
       r (solves .below)
 
-  pub printing : (room : ℕ) → textSize ≤ room
-      → printedBy table n r (p .signals .observed) room ≡ Text (length (tableText table n r (p .signals .observed)))
+  pub printing : (room : ℕ) → textSize ≤ room → printedBy table shape r room ≡ Text (length (tableText table shape r))
   unfolding printedBy
   printing room h = rw (le-ltb room textSize h, passes)

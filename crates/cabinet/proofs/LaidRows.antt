@@ -12,8 +12,10 @@ use lib.ListN.{length, take, length-take}
 use lib.Seq.{getD-take}
 use borrow.Author.Tests.{lt-ltb, ltb-false, le-leb, eqb-true, eq-eqb}
 use Rattle.basics.specs.Limits.{kindLimit}
-use Rattle.play.specs.Limits.{beliefLimit, sideLimit, rowSize, stopCell}
-use Rattle.play.specs.Table.{cell, isStop, LaidRow, Laid}
+use Rattle.play.specs.Limits.{beliefLimit, sideLimit}
+use Rattle.play.specs.Cells.{choiceAt, nextAt, rowSize, stopCell, cell, firstCell, isStop, nextCell}
+use Rattle.tables.specs.declared.shape.Shape.{Shape}
+use Rattle.play.specs.Table.{LaidRow, Laid}
 use Rattle.basics.proofs.BoundedLaws.{all-of}
 use Rattle.basics.proofs.Booleans.{test, clash, and-true, or-intro-left, or-intro-right}
 use Rattle.printer.specs.WellFormed.{isSized, isAnswer, isNext, nextCount, isRow, isBlank, isPrintableRow, isPrintable}
@@ -25,10 +27,17 @@ module _ (n : ℕ) (t : List ℕ) (i : ℕ) (h : i < n) where
   cell-taken j b = getD-take (n * rowSize) t (i * rowSize + j) 0 (omega arith)
 
   pub stop-taken : isStop (take (n * rowSize) t) i ≡ isStop t i
-  stop-taken = ap (λ c. eqb c stopCell) (cell-taken 0 (omega arith))
+  stop-taken = ap (λ c. eqb c stopCell) (cell-taken choiceAt (omega arith))
 
-module _ (choices observed n : ℕ) (t : List ℕ) (few-choices : choices ≤ sideLimit) (few-observed : observed ≤ kindLimit) (some : 0 < n)
-    (within : n ≤ beliefLimit) (laid : Laid choices (2 ^ observed) n (take (n * rowSize) t)) where
+module _ (choices : ℕ) (shape : Shape) (t : List ℕ) (few-choices : choices ≤ sideLimit) (few-observed : shape .observed ≤ kindLimit)
+    (some : 0 < shape .rows) (within : shape .rows ≤ beliefLimit)
+    (laid : Laid choices (2 ^ (shape .observed)) (shape .rows) (take (shape .rows * rowSize) t)) where
+  abbrev n : ℕ
+  n = shape .rows
+
+  abbrev observed : ℕ
+  observed = shape .observed
+
   long : n * rowSize ≤ length t
   long = omega (arith, sym (length-take (n * rowSize) t) ∙ laid .long)
 
@@ -36,68 +45,68 @@ module _ (choices observed n : ℕ) (t : List ℕ) (few-choices : choices ≤ si
   row-laid : (i : ℕ) → i < n → LaidRow choices (2 ^ observed) n t i
   row-laid i h =
       elim (laid .row i h) [
-        | inl (s, z) ↦ inl (sym (stop-taken n t i h) ∙ s, λ k b. sym (cell-taken n t i h (1 + k) (omega arith)) ∙ z k b)
+        | inl (s, z) ↦ inl (sym (stop-taken n t i h) ∙ s, λ k b. sym (cell-taken n t i h (nextAt k) (omega arith)) ∙ z k b)
         | inr (c, m, z) ↦
             inr (
-              subst (λ k. k < choices) (cell-taken n t i h 0 (omega arith)) c,
-              λ k b. subst (λ k. k < n) (cell-taken n t i h (1 + k) (omega (arith, side-le observed few-observed))) (m k b),
-              λ k o b. sym (cell-taken n t i h (1 + k) (omega arith)) ∙ z k o b,
+              subst (λ k. k < choices) (cell-taken n t i h choiceAt (omega arith)) c,
+              λ k b. subst (λ k. k < n) (cell-taken n t i h (nextAt k) (omega (arith, side-le observed few-observed))) (m k b),
+              λ k o b. sym (cell-taken n t i h (nextAt k) (omega arith)) ∙ z k o b,
             )
       ]
 
-  pub sized : isSized (length t) n observed ≡ true
+  pub sized : isSized (length t) shape ≡ true
   sized = rw (lt-ltb 0 n some, le-leb n beliefLimit within, le-leb (n * rowSize) (length t) long, le-leb observed kindLimit few-observed)
 
   -- a row's first cell is a choice or stop
-  answers : (i : ℕ) → i < n → isAnswer (cell t i 0) ≡ true
+  answers : (i : ℕ) → i < n → isAnswer (firstCell t i) ≡ true
   answers i h =
       elim (row-laid i h) [
-        | inl (s, z) ↦ or-intro-right (ltb (cell t i 0) sideLimit) s
-        | inr (c, m, z) ↦ or-intro-left (isStop t i) (lt-ltb (cell t i 0) sideLimit (omega (arith, c, few-choices)))
+        | inl (s, z) ↦ or-intro-right (ltb (firstCell t i) sideLimit) s
+        | inr (c, m, z) ↦ or-intro-left (isStop t i) (lt-ltb (firstCell t i) sideLimit (omega (arith, c, few-choices)))
       ]
 
   -- a row that does not stop leads to rows, and its other cells are unused
-  pub goes-on : (i : ℕ) → i < n → isStop t i ≡ false → (s : ℕ) → s < 2 ^ observed → cell t i (1 + s) < n
+  pub goes-on : (i : ℕ) → i < n → isStop t i ≡ false → (s : ℕ) → s < 2 ^ observed → nextCell t i s < n
   goes-on i h f s b = elim (row-laid i h) [ inl (e, z) ↦ clash e f | inr (c, m, z) ↦ m s b ]
 
-  unused : (i : ℕ) → i < n → (s : ℕ) → s < sideLimit → nextCount t observed i ≤ s → cell t i (1 + s) ≡ 0
+  unused : (i : ℕ) → i < n → (s : ℕ) → s < sideLimit → nextCount t shape i ≤ s → nextCell t i s ≡ 0
   unused i h s b o =
       elim (row-laid i h) [
         | inl (e, z) ↦ z s b
         | inr (c, m, z) ↦
             elim (test (isStop t i)) [
-              | inl e ↦ let k = eqb-true (cell t i 0) stopCell e in absurd (omega (arith, c, k, few-choices))
+              | inl e ↦ let k = eqb-true (firstCell t i) stopCell e in absurd (omega (arith, c, k, few-choices))
               | inr f ↦ z s (rw f at o) b
             ]
       ]
 
-  pub row-passes : (i : ℕ) → i < n → isRow t n observed i ≡ true
+  pub row-passes : (i : ℕ) → i < n → isRow t shape i ≡ true
   unfolding isRow
-  row-passes i h = and-true (answers i h) (all-of (nextCount t observed i) (λ s. isNext t n (cell t i (1 + s))) next)
+  row-passes i h = and-true (answers i h) (all-of (nextCount t shape i) (λ s. isNext t shape (nextCell t i s)) next)
     where
-      next : (s : ℕ) → s < nextCount t observed i → isNext t n (cell t i (1 + s)) ≡ true
+      next : (s : ℕ) → s < nextCount t shape i → isNext t shape (nextCell t i s) ≡ true
       next s b =
           elim (test (isStop t i)) [
             | inl e ↦ absurd (not-suc-le-zero (rw e at b))
-            | inr f ↦ let m = goes-on i h f s (rw f at b) in and-true (lt-ltb (cell t i (1 + s)) n m) (answers (cell t i (1 + s)) m)
+            | inr f ↦ let m = goes-on i h f s (rw f at b) in and-true (lt-ltb (nextCell t i s) n m) (answers (nextCell t i s) m)
           ]
 
-  blank-passes : (i : ℕ) → i < n → isBlank t observed i ≡ true
+  blank-passes : (i : ℕ) → i < n → isBlank t shape i ≡ true
   unfolding isBlank
-  blank-passes i h = all-of sideLimit (λ s. ltb s (nextCount t observed i) || eqb (cell t i (1 + s)) 0) blank
+  blank-passes i h = all-of sideLimit (λ s. ltb s (nextCount t shape i) || eqb (nextCell t i s) 0) blank
     where
-      blank : (s : ℕ) → s < sideLimit → (ltb s (nextCount t observed i) || eqb (cell t i (1 + s)) 0) ≡ true
+      blank : (s : ℕ) → s < sideLimit → (ltb s (nextCount t shape i) || eqb (nextCell t i s) 0) ≡ true
       blank s b =
-          elim (test (ltb s (nextCount t observed i))) [
-            | inl e ↦ or-intro-left (eqb (cell t i (1 + s)) 0) e
-            | inr f ↦ or-intro-right (ltb s (nextCount t observed i)) (eq-eqb (cell t i (1 + s)) 0 (unused i h s b (ltb-false s (nextCount t observed i) f)))
+          elim (test (ltb s (nextCount t shape i))) [
+            | inl e ↦ or-intro-left (eqb (nextCell t i s) 0) e
+            | inr f ↦ or-intro-right (ltb s (nextCount t shape i)) (eq-eqb (nextCell t i s) 0 (unused i h s b (ltb-false s (nextCount t shape i) f)))
           ]
 
-  pub printable : (r : ℕ) → r < n → isPrintable t n r observed ≡ true
+  pub printable : (r : ℕ) → r < n → isPrintable t shape r ≡ true
   unfolding isPrintable isPrintableRow
   printable r b =
       rw (
         sized,
         lt-ltb r n b,
-        all-of n (isPrintableRow t n observed) (λ i h. and-true (row-passes i h) (blank-passes i h)),
+        all-of n (isPrintableRow t shape) (λ i h. and-true (row-passes i h) (blank-passes i h)),
       )

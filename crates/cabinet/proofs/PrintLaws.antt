@@ -9,7 +9,8 @@ use lib.ListN.{length}
 use borrow.Author.Tests.{lt-ltb, le-ltb, not-true, not-false}
 use Rattle.basics.specs.Limits.{kindLimit}
 use Rattle.lines.specs.declared.refusal.Refusal.the-variants.{ShortMemory, BadTable}
-use Rattle.play.specs.Limits.{rowSize}
+use Rattle.play.specs.Cells.{rowSize}
+use Rattle.tables.specs.declared.shape.Shape.{Shape}
 use Rattle.basics.specs.Lists.{written}
 use Rattle.cabinet.specs.declared.printing.Printed.{Printed}
 use Rattle.cabinet.specs.declared.printing.Printed.the-variants.{Text, Refused}
@@ -20,34 +21,34 @@ use Rattle.cabinet.specs.Print.{printedBy, textAfter}
 use Rattle.printer.proofs.WellFormedLaws.{printable-says}
 use Rattle.printer.proofs.TextLaws.{text-fits}
 
-module _ (t : List ℕ) (rows worst observed : ℕ) (text : List ℕ) where
+module _ (t : List ℕ) (shape : Shape) (worst : ℕ) (text : List ℕ) where
   -- the answer r, with the text left as `after`, is what the call promises
   abbrev pub Prints : Printed → List ℕ → Type 0
-  Prints r after = (r ≡ printedBy t rows worst observed (length text)) × (after ≡ textAfter t rows worst observed text)
+  Prints r after = (r ≡ printedBy t shape worst (length text)) × (after ≡ textAfter t shape worst text)
 
   pub print-short : length text < textSize → Prints (Refused ShortMemory) text
   unfolding printedBy textAfter
   print-short h = let short = lt-ltb (length text) textSize h in (rw short refl, rw short refl)
 
-  module _ (h : textSize ≤ length text) (a : Bool) (e : a ≡ isPrintable t rows worst observed) where
+  module _ (h : textSize ≤ length text) (a : Bool) (e : a ≡ isPrintable t shape worst) where
     pub print-refused : not a ≡ true → Prints (Refused BadTable) text
     unfolding printedBy textAfter
     print-refused f =
         let room = le-ltb (length text) textSize h in
-        let fails : isPrintable t rows worst observed ≡ false = sym e ∙ not-true a f in
+        let fails : isPrintable t shape worst ≡ false = sym e ∙ not-true a f in
         (rw (room, fails) refl, rw (room, fails) refl)
 
     module _ (f : not a ≡ false) where
-      passes : isPrintable t rows worst observed ≡ true
+      passes : isPrintable t shape worst ≡ true
       passes = sym e ∙ not-false a f
 
       -- what the writing of the table asks
-      pub print-asks : (observed ≤ kindLimit) × ((rows * rowSize ≤ length t) × (length (tableText t rows worst observed) ≤ length text))
+      pub print-asks : (shape .observed ≤ kindLimit) × ((shape .rows * rowSize ≤ length t) × (length (tableText t shape worst) ≤ length text))
       print-asks =
-          let s = printable-says t rows worst observed passes .sized in
-          (s .seen, (s .room, le-trans (text-fits t rows worst observed passes) h))
+          let s = printable-says t shape worst passes .sized in
+          (s .seen, (s .room, le-trans (text-fits t shape worst passes) h))
 
-      pub print-done : (n : ℕ) (after : List ℕ) → n ≡ length (tableText t rows worst observed) → after ≡ written (tableText t rows worst observed) text
+      pub print-done : (n : ℕ) (after : List ℕ) → n ≡ length (tableText t shape worst) → after ≡ written (tableText t shape worst) text
           → Prints (Text n) after
       unfolding printedBy textAfter
       print-done n after p q =

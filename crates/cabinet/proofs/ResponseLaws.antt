@@ -2,7 +2,7 @@
 -- Assumes nothing.
 use Prim.Native.Nat.{ℕ, _+_, _*_, _≤_}
 use native.Mathlib.Omega.{arith}
-use mathlib.Core.Path.{_≡_, refl, sym, ap, ap₂, _∙_, subst}
+use mathlib.Core.Path.{_≡_, refl, sym, ap, _∙_, subst}
 use mathlib.Core.Logic.{inl, inr}
 use mathlib.Core.Bool.{true, false}
 use mathlib.Core.List.{List}
@@ -10,43 +10,28 @@ use lib.Dec.{ltb}
 use lib.ListN.{length, take, drop, length-take, length-append}
 use lib.Seq.{take-take, take-at}
 use borrow.Author.Tests.{ltb-false}
-use Rattle.lines.specs.declared.problem.Sizes.{Sizes}
-use Rattle.lines.specs.declared.problem.Reading.{Reading}
-use Rattle.lines.specs.declared.problem.Reading.the-variants as reading
 use Rattle.lines.specs.declared.refusal.Refusal.{Refusal}
 use Rattle.lines.specs.declared.refusal.Refusal.the-variants.{ShortMemory}
-use Rattle.rules.specs.Reading.{readingOf}
-use Rattle.rules.specs.Problem.{Problem, Outcome, accepted, refused, readProblem}
-use Rattle.rules.proofs.DenotesLaws.{read-iff-denotes}
+use Rattle.rules.specs.Problem.{readProblem}
 use Rattle.basics.proofs.Booleans.{or-left, or-right, test, clash, or-cases}
 use Rattle.game.specs.declared.solving.Solved.{Solved}
 use Rattle.game.specs.declared.solving.Solved.the-variants as solved
-use Rattle.play.specs.Limits.{beliefLimit, rowSize}
+use Rattle.play.specs.Limits.{beliefLimit}
+use Rattle.play.specs.Cells.{rowSize}
+use Rattle.tables.specs.declared.shape.Shape.{Shape}
 use Rattle.basics.specs.Lists.{written}
 use Rattle.play.specs.Answer.{Solves}
 use Rattle.game.specs.Solution.{gameOf}
 use Rattle.game.specs.Claim.{isShort, solvedFrom, solvedBy, cellsFrom, tableAfter, workAfter, Claim}
 use Rattle.game.proofs.ClaimLaws.{cells-count}
-use Rattle.rules.proofs.ReadingLaws.{not-refused, same-sizes}
 use Rattle.cabinet.specs.declared.printing.Printed.{Printed}
 use Rattle.cabinet.specs.declared.printing.Printed.the-variants.{Text, Refused}
 use Rattle.printer.specs.Limits.{textSize}
 use Rattle.printer.specs.WellFormed.{isPrintable}
 use Rattle.printer.specs.Text.{tableText, refusalText}
 use Rattle.cabinet.specs.Print.{printedBy, textAfter}
-use Rattle.cabinet.specs.Response.{observedIn, response, isTight, respondedBy, responseAfter, respondedTable, respondedWork}
+use Rattle.cabinet.specs.Response.{response, isTight, respondedBy, responseAfter, respondedTable, respondedWork}
 use Rattle.cabinet.proofs.ClaimedTable.{passes}
-
--- the observed signals of a reading are those of the problem
-pub observed-accepted : (o : Outcome) (r : Reading) (s : Sizes) → r ≡ readingOf o → r ≡ reading.Accepted s → s .observed ≡ observedIn o
-unfolding observedIn
-observed-accepted (accepted p) r s e h = ap (λ u. u .observed) (same-sizes s _ (sym h ∙ e))
-observed-accepted (refused x) r s e h = not-refused x s (sym e ∙ h)
-
-pub observed-refused : (o : Outcome) (r : Reading) (x : Refusal) → r ≡ readingOf o → r ≡ reading.Refused x → 0 ≡ observedIn o
-unfolding observedIn
-observed-refused (accepted p) r x e h = not-refused x _ (sym h ∙ e)
-observed-refused (refused y) r x e h = refl
 
 -- the whole call: its answer, and what it leaves in text, table and work memory
 abbrev Responded : (source work table text : List ℕ) → Printed → (text′ table′ work′ : List ℕ) → Type 0
@@ -73,14 +58,10 @@ module _ (source : List ℕ) where
   unfolding response
   response-refused x h = rw h
 
-  response-table : (n r : ℕ) → solvedFrom (readProblem source) ≡ solved.Table n r
-      → response source ≡ tableText (cellsFrom (readProblem source)) n r (observedIn (readProblem source))
+  response-table : (shape : Shape) (r : ℕ) → solvedFrom (readProblem source) ≡ solved.Table shape r
+      → response source ≡ tableText (cellsFrom (readProblem source)) shape r
   unfolding response
-  response-table n r h = rw h
-
-  observed-of : (p : Problem) → readProblem source ≡ accepted p → observedIn (readProblem source) ≡ p .signals .observed
-  unfolding observedIn
-  observed-of p h = rw h
+  response-table shape r h = rw h
 
 -- memory that is long enough
 pub text-long : (work table text : ℕ) → isTight work table text ≡ false → textSize ≤ text
@@ -117,43 +98,42 @@ module _ (source work table text : List ℕ) (e : isTight (length work) (length 
       responded r text′ (p ∙ ap (λ l. Text (length l)) (sym is)) (q ∙ ap (λ l. written l text) (sym is))
 
   -- the text of a table: it is one that can be printed
-  module _ (n r : ℕ) (h : s ≡ solved.Table n r) (claim : Claim source s table′) where
-    is-table : solvedFrom (readProblem source) ≡ solved.Table n r
+  module _ (shape : Shape) (r : ℕ) (h : s ≡ solved.Table shape r) (claim : Claim source s table′) where
+    -- how many cells its rows have
+    abbrev size : ℕ
+    size = shape .rows * rowSize
+
+    is-table : solvedFrom (readProblem source) ≡ solved.Table shape r
     is-table = sym is-solved ∙ h
 
-    front : take (n * rowSize) table′ ≡ cellsFrom (readProblem source)
-    front = ap (take (n * rowSize)) is-written ∙ take-at (cellsFrom (readProblem source)) _ (n * rowSize) (cells-count source n r is-table)
+    front : take size table′ ≡ cellsFrom (readProblem source)
+    front = ap (take size) is-written ∙ take-at (cellsFrom (readProblem source)) _ size (cells-count source shape r is-table)
 
-    table-claim : Claim source (solved.Table n r) table′
+    table-claim : Claim source (solved.Table shape r) table′
     table-claim = subst (λ z. Claim source z table′) h claim
 
-    front-claim : Claim source (solved.Table n r) (take (n * rowSize) table′)
+    front-claim : Claim source (solved.Table shape r) (take size table′)
     front-claim =
-        let (p, d, small, s) = table-claim in
-        (p, d, small, subst (Solves beliefLimit (gameOf p) n r) (sym (take-take (n * rowSize) (n * rowSize) table′ (omega arith))) s)
+        let (p, d, small, o, s) = table-claim in
+        (p, d, small, o, subst (Solves beliefLimit (gameOf p) (shape .rows) r) (sym (take-take size size table′ (omega arith))) s)
 
     -- its rows are within the table
-    pub few-rows : n ≤ beliefLimit
-    few-rows = let (p, d, small, s) = table-claim in s .within
+    pub few-rows : shape .rows ≤ beliefLimit
+    few-rows = let (p, d, small, o, s) = table-claim in s .within
 
-    pub rows-within : n * rowSize ≤ length table′
-    rows-within = let (p, d, small, s) = table-claim in omega (arith, sym (length-take (n * rowSize) table′) ∙ s .laid .long)
+    pub rows-within : size ≤ length table′
+    rows-within = let (p, d, small, o, s) = table-claim in omega (arith, sym (length-take size table′) ∙ s .laid .long)
 
-    can-print : isPrintable (take (n * rowSize) table′) n r (observedIn (readProblem source)) ≡ true
-    can-print =
-        let (p, d, small, s) = front-claim in
-        let declared : observedIn (readProblem source) ≡ p .signals .observed = observed-of source p (read-iff-denotes source p .1 d) in
-        subst (λ k. isPrintable (take (n * rowSize) table′) n r k ≡ true) (sym declared) (passes source n r (take (n * rowSize) table′) front-claim p d)
+    can-print : isPrintable (take size table′) shape r ≡ true
+    can-print = let (p, d, small, o, s) = front-claim in passes source shape r (take size table′) front-claim p d
 
-    pub table-right : (k : ℕ) → k ≡ observedIn (readProblem source) → (q : Printed) (text′ : List ℕ)
-        → q ≡ printedBy (take (n * rowSize) table′) n r k (length text) → text′ ≡ textAfter (take (n * rowSize) table′) n r k text
-        → Responded source work table text q text′ table′ work′
+    pub table-right : (q : Printed) (text′ : List ℕ) → q ≡ printedBy (take size table′) shape r (length text)
+        → text′ ≡ textAfter (take size table′) shape r text → Responded source work table text q text′ table′ work′
     unfolding printedBy textAfter
-    table-right k c q text′ p t =
-        let can = subst (λ k. isPrintable (take (n * rowSize) table′) n r k ≡ true) (sym c) can-print in
-        let is : tableText (take (n * rowSize) table′) n r k ≡ response source =
-        ap₂ (λ cells k. tableText cells n r k) front c ∙ sym (response-table source n r is-table) in
-        responded q text′ (p ∙ rw (long, can) (ap (λ l. Text (length l)) is)) (t ∙ rw (long, can) (ap (λ l. written l text) is))
+    table-right q text′ p t =
+        let is : tableText (take size table′) shape r ≡ response source =
+        ap (λ cells. tableText cells shape r) front ∙ sym (response-table source shape r is-table) in
+        responded q text′ (p ∙ rw (long, can-print) (ap (λ l. Text (length l)) is)) (t ∙ rw (long, can-print) (ap (λ l. written l text) is))
 
 -- what is written stands in the text
 pub text-within : (source : List ℕ) (work table : ℕ) (text : List ℕ) (r : Printed) (text′ : List ℕ) → r ≡ respondedBy work table (length text) source

@@ -1,18 +1,21 @@
 -- A cabinet that runs a table laid out as the solver lays it does what the table says, read as a strategy.
 -- Assumes nothing.
-use Prim.Native.Nat.{ℕ, zero, suc, _+_, _*_, _^_, _≤_, _<_, zero-le, suc-le-suc}
+use Prim.Native.Nat.{ℕ, zero, suc, _*_, _^_, _≤_, _<_, zero-le, suc-le-suc}
 use native.Mathlib.Omega.{arith}
-use mathlib.Core.Path.{_≡_, refl, sym, ap, _∙_}
+use mathlib.Core.Path.{_≡_, refl, sym, ap, _∙_, subst}
 use mathlib.Core.Logic.{inl, inr}
 use mathlib.Core.Bool.{true, false}
 use mathlib.Core.List.{List, _∷_}
 use lib.ListN.{take}
 use borrow.Author.Tests.{lt-ltb, eq-eqb}
+use Rattle.basics.specs.Limits.{kindLimit}
 use Rattle.rules.specs.Problem.{Problem}
 use Rattle.rules.proofs.WithinLimits.{Few}
-use Rattle.play.specs.Limits.{beliefLimit, sideLimit, rowSize}
+use Rattle.play.specs.Limits.{beliefLimit, sideLimit}
+use Rattle.play.specs.Cells.{choiceAt, nextAt, rowSize, firstCell, isStop, nextCell}
+use Rattle.tables.specs.declared.shape.Shape.{Shape}
 use Rattle.play.specs.Game.{Game, Play, seen, Decision, choose, stop, GoesOn, choiceOf, Optimal}
-use Rattle.play.specs.Table.{cell, isStop, readFrom, tableStrategy, Laid}
+use Rattle.play.specs.Table.{readFrom, tableStrategy, Laid}
 use Rattle.game.specs.Solution.{gameOf}
 use Rattle.basics.proofs.Booleans.{test}
 use Rattle.play.proofs.Plans.{rest}
@@ -33,13 +36,17 @@ said stop = Stop
 stop-no-choice : (c : ℕ) → stop ≡ choose c → ⊥
 stop-no-choice c e = let z : _≡_ {A = ℕ} 0 1 = cc in absurd (omega arith)
 
-module _ (p : Problem) (few : Few (p .signals)) (n : ℕ) (t : List ℕ) (some : 0 < n) (within : n ≤ beliefLimit)
-    (laid : Laid (gameOf p .choices) (gameOf p .observations) n (take (n * rowSize) t)) where
+module _ (p : Problem) (few : Few (p .signals)) (shape : Shape) (declared : shape .observed ≡ p .signals .observed) (t : List ℕ)
+    (some : 0 < shape .rows) (within : shape .rows ≤ beliefLimit)
+    (laid : Laid (gameOf p .choices) (gameOf p .observations) (shape .rows) (take (shape .rows * rowSize) t)) where
   abbrev G : Game
   G = gameOf p
 
+  abbrev n : ℕ
+  n = shape .rows
+
   abbrev observed : ℕ
-  observed = p .signals .observed
+  observed = shape .observed
 
   -- the rows in use
   abbrev T : List ℕ
@@ -48,28 +55,37 @@ module _ (p : Problem) (few : Few (p .signals)) (n : ℕ) (t : List ℕ) (some :
   few-choices : G .choices ≤ sideLimit
   few-choices = side-le (p .signals .outputs) (few .outputs)
 
-  stands : (i : ℕ) → i < n → isStanding t n observed i ≡ true
+  few-observed : observed ≤ kindLimit
+  few-observed = omega (arith, declared, few .observed)
+
+  laid-shape : Laid (G .choices) (2 ^ observed) n T
+  laid-shape = subst (λ o. Laid (G .choices) (2 ^ o) n T) (sym declared) laid
+
+  seen-below : (play : Play G) → (play 0) .observation < 2 ^ observed
+  seen-below play = subst (λ o. (play 0) .observation < 2 ^ o) (sym declared) ((play 0) .observation-below)
+
+  stands : (i : ℕ) → i < n → isStanding t shape i ≡ true
   stands i h =
       rw (
-        sized (G .choices) observed n t few-choices (few .observed) some within laid,
+        sized (G .choices) shape t few-choices few-observed some within laid-shape,
         lt-ltb i n h,
-        row-passes (G .choices) observed n t few-choices (few .observed) some within laid i h,
+        row-passes (G .choices) shape t few-choices few-observed some within laid-shape i h,
       )
 
-  start-moves : (old : Position) → startOf t n observed old ≡ moveTo t 0
+  start-moves : (old : Position) → startOf t shape old ≡ moveTo t 0
   unfolding startOf
   start-moves old = rw (stands 0 some)
 
-  step-moves : (i s : ℕ) → i < n → isStop t i ≡ false → s < 2 ^ observed → stepOf t n observed s (moveTo t i .position) ≡ moveTo t (cell t i (1 + s))
+  step-moves : (i s : ℕ) → i < n → isStop t i ≡ false → s < 2 ^ observed → stepOf t shape s (moveTo t i .position) ≡ moveTo t (nextCell t i s)
   unfolding stepOf
-  step-moves i s h f b = rw (stands i h, eq-eqb (cell t i 0) (cell t i 0) refl, f, lt-ltb s (2 ^ observed) b)
+  step-moves i s h f b = rw (stands i h, eq-eqb (firstCell t i) (firstCell t i) refl, f, lt-ltb s (2 ^ observed) b)
 
   -- the answers tell the strategy's decisions, as long as it has not stopped before
   follows : (m : ℕ) (play : Play G) (i : ℕ) → i < n → GoesOn (readFrom T i) play m
-      → stepAll t n observed (moveTo t i) (seen play m) .answer ≡ said (readFrom T i (seen play m))
+      → stepAll t shape (moveTo t i) (seen play m) .answer ≡ said (readFrom T i (seen play m))
   follows zero play i h g =
       let same = stop-taken n t i h in
-      let cells = cell-taken n t i h 0 (omega arith) in
+      let cells = cell-taken n t i h choiceAt (omega arith) in
       elim (test (isStop t i)) [
         | inl e ↦ rw (e, same ∙ e, readFrom)
         | inr f ↦ rw (f, same ∙ f, readFrom, cells)
@@ -80,19 +96,19 @@ module _ (p : Problem) (few : Few (p .signals)) (n : ℕ) (t : List ℕ) (some :
       elim (test (isStop t i)) [
         | inl e ↦ let (c, q) = g 0 (suc-le-suc zero-le) in absurd (stop-no-choice c (rw (same ∙ e, readFrom) at q))
         | inr f ↦
-            let next = goes-on (G .choices) observed n t few-choices (few .observed) some within laid i h f s ((play 0) .observation-below) in
-            let cells = cell-taken n t i h (1 + s) (omega (arith, side-le observed (few .observed), (play 0) .observation-below)) in
-            let on : (k : List ℕ) → readFrom T i (s ∷ k) ≡ readFrom T (cell t i (1 + s)) k = λ k. rw (same ∙ f, readFrom, cells) in
-            ap (λ (a : Moved). stepAll t n observed a (seen (rest play) m) .answer) (step-moves i s h f ((play 0) .observation-below))
-            ∙ follows m (rest play) (cell t i (1 + s)) next (λ j b. let (c, q) = g (suc j) (suc-le-suc b) in (c, sym (on (seen (rest play) j)) ∙ q))
+            let next = goes-on (G .choices) shape t few-choices few-observed some within laid-shape i h f s (seen-below play) in
+            let cells = cell-taken n t i h (nextAt s) (omega (arith, side-le observed few-observed, seen-below play)) in
+            let on : (k : List ℕ) → readFrom T i (s ∷ k) ≡ readFrom T (nextCell t i s) k = λ k. rw (same ∙ f, readFrom, cells) in
+            ap (λ (a : Moved). stepAll t shape a (seen (rest play) m) .answer) (step-moves i s h f (seen-below play))
+            ∙ follows m (rest play) (nextCell t i s) next (λ j b. let (c, q) = g (suc j) (suc-le-suc b) in (c, sym (on (seen (rest play) j)) ∙ q))
             ∙ ap said (sym (on (seen (rest play) m)))
       ]
 
-  pub runs : (r : ℕ) → Optimal G (tableStrategy T) r → (old : Position) (play : Play G) → Runs G (tableStrategy T) r (answerTo t n observed old) play
+  pub runs : (r : ℕ) → Optimal G (tableStrategy T) r → (old : Position) (play : Play G) → Runs G (tableStrategy T) r (answerTo t shape old) play
   runs r o old play =
       let (m, (e, g), true-trace) = o .wins play in
-      let answers : (j : ℕ) → j ≤ m → answerTo t n observed old (seen play j) ≡ said (tableStrategy T (seen play j)) = λ j b.
-      ap (λ (a : Moved). stepAll t n observed a (seen play j) .answer) (start-moves old) ∙ follows j play 0 some (λ k l. g k (omega arith)) in
+      let answers : (j : ℕ) → j ≤ m → answerTo t shape old (seen play j) ≡ said (tableStrategy T (seen play j)) = λ j b.
+      ap (λ (a : Moved). stepAll t shape a (seen play j) .answer) (start-moves old) ∙ follows j play 0 some (λ k l. g k (omega arith)) in
       record {
         steps = m;
         choices = λ j. choiceOf (tableStrategy T (seen play j));

@@ -6,7 +6,7 @@ use mathlib.Core.List.{List}
 use lib.Dec.{ltb}
 use lib.ListN.{length}
 use Rattle.lines.specs.declared.refusal.Refusal.the-variants.{ShortMemory}
-use Rattle.rules.specs.Problem.{Outcome, accepted, refused, readProblem}
+use Rattle.rules.specs.Problem.{readProblem}
 use Rattle.game.specs.declared.solving.Solved.{Solved}
 use Rattle.game.specs.declared.solving.Solved.the-variants as solved
 use Rattle.basics.specs.Lists.{written}
@@ -16,19 +16,14 @@ use Rattle.cabinet.specs.declared.printing.Printed.the-variants.{Text, R
 use Rattle.printer.specs.Limits.{textSize}
 use Rattle.printer.specs.Text.{tableText, refusalText}
 
--- the text of an answer, a table's from its cells and the number of observed signals
-abbrev pub solvedText : ℕ → List ℕ → Solved → List ℕ
-solvedText observed cells (solved.Table rows worst) = tableText cells rows worst observed
-solvedText observed cells (solved.Refused r) = refusalText r
-
--- how many observed signals a text declares; none where it is refused
-unfoldable pub observedIn : Outcome → ℕ
-observedIn (accepted p) = p .signals .observed
-observedIn (refused r) = 0
+-- the text of an answer, a table's from its cells
+abbrev pub solvedText : List ℕ → Solved → List ℕ
+solvedText cells (solved.Table shape worst) = tableText cells shape worst
+solvedText cells (solved.Refused r) = refusalText r
 
 -- what is written for a source
 unfoldable pub response : List ℕ → List ℕ
-response source = let o = readProblem source in solvedText (observedIn o) (cellsFrom o) (solvedFrom o)
+response source = let o = readProblem source in solvedText (cellsFrom o) (solvedFrom o)
 
 -- lent memory that is too short, the text included
 abbrev pub isTight : ℕ → ℕ → ℕ → Bool

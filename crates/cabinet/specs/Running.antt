@@ -6,21 +6,22 @@ use mathlib.Core.Bool.{true}
 use mathlib.Core.List.{List, [], _∷_}
 use Rattle.basics.specs.Lists.{tabulate}
 use Rattle.play.specs.Game.{Game, Play, seen, Strategy, choose, stop}
+use Rattle.tables.specs.declared.shape.Shape.{Shape}
 use Rattle.cabinet.specs.declared.position.Position.{Position}
 use Rattle.cabinet.specs.declared.position.Answer.{Answer}
 use Rattle.cabinet.specs.declared.position.Answer.the-variants.{Choice, Stop}
 use Rattle.cabinet.specs.declared.position.Moved.{Moved}
 use Rattle.cabinet.specs.Position.{startOf, stepOf}
 
-module _ (t : List ℕ) (rows observed : ℕ) where
+module _ (t : List ℕ) (shape : Shape) where
   -- stepped with a list of observations, oldest first
   abbrev pub stepAll : Moved → List ℕ → Moved
   stepAll m [] = m
-  stepAll m (s ∷ h) = stepAll (stepOf t rows observed s (m .position)) h
+  stepAll m (s ∷ h) = stepAll (stepOf t shape s (m .position)) h
 
   -- the answer to the last of them, or to the start where there is none
   abbrev pub answerTo : Position → List ℕ → Answer
-  answerTo p h = stepAll (startOf t rows observed p) h .answer
+  answerTo p h = stepAll (startOf t shape p) h .answer
 
 -- Started at any old position and stepped with the observations of a play, the cabinet answers with a choice step by step, the one
 -- that the strategy makes, then with stop, after r steps at most; it refuses nothing on the way; and the trace that it has made, of

@@ -1,14 +1,16 @@
 // A running cabinet: the position, and the calls that start it and step it, by value and on a position that is lent.
 ghost use mathlib.Core.Path.{_≡_};
-ghost use Prim.Native.Nat.{_*_, _<_};
+ghost use Prim.Native.Nat.{_+_, _*_, _≤_};
 ghost use lib.ListN.{length};
-ghost use Rattle.play.specs.Limits.{rowSize};
+ghost use Rattle.play.specs.Cells.{rowSize};
 ghost use Rattle.cabinet.specs.Position.{moveTo, refusedAt, isStanding, startOf, stepOf};
 use lines::Refusal;
 use printer::is_row;
 use printer::is_sized;
-use tables::ROW;
 use tables::STOP;
+use tables::Shape;
+use tables::first_cell;
+use tables::next_cell;
 
 // The row and its standing choice, 65535 for stop.
 pub struct Position {
@@ -41,10 +43,10 @@ fn refuse(held: Position, r: Refusal) -> Moved
 
 // The position on a row, and its answer.
 fn move_to(table: &[u16], row: usize) -> Moved
-    requires { ⌜ row * rowSize < length (now table) ⌝ }
+    requires { ⌜ row * rowSize + rowSize ≤ length (now table) ⌝ }
     ensures { λ m. ⌜ m ≡ moveTo (now (table .entry)) row ⌝ }
 {
-    let choice = table[row * ROW];
+    let choice = first_cell(table, row);
     let position = Position { row, choice };
     if choice == STOP {
         return Moved {
@@ -59,39 +61,33 @@ fn move_to(table: &[u16], row: usize) -> Moved
 }
 
 // Whether a cabinet may stand on a row: the tests of number 13.
-fn is_standing(table: &[u16], rows: usize, observed: usize, row: usize) -> bool
-    ensures { λ r. ⌜ r ≡ isStanding (now (table .entry)) rows observed row ⌝ }
+fn is_standing(table: &[u16], shape: Shape, row: usize) -> bool
+    ensures { λ r. ⌜ r ≡ isStanding (now (table .entry)) shape row ⌝ }
 {
-    if !is_sized(table.len(), rows, observed) | (row >= rows) {
+    if !is_sized(table.len(), shape) | (row >= shape.rows) {
         return false;
     }
-    is_row(table, rows, observed, row)
+    is_row(table, shape, row)
 }
 
 // Starts at row 0, whatever the old position. Refusal: 13.
-pub fn start_from(table: &[u16], rows: usize, observed: usize, position: Position) -> Moved
-    ensures { λ m. ⌜ m ≡ startOf (now (table .entry)) rows observed position ⌝ }
+pub fn start_from(table: &[u16], shape: Shape, position: Position) -> Moved
+    ensures { λ m. ⌜ m ≡ startOf (now (table .entry)) shape position ⌝ }
 {
-    if !is_standing(table, rows, observed, 0) {
+    if !is_standing(table, shape, 0) {
         return refuse(position, Refusal::BadTable);
     }
     move_to(table, 0)
 }
 
 // Moves to the next row for an observation. Refusals: 13, 14, 15.
-pub fn step_from(
-    table: &[u16],
-    rows: usize,
-    observed: usize,
-    observation: usize,
-    position: Position,
-) -> Moved
-    ensures { λ m. ⌜ m ≡ stepOf (now (table .entry)) rows observed observation position ⌝ }
+pub fn step_from(table: &[u16], shape: Shape, observation: usize, position: Position) -> Moved
+    ensures { λ m. ⌜ m ≡ stepOf (now (table .entry)) shape observation position ⌝ }
 {
-    if !is_standing(table, rows, observed, position.row) {
+    if !is_standing(table, shape, position.row) {
         return refuse(position, Refusal::BadTable);
     }
-    let standing = table[position.row * ROW];
+    let standing = first_cell(table, position.row);
     let held = position.choice;
     if standing != held {
         return refuse(position, Refusal::BadTable);
@@ -99,34 +95,28 @@ pub fn step_from(
     if standing == STOP {
         return refuse(position, Refusal::Stopped);
     }
-    if observation >= 1 << observed {
+    if observation >= 1 << shape.observed {
         return refuse(position, Refusal::BadObservation);
     }
-    move_to(table, table[position.row * ROW + 1 + observation] as usize)
+    move_to(table, next_cell(table, position.row, observation) as usize)
 }
 
 // `start_from` on a position that is lent.
-pub fn start(table: &[u16], rows: usize, observed: usize, position: &mut Position) -> Answer
-    ensures { λ r. ⌜ (r ≡ startOf (now (table .entry)) rows observed (now (position .entry)) .answer)
-        × (now (position .exit) ≡ startOf (now (table .entry)) rows observed (now (position .entry)) .position) ⌝ }
+pub fn start(table: &[u16], shape: Shape, position: &mut Position) -> Answer
+    ensures { λ r. ⌜ (r ≡ startOf (now (table .entry)) shape (now (position .entry)) .answer)
+        × (now (position .exit) ≡ startOf (now (table .entry)) shape (now (position .entry)) .position) ⌝ }
 {
-    let m = start_from(table, rows, observed, *position);
+    let m = start_from(table, shape, *position);
     *position = m.position;
     m.answer
 }
 
 // `step_from` on a position that is lent.
-pub fn step(
-    table: &[u16],
-    rows: usize,
-    observed: usize,
-    observation: usize,
-    position: &mut Position,
-) -> Answer
-    ensures { λ r. ⌜ (r ≡ stepOf (now (table .entry)) rows observed observation (now (position .entry)) .answer)
-        × (now (position .exit) ≡ stepOf (now (table .entry)) rows observed observation (now (position .entry)) .position) ⌝ }
+pub fn step(table: &[u16], shape: Shape, observation: usize, position: &mut Position) -> Answer
+    ensures { λ r. ⌜ (r ≡ stepOf (now (table .entry)) shape observation (now (position .entry)) .answer)
+        × (now (position .exit) ≡ stepOf (now (table .entry)) shape observation (now (position .entry)) .position) ⌝ }
 {
-    let m = step_from(table, rows, observed, observation, *position);
+    let m = step_from(table, shape, observation, *position);
     *position = m.position;
     m.answer
 }

@@ -1,32 +1,17 @@
 // From a problem's text to the text of its table, or of the refusal.
 ghost use mathlib.Core.Path.{_≡_};
 ghost use lib.ListN.{length};
-ghost use Rattle.rules.specs.Problem.{readProblem};
-ghost use Rattle.cabinet.specs.Response.{observedIn, respondedBy, responseAfter, respondedTable, respondedWork};
+ghost use Rattle.cabinet.specs.Response.{respondedBy, responseAfter, respondedTable, respondedWork};
 use crate::printing::Printed;
 use crate::printing::print;
 use game::Solved;
 use game::solve;
-use lines::PART_LIMIT;
-use lines::Reading;
 use lines::Refusal;
 use printer::TEXT_SIZE;
 use printer::put_refusal;
 use rules::WORK_SIZE;
-use rules::read;
 use tables::ROW;
 use tables::TABLE_SIZE;
-
-// How many observed signals a problem has; none where it is refused.
-fn observed_in(source: &[u8]) -> usize
-    ensures { λ r. ⌜ r ≡ observedIn (readProblem (now (source .entry))) ⌝ }
-{
-    let mut parts = [0u32; PART_LIMIT];
-    match read(source, &mut parts) {
-        Reading::Accepted(s) => s.observed,
-        Reading::Refused(_) => 0,
-    }
-}
 
 // Solves a problem and writes its table, or the refusal, as text. Refusal: 12, which touches nothing. Otherwise only the text's own
 // bytes change, at the front; the table and the work memory are left as `solve` leaves them.
@@ -42,13 +27,10 @@ pub fn respond(source: &[u8], work: &mut [u8], table: &mut [u16], text: &mut [u8
         return Printed::Refused(Refusal::ShortMemory);
     }
     match solve(source, work, table) {
-        Solved::Table { rows, worst_case } => print(
-            &table[..rows * ROW],
-            rows,
-            worst_case,
-            observed_in(source),
-            text,
-        ),
+        Solved::Table { shape, worst_case } => {
+            let end = shape.rows * ROW;
+            print(&table[..end], shape, worst_case, text)
+        }
         Solved::Refused(r) => Printed::Text(put_refusal(text, r)),
     }
 }

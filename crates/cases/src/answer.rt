@@ -40,7 +40,7 @@ pub fn verdict(v: Verdict) {
 
 pub fn solved(s: Solved) {
     match s {
-        Solved::Table { rows, worst_case } => tell_two(b"\ttable\t", rows, worst_case),
+        Solved::Table { shape, worst_case } => tell_two(b"\ttable\t", shape.rows, worst_case),
         Solved::Refused(r) => refused(r),
     }
 }

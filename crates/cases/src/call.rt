@@ -13,6 +13,7 @@ use crate::line::read_text;
 use cabinet::Position;
 use check::same;
 use game::ROW;
+use game::Shape;
 use game::TABLE_SIZE;
 use rules::WORK_SIZE;
 
@@ -67,7 +68,8 @@ fn print(line: &[u8], expected: &[u8], table: &[u16], text: &mut [u8]) {
     let rows = argument(line, 5);
     let worst = argument(line, 6);
     let observed = argument(line, 7);
-    printed(cabinet::print(table, rows, worst, observed, text));
+    let shape = Shape { rows, observed };
+    printed(cabinet::print(table, shape, worst, text));
     look_at(text, expected, 1);
 }
 
@@ -75,14 +77,15 @@ fn print(line: &[u8], expected: &[u8], table: &[u16], text: &mut [u8]) {
 fn run(line: &[u8], table: &[u16], starts: bool) {
     let rows = argument(line, 5);
     let observed = argument(line, 6);
+    let shape = Shape { rows, observed };
     let row = argument(line, 7);
     let choice = argument(line, 8) as u16;
     let position = Position { row, choice };
     if starts {
-        return moved(cabinet::start_from(table, rows, observed, position));
+        return moved(cabinet::start_from(table, shape, position));
     }
     let observation = argument(line, 9);
-    moved(cabinet::step_from(table, rows, observed, observation, position));
+    moved(cabinet::step_from(table, shape, observation, position));
 }
 
 // The number of a call by its name, from 0; 5 for an unknown one.

@@ -7,6 +7,7 @@ use lib.ListN.{length}
 use Rattle.formula.specs.Formula.{Formula, signal, True, False, X, N, F, U, R, size}
 use Rattle.formula.specs.Parts.{partsFrom, partsOf, partAt, bottomUp, resultAt}
 use Rattle.formula.specs.Semantics.{Trace}
+use Rattle.formula.specs.Values.{valueWith}
 use Rattle.basics.specs.Bits.{fromBits}
 use Rattle.search.specs.PatternSet.{PatternSet, member, setOf, start, accepts, next, after}
 use Rattle.obligations.specs.Obligation.{operatorsOf, numberOf, spotsTo, spots, valueAt, owedAt, back}
@@ -31,7 +32,7 @@ cases =
     ∷ []
 
 pub accepted-right : map (λ c. accepts (stateAfter (partsOf (c .formula)) (c .trace))) cases ≡ map (λ c. c .verdict) cases
-unfolding cases size partsFrom partsOf partAt bottomUp resultAt fromBits member setOf start accepts next after operatorsOf numberOf spotsTo spots valueAt owedAt back startState stateAfter
+unfolding cases size partsFrom partsOf partAt bottomUp resultAt fromBits member setOf start accepts next after operatorsOf numberOf spotsTo spots valueWith valueAt owedAt back startState stateAfter
 accepted-right = refl
 
 -- how many states there are; 0 means more than the limit
@@ -43,5 +44,5 @@ count over = 0
 pub small-state-spaces : map (λ φ. count (statesOf (partsOf φ) (lettersOf (record { outputs = 2; observed = 0; hidden = 0 })) 128))
     (True ∷ False ∷ X True ∷ F (signal 0) ∷ U (signal 0) (signal 1) ∷ [])
     ≡ 2 ∷ 2 ∷ 3 ∷ 3 ∷ 4 ∷ []
-unfolding size partsFrom partsOf partAt bottomUp resultAt fromBits member setOf start next operatorsOf numberOf spotsTo spots valueAt owedAt back isIn addNew addAll explore reachable sameSet nextSets reachableSets lettersOf statesOf
+unfolding size partsFrom partsOf partAt bottomUp resultAt fromBits member setOf start next operatorsOf numberOf spotsTo spots valueWith valueAt owedAt back isIn addNew addAll explore reachable sameSet nextSets reachableSets lettersOf statesOf
 small-state-spaces = refl

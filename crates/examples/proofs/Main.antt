@@ -10,7 +10,7 @@ use Rattle.rules.specs.Judge.{judgedBy}
 use Rattle.basics.specs.Lists.{padded}
 use Rattle.search.specs.PatternSet.{accepts}
 use Rattle.states.specs.States.{stateAfter, statesOf}
-use Rattle.play.specs.Limits.{rowSize, stopCell}
+use Rattle.play.specs.Cells.{rowSize, stopCell}
 use Rattle.game.specs.Claim.{solvedFrom, cellsFrom}
 use Rattle.cabinet.specs.Response.{response}
 use Rattle.examples.proofs.Judged

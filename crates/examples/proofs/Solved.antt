@@ -1,4 +1,5 @@
 -- Document 01's examples A to H, from a problem's bytes to the answer, by computation. Assumes nothing.
+use Prim.Native.Nat.{ℕ}
 use Prim.Native.String.{String}
 use mathlib.Core.Path.{_≡_, refl}
 use mathlib.Core.List.{List, [], _∷_, _++_, map, flatMap}
@@ -10,6 +11,7 @@ use Rattle.grammar.specs.Names.{indexOf, leafValue}
 use Rattle.lines.specs.declared.refusal.Refusal.the-variants.{Unrealizable}
 use Rattle.formula.specs.Formula.{size, operators}
 use Rattle.formula.specs.Parts.{opOf, temporals, partsFrom, partsOf, partAt, bottomUp, resultAt}
+use Rattle.formula.specs.Values.{valueWith}
 use Rattle.lines.specs.Lines.{lines, tabPlace, wordOf, isName, isText}
 use Rattle.rules.specs.Problem.{readLines, readProblem}
 use Rattle.lines.specs.Effect.{formulaOf, allDeclared, declareEffect, stateEffect, effectOf}
@@ -24,8 +26,7 @@ use Rattle.obligations.specs.Letters.{lettersOf}
 use Rattle.states.specs.States.{nextState, statesOf}
 use Rattle.game.specs.declared.solving.Solved.{Solved}
 use Rattle.game.specs.declared.solving.Solved.the-variants.{Table, Refused}
-use Rattle.play.specs.Limits.{rowSize, stopCell}
-use Rattle.play.specs.Table.{stopRow, choiceRow}
+use Rattle.play.specs.Cells.{rowSize, stopCell, stopRow, choiceRow}
 use Rattle.game.specs.Claim.{solvedFrom, cellsFrom}
 
 pub record Case : Type 0 where
@@ -35,19 +36,22 @@ pub record Case : Type 0 where
 abbrev pub sourceB : String
 sourceB = "out\ta\nsee\ts\nrule\ts -> X a\n"
 
--- A to H in this order, E with `s` hidden and then observed. A table is given by its row count and its worst case; document 01 does not
--- print the row counts of E and H.
+abbrev table : (rows observed worst : ℕ) → Solved
+table rows observed worst = Table (record { rows = rows; observed = observed }) worst
+
+-- A to H in this order, E with `s` hidden and then observed. A table is given by its row count, the number of observed signals and its
+-- worst case; document 01 does not print the row counts of E and H.
 pub cases : List Case
 cases =
-    record { source = "out\tvalve\nhid\twet\nrule\tF valve\n"; answer = Table 2 1 }
-    ∷ record { source = sourceB; answer = Table 3 2 }
-    ∷ record { source = "out\ta\nhid\ts\nrule\ts -> X a\n"; answer = Table 3 2 }
+    record { source = "out\tvalve\nhid\twet\nrule\tF valve\n"; answer = table 2 0 1 }
+    ∷ record { source = sourceB; answer = table 3 1 2 }
+    ∷ record { source = "out\ta\nhid\ts\nrule\ts -> X a\n"; answer = table 3 0 2 }
     ∷ record { source = "hid\ts\nrule\tF s\n"; answer = Refused Unrealizable }
     ∷ record { source = "hid\ts\nrule\t(s & N false) | (!s & X N false)\n"; answer = Refused Unrealizable }
-    ∷ record { source = "see\ts\nrule\t(s & N false) | (!s & X N false)\n"; answer = Table 4 2 }
-    ∷ record { source = "rule\ttrue\n"; answer = Table 2 1 }
+    ∷ record { source = "see\ts\nrule\t(s & N false) | (!s & X N false)\n"; answer = table 4 1 2 }
+    ∷ record { source = "rule\ttrue\n"; answer = table 2 0 1 }
     ∷ record { source = "rule\tfalse\n"; answer = Refused Unrealizable }
-    ∷ record { source = "rule\tX true\n"; answer = Table 3 2 }
+    ∷ record { source = "rule\tX true\n"; answer = table 3 0 2 }
     ∷ []
 
 -- `Printed` unfolds it too
@@ -55,7 +59,7 @@ unfoldable pub answers-right : map (λ c. solvedFrom (readProblem (bytesOf (c .s
 unfolding cases lower wordByte run past sameBytes wordKind tokenFrom tokenAt more tokensF tokens isOp leftward isPre isLeaf bind on close parseF
     parse parseFormula indexOf leafValue size operators opOf lines tabPlace wordOf isName isText formulaOf allDeclared declareEffect stateEffect
     effectOf readLines readProblem temporals partsFrom partsOf partAt bottomUp resultAt fromBits firstThat member setOf start accepts next operatorsOf
-    numberOf spotsTo spots valueAt owedAt back isIn indexIn addNew addAll explore reachable sameSet nextSets reachableSets lettersOf nextState
+    numberOf spotsTo spots valueWith valueAt owedAt back isIn indexIn addNew addAll explore reachable sameSet nextSets reachableSets lettersOf nextState
     statesOf stopRow choiceRow
 answers-right = refl
 

@@ -8,6 +8,7 @@ use mathlib.Core.List.{List, [], _∷_, _++_, map-append}
 use lib.Dec.{eqb}
 use lib.ListN.{length, length-map, getD}
 use borrow.Author.Tests.{eqb-true, eq-eqb, ne-eqb}
+use Rattle.basics.specs.Limits.{indexLimit}
 use Rattle.formula.specs.declared.formula.Op.{Op}
 use Rattle.formula.specs.declared.formula.Op.the-variants as op
 use Rattle.formula.specs.Formula.{Formula, size}
@@ -29,8 +30,8 @@ part-in (n ∷ codes) (suc i) = part-in codes i
 
 -- the numbers of a part are bytes
 pub record Bytes (q : Part) : Type 0 where
-  pub left-byte : q .left < 256
-  pub right-byte : q .right < 256
+  pub left-byte : q .left < indexLimit
+  pub right-byte : q .right < indexLimit
 
 pub byte-small : (k : Op) → byteOf k < 256
 byte-small op.Signal = omega arith
@@ -86,18 +87,18 @@ held-append : (ps qs : List Part) → Held ps → Held qs → Held (ps ++ qs)
 unfolding partsIn
 held-append ps qs h i = ap partsIn (map-append codeOf ps qs) ∙ map-append partOf (codesOf ps) (codesOf qs) ∙ ap₂ _++_ h i
 
-pub held-one : (k : Op) (l r : ℕ) → l < 256 → r < 256 → Held (onePart k l r)
+pub held-one : (k : Op) (l r : ℕ) → l < indexLimit → r < indexLimit → Held (onePart k l r)
 unfolding partsIn
 held-one k l r hl hr = ap (λ q. q ∷ []) (part-coded (record { kind = k; left = l; right = r }) (record { left-byte = hl; right-byte = hr }))
 
 -- a formula's parts are held wherever they stand
 abbrev pub Coded : Formula → Type 0
-Coded φ = (n : ℕ) → n + size φ ≤ 256 → Held (partsFrom φ n)
+Coded φ = (n : ℕ) → n + size φ ≤ indexLimit → Held (partsFrom φ n)
 
-pub held-unary : (k : Op) (φ : Formula) → Coded φ → (n : ℕ) → n + (size φ + 1) ≤ 256 → Held (unaryParts k φ n (partsFrom φ n))
+pub held-unary : (k : Op) (φ : Formula) → Coded φ → (n : ℕ) → n + (size φ + 1) ≤ indexLimit → Held (unaryParts k φ n (partsFrom φ n))
 held-unary k φ c n h = held-append (partsFrom φ n) _ (c n (omega arith)) (held-one k (n + size φ - 1) 0 (omega arith) (omega arith))
 
-pub held-binary : (k : Op) (φ ψ : Formula) → Coded φ → Coded ψ → (n : ℕ) → n + (size φ + size ψ + 1) ≤ 256
+pub held-binary : (k : Op) (φ ψ : Formula) → Coded φ → Coded ψ → (n : ℕ) → n + (size φ + size ψ + 1) ≤ indexLimit
     → Held (binaryParts k φ ψ n (partsFrom φ n) (partsFrom ψ (n + size φ)))
 held-binary k φ ψ c d n h =
     held-append (partsFrom φ n ++ partsFrom ψ (n + size φ)) _

@@ -4,6 +4,8 @@ pub mod Agreement
 pub mod OperatorBytes
 pub mod PartsLaws
 pub mod TemporalCount
--- judging by parts, and parts in memory
+-- the values of parts, judging by them, and parts in memory
+pub mod ValuesLaws
+pub mod FormulaValues
 pub mod EntriesLaws
 pub mod CodesLaws

@@ -1,18 +1,19 @@
 -- Parts against formulas.
 -- Assumes nothing.
 use Prim.Native.Nat.{ℕ, zero, suc, _+_, _-_, _≤_, _<_, pred}
-use native.Mathlib.Nat.{lt-trans, eq-or-lt-of-le, le-of-suc-le-suc}
+use native.Mathlib.Nat.{le-trans, lt-trans, eq-or-lt-of-le, le-of-suc-le-suc}
 use native.Mathlib.Numerals.{add-one}
 use native.Mathlib.Omega.{arith}
 use mathlib.Core.Path.{_≡_, refl, sym, ap, ap₂, _∙_, subst}
 use mathlib.Core.Logic.{_⊎_, inl, inr}
 use mathlib.Core.List.{List, [], _∷_, _++_, append-assoc, append-nil}
-use lib.ListN.{length, getD, length-append, List·getD-append}
+use lib.ListN.{length, getD, length-append, List·getD-append, List·getD-eq-default}
 use lib.Seq.{getD-append-seam}
 use Rattle.formula.specs.declared.formula.Op.{Op}
 use Rattle.formula.specs.declared.formula.Op.the-variants as op
 use Rattle.formula.specs.Formula.{Formula, signal, True, False, Not, And, Or, Implies, X, N, F, G, U, R, size}
 use Rattle.formula.specs.Parts.{lastOf, onePart, unaryParts, binaryParts, partsFrom, partsOf, partAt, arity, Earlier, bottomUp, resultAt, build, formulaAt}
+use Rattle.formula.specs.Parts.{reads, Ready, AllReady}
 use Rattle.formula.specs.declared.parts.Part.{Part}
 
 -- ---- results from the first part to the last
@@ -32,6 +33,10 @@ module _ {B : Type 0} (d : B) (f : ℕ → B → B → B) (ps : List Part) where
       at : (i ≡ n) ⊎ (i < n) → (i < n → getD (bottomUp d f ps n) i d ≡ resultAt d f ps i) → getD (bottomUp d f ps (suc n)) i d ≡ resultAt d f ps i
       at (inl e) ih = rw e
       at (inr l) ih = List·getD-append (bottomUp d f ps n) _ d i (rw length-bottomUp l) ∙ ih l
+
+  -- and no others
+  pub bottomUp-out : (n i : ℕ) → n ≤ i → getD (bottomUp d f ps n) i d ≡ d
+  bottomUp-out n i h = List·getD-eq-default (bottomUp d f ps n) d {n = i} (rw length-bottomUp h)
 
   pub resultAt-last : (i : ℕ) → resultAt d f ps i ≡ f i (getD (bottomUp d f ps i) (partAt ps i .left) d) (getD (bottomUp d f ps i) (partAt ps i .right) d)
   unfolding resultAt bottomUp
@@ -98,6 +103,28 @@ module _ (ps ts : List Part) where
 -- every part stands after its operands
 unfoldable pub WellFormed : List Part → Type 0
 WellFormed ps = (i : ℕ) → i < length ps → Earlier ps i
+
+-- ---- what a value reads at its step is some of the operands
+
+pub reads-few : (k : Op) → reads k ≤ arity k
+reads-few op.Signal = omega arith
+reads-few op.True = omega arith
+reads-few op.False = omega arith
+reads-few op.Not = omega arith
+reads-few op.And = omega arith
+reads-few op.Or = omega arith
+reads-few op.Implies = omega arith
+reads-few op.Next = omega arith
+reads-few op.WeakNext = omega arith
+reads-few op.Eventually = omega arith
+reads-few op.Always = omega arith
+reads-few op.Until = omega arith
+reads-few op.Release = omega arith
+
+pub earlier-ready : (ps : List Part) (i : ℕ) → Earlier ps i → Ready ps i
+earlier-ready ps i e =
+    let few = reads-few (partAt ps i .kind) in
+    record { left-ready = λ h. e .left-earlier (le-trans h few); right-ready = λ h. e .right-earlier (le-trans h few) }
 
 -- ---- one more part
 
@@ -253,6 +280,14 @@ module _ (φ : Formula) where
 
   pub parts-formed : WellFormed (partsOf φ)
   parts-formed = written-parts .formed
+
+  pub parts-ready : AllReady (partsOf φ)
+  unfolding AllReady WellFormed
+  parts-ready i h = earlier-ready (partsOf φ) i (parts-formed i h)
+
+  pub parts-inside : (i : ℕ) → i < length (partsOf φ) → 1 ≤ arity (partAt (partsOf φ) i .kind) → partAt (partsOf φ) i .left < length (partsOf φ)
+  unfolding WellFormed
+  parts-inside i h l = lt-trans (parts-formed i h .left-earlier l) h
 
   -- reading the parts of a formula gives the formula back
   pub parts-formula : formulaAt (partsOf φ) (lastOf (partsOf φ)) ≡ φ

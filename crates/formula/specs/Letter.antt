@@ -1,8 +1,9 @@
--- Letters: one step's values as a number, output signals in bits 0 to 3, observed ones in 4 to 7, hidden ones from 8 on.
+-- Letters: one step's values as a number. Each kind of signals has `kindLimit` bits, output signals the lowest and hidden ones the highest.
 -- Assumes nothing.
-use Prim.Native.Nat.{ℕ, _/_, _%_, _^_}
+use Prim.Native.Nat.{ℕ, _+_, _*_, _/_, _%_, _^_}
 use mathlib.Core.Bool.{Bool, _&&_}
 use lib.Dec.{ltb}
+use Rattle.basics.specs.Limits.{kindLimit}
 
 -- how many signals of each kind a letter is over
 pub record Counts : Type 0 where
@@ -10,6 +11,15 @@ pub record Counts : Type 0 where
   pub observed : ℕ
   pub hidden : ℕ
 
+-- values of the signals of one kind
+abbrev pub kindSize : ℕ
+kindSize = 2 ^ kindLimit
+
+-- the letter of the values of the output, the observed and the hidden signals
+abbrev pub letterFrom : ℕ → ℕ → ℕ → ℕ
+letterFrom o s h = o + s * kindSize + h * (kindSize * kindSize)
+
 -- no bit of the letter is without a signal
 unfoldable pub isLetter : Counts → ℕ → Bool
-isLetter c a = ltb (a % 16) (2 ^ c .outputs) && (ltb (a / 16 % 16) (2 ^ c .observed) && ltb (a / 256) (2 ^ c .hidden))
+isLetter c a =
+    ltb (a % kindSize) (2 ^ c .outputs) && (ltb (a / kindSize % kindSize) (2 ^ c .observed) && ltb (a / (kindSize * kindSize)) (2 ^ c .hidden))

@@ -107,10 +107,35 @@ arity op.Always = 1
 arity op.Until = 2
 arity op.Release = 2
 
+-- how many of them its value reads at the same step
+abbrev pub reads : Op → ℕ
+reads op.Signal = 0
+reads op.True = 0
+reads op.False = 0
+reads op.Not = 1
+reads op.And = 2
+reads op.Or = 2
+reads op.Implies = 2
+reads op.Next = 0
+reads op.WeakNext = 0
+reads op.Eventually = 1
+reads op.Always = 1
+reads op.Until = 2
+reads op.Release = 2
+
 -- the operands of part i stand before it
 pub record Earlier (ps : List Part) (i : ℕ) : Type 0 where
   pub left-earlier : 1 ≤ arity (partAt ps i .kind) → partAt ps i .left < i
   pub right-earlier : 2 ≤ arity (partAt ps i .kind) → partAt ps i .right < i
+
+-- those that its value reads at the same step stand before it
+pub record Ready (ps : List Part) (i : ℕ) : Type 0 where
+  pub left-ready : 1 ≤ reads (partAt ps i .kind) → partAt ps i .left < i
+  pub right-ready : 2 ≤ reads (partAt ps i .kind) → partAt ps i .right < i
+
+-- of every part, so that the values at a step can be worked out from the first part to the last
+unfoldable pub AllReady : List Part → Type 0
+AllReady ps = (i : ℕ) → i < length ps → Ready ps i
 
 -- the results for the first n parts, f giving that of part i from those of its operands
 unfoldable pub bottomUp : {B : Type 0} → B → (ℕ → B → B → B) → List Part → ℕ → List B

@@ -2,7 +2,8 @@
 ghost use mathlib.Core.Path.{_≡_};
 ghost use Rattle.basics.specs.Bits.{bit};
 ghost use Rattle.formula.specs.Parts.{opOf, isTemporal};
-ghost use Rattle.formula.specs.Entries.{combine, owed, entry, entryBack};
+ghost use Rattle.formula.specs.Values.{combine, owed};
+ghost use Rattle.formula.specs.Entries.{entry};
 
 pub enum Op {
     Signal,
@@ -64,7 +65,7 @@ pub(crate) fn op_of(kind: u8) -> Op
 }
 
 // The value of a part from the signal's value, its own obligation and its operands' values.
-fn combined(op: Op, s: bool, o: bool, x: bool, y: bool) -> bool
+pub(crate) fn combined(op: Op, s: bool, o: bool, x: bool, y: bool) -> bool
     ensures { λ r. ⌜ r ≡ combine op s o x y ⌝ }
 {
     match op {
@@ -85,7 +86,7 @@ fn combined(op: Op, s: bool, o: bool, x: bool, y: bool) -> bool
 }
 
 // What a part's obligation about a step is worth there, from its left operand's value and its own.
-fn owed_by(op: Op, x: bool, v: bool) -> bool
+pub(crate) fn owed_by(op: Op, x: bool, v: bool) -> bool
     ensures { λ r. ⌜ r ≡ owed op x v ⌝ }
 {
     match op {
@@ -117,7 +118,7 @@ pub fn bit_of(letter: u16, k: u8) -> bool
 }
 
 // A part's value and obligation as one number.
-fn entry_of(v: bool, o: bool) -> u8
+pub(crate) fn entry_of(v: bool, o: bool) -> u8
     ensures { λ r. ⌜ r ≡ entry v o ⌝ }
 {
     if v {
@@ -127,19 +128,18 @@ fn entry_of(v: bool, o: bool) -> u8
     }
 }
 
-// A part's entry for a step, from the signal's value, its entry for the next step and its operands' values.
-pub(crate) fn entry_back(op: Op, s: bool, e: u8, x: bool, y: bool) -> u8
-    ensures { λ r. ⌜ r ≡ entryBack op s e x y ⌝ }
-{
-    let v = combined(op, s, bit_of(e as u16, 1), x, y);
-    entry_of(v, owed_by(op, x, v))
-}
-
 // The value in an entry.
 pub(crate) fn value_in(e: u8) -> bool
     ensures { λ r. ⌜ r ≡ bit e 0 ⌝ }
 {
     bit_of(e as u16, 0)
+}
+
+// The obligation in an entry.
+pub(crate) fn owed_in(e: u8) -> bool
+    ensures { λ r. ⌜ r ≡ bit e 1 ⌝ }
+{
+    bit_of(e as u16, 1)
 }
 
 // Whether a byte stands for a temporal operator.

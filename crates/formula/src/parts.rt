@@ -8,7 +8,7 @@ use crate::formula::Op;
 use crate::formula::is_temporal;
 use crate::formula::op_of;
 
-// An operator, and the indices of its operands, which stand before it; a signal's number is its left one.
+// An operator, and the indices of its operands; a signal's number is its left one.
 pub struct Part {
     pub kind: Op,
     pub left: u8,

@@ -4,16 +4,14 @@ use Prim.Native.Nat.{ℕ, _+_, _*_, _^_, _≤_, _<_}
 use native.Mathlib.Nat.{zero-mod, add-comm}
 use native.Mathlib.Omega.{arith}
 use mathlib.Core.Path.{_≡_, refl, sym, ap, ap₂, _∙_, subst, subst₂}
-use mathlib.Core.Bool.{Bool}
 use mathlib.Core.List.{List, [], flatMap}
 use lib.Arith.{digits-lt}
 use lib.ListN.{length, getD, List·getD-append}
 use Rattle.basics.specs.Bits.{bit}
 use Rattle.formula.specs.declared.parts.Part.{Part}
-use Rattle.formula.specs.Letter.{Counts}
+use Rattle.formula.specs.Letter.{Counts, letterFrom}
 use Rattle.basics.proofs.ListsLaws.{length-tabulate, getD-tabulate}
 use Rattle.basics.specs.Limits.{signalLimit}
-use Rattle.formula.specs.Semantics.{Trace}
 use Rattle.search.specs.Limits.{stateLimit, letterLimit, setSize}
 use Rattle.obligations.specs.Letters.{letterCount, letterOf, lettersOf}
 use Rattle.basics.specs.Member.{_∈_}
@@ -29,23 +27,12 @@ use Rattle.basics.proofs.EqualRows.{length-rows, getD-rows}
 use Rattle.basics.proofs.MemberLaws.{in-tabulate, getD-in}
 use Rattle.search.proofs.PackedSets.{packed-length, bit-packed}
 use Rattle.states.proofs.NumberedSuccessors.{successor-right}
-use Rattle.play.specs.Game.{Game}
 use Rattle.game.specs.Solution.{automatonOf}
+use Rattle.game.specs.StateMemory.{letterNumber}
 use Rattle.beliefs.specs.BeliefMemory.{successorIn, Successors}
 use Rattle.beliefs.proofs.NumberedRows.{rows-entry}
-use Rattle.game.proofs.LetterNumbers.{letter-count, letter-at}
-use Rattle.game.proofs.SameBeliefs.{Follows}
-
--- the game of so many signals, for any way to judge traces
-abbrev pub gameWith : Counts → (Trace → Bool) → Game
-gameWith c f =
-    record {
-      choices = 2 ^ (c .outputs);
-      observations = 2 ^ (c .observed);
-      hiddens = 2 ^ (c .hidden);
-      letter = λ k s x. k + s * 16 + x * 256;
-      isTrue = f;
-    }
+use Rattle.game.proofs.LetterNumbers.{pair-lt, letter-count, letter-at}
+use Rattle.game.proofs.SameBeliefs.{Tables}
 
 module _ (ps : List Part) (c : Counts) (few : c .outputs + c .observed + c .hidden ≤ signalLimit) (xs : List PatternSet)
     (listed : statesOf ps (lettersOf c) stateLimit ≡ closed xs) where
@@ -90,19 +77,18 @@ module _ (ps : List Part) (c : Counts) (few : c .outputs + c .observed + c .hidd
               (successor-right ps (lettersOf c) stateLimit xs listed (getD xs s []) (getD-in xs s [] h) (letterOf c a) (letter-in a k) .0);
         }
 
-    pub explored-follows : (f : Trace → Bool) → Follows (gameWith c f) (automatonOf ps xs) successors
-    explored-follows f =
-        record {
-          follows = λ s q h sb l hb.
-              let k : q + h * (choices * observations) < letterCount c =
-              subst₂ (λ m t. m < t) (add-comm (h * (choices * observations)) q) (sym (letter-count c)) (digits-lt hb l)
-              in
-              entry-is s (q + h * (choices * observations)) sb k
-              ∙ ap (λ v. indexIn sameSet (nextState ps (getD xs s []) v) xs) (letter-at c q h l);
-        }
+    explored-follows : (i k s h : ℕ) → i < length xs → k < choices → s < observations → h < hiddens
+        → successorIn successors i (letterNumber choices observations k s h) ≡ automatonOf ps xs .next i (letterFrom k s h)
+    explored-follows i k s h ib kb sb hb =
+        let pair = pair-lt choices observations k s kb sb in
+        let few-letters : letterNumber choices observations k s h < letterCount c =
+        subst₂ (λ m t. m < t) (add-comm (h * (choices * observations)) (s * choices + k)) (sym (letter-count c)) (digits-lt hb pair)
+        in
+        entry-is i (letterNumber choices observations k s h) ib few-letters
+        ∙ ap (λ v. indexIn sameSet (nextState ps (getD xs i []) v) xs) (letter-at c k s h kb sb)
 
   -- a state accepts where the lowest bit of its bytes is set
-  pub explored-accepts : (n : ℕ) (sets : List ℕ) → sets ≡ padded n (setsOf (statesOf ps (lettersOf c) stateLimit)) → (s : ℕ) → s < length xs
+  explored-accepts : (n : ℕ) (sets : List ℕ) → sets ≡ padded n (setsOf (statesOf ps (lettersOf c) stateLimit)) → (s : ℕ) → s < length xs
       → bit (getD sets (s * setSize) 0) 0 ≡ accepts (getD xs s [])
   unfolding accepts
   explored-accepts n sets left s h =
@@ -110,6 +96,15 @@ module _ (ps : List Part) (c : Counts) (few : c .outputs + c .observed + c .hidd
       let l : s * setSize + 0 < length xs * setSize = omega arith in
       ap (λ y. bit y 0)
       (ap₂ (λ t i. getD t i 0) (left ∙ ap (λ r. padded n (setsOf r)) listed) z
-      ∙ List·getD-append (flatMap packed xs) _ 0 (s * setSize + 0) (subst (λ m. s * setSize + 0 < m) (sym (length-rows setSize packed packed-length xs)) l)
-      ∙ getD-rows setSize packed packed-length xs [] s 0 h (omega arith))
-      ∙ bit-packed (getD xs s []) 0 (omega arith) ∙ ap (member (getD xs s [])) (zero-mod (length (getD xs s [])))
+      ∙ List·getD-append (flatMap (packed setSize) xs) _ 0 (s * setSize + 0)
+      (subst (λ m. s * setSize + 0 < m) (sym (length-rows setSize (packed setSize) (packed-length setSize) xs)) l)
+      ∙ getD-rows setSize (packed setSize) (packed-length setSize) xs [] s 0 h (omega arith))
+      ∙ bit-packed setSize (getD xs s []) 0 (omega arith) ∙ ap (member (getD xs s [])) (zero-mod (length (getD xs s [])))
+
+  -- all that is left in memory
+  pub explored-tables : (n : ℕ) (sets : List ℕ) → sets ≡ padded n (setsOf (statesOf ps (lettersOf c) stateLimit))
+      → (m : ℕ) (successors : List ℕ)
+      → successors ≡ padded m (successorsOf (operatorsOf ps) (back ps) (lettersOf c) (statesOf ps (lettersOf c) stateLimit))
+      → Tables (automatonOf ps xs) choices observations hiddens letterFrom sets successors
+  explored-tables n sets sets-are m successors successors-are =
+      record { first = refl; follows = explored-follows m successors successors-are; accepting = explored-accepts n sets sets-are }

@@ -1,12 +1,17 @@
--- Letters by number: pair q with hidden value h is letter number q + h * pairs.
+-- Letters by number.
 -- Assumes nothing.
 use Prim.Native.Nat.{ℕ, _+_, _*_, _/_, _%_, _^_, _<_}
-use native.Mathlib.Nat.{mod-lt, div-lt-iff-lt-mul, div-add-mod', mul-comm, mul-assoc, add-mul, add-assoc, add-comm}
+use native.Mathlib.Nat.{mul-comm, mul-assoc, add-mul, add-assoc, add-comm}
 use mathlib.Core.Path.{_≡_, refl, sym, ap, ap₂, _∙_, subst}
-use lib.Arith.{digits-div, digits-mod}
-use lib.Pow.{pow-add, pow-pos}
-use Rattle.formula.specs.Letter.{Counts}
+use lib.Arith.{digits-div, digits-mod, digits-lt}
+use lib.Pow.{pow-add}
+use Rattle.formula.specs.Letter.{Counts, kindSize, letterFrom}
 use Rattle.obligations.specs.Letters.{letterCount, letterOf}
+use Rattle.game.specs.StateMemory.{letterNumber}
+
+-- a pair's number, from its choice and its observation
+pub pair-lt : (choices observations c s : ℕ) → c < choices → s < observations → s * choices + c < choices * observations
+pair-lt choices observations c s cb sb = subst (λ m. s * choices + c < m) (mul-comm observations choices) (digits-lt sb cb)
 
 module _ (c : Counts) where
   abbrev x : ℕ
@@ -21,15 +26,14 @@ module _ (c : Counts) where
       pow-add 2 (c .outputs + c .observed) (c .hidden) ∙ ap (λ n. n * 2 ^ (c .hidden)) (pow-add 2 (c .outputs) (c .observed))
       ∙ mul-comm (x * y) (2 ^ (c .hidden))
 
-  -- pair q with hidden value h
-  pub letter-at : (q h : ℕ) → q < x * y → letterOf c (q + h * (x * y)) ≡ q % x + q / x * 16 + h * 256
-  letter-at q h l =
-      let r : q % x < x = mod-lt q (pow-pos (c .outputs)) in
-      let t : q / x < y = div-lt-iff-lt-mul (pow-pos (c .outputs)) .1 (subst (λ n. q < n) (mul-comm x y) l) in
-      let e : q + h * (x * y) ≡ (h * y + q / x) * x + q % x =
-      sym (ap (λ n. n + q % x) (add-mul (h * y) (q / x) x) ∙ add-assoc (h * y * x) (q / x * x) (q % x)
-      ∙ ap₂ _+_ (mul-assoc h y x ∙ ap (λ n. h * n) (mul-comm y x)) (div-add-mod' q x) ∙ add-comm (h * (x * y)) q)
+  -- the letter of choice k, observation s and hidden value h
+  pub letter-at : (k s h : ℕ) → k < x → s < y → letterOf c (letterNumber x y k s h) ≡ letterFrom k s h
+  letter-at k s h kb sb =
+      let e : letterNumber x y k s h ≡ (h * y + s) * x + k =
+      sym (ap (λ n. n + k) (add-mul (h * y) s x) ∙ add-assoc (h * y * x) (s * x) k
+      ∙ ap (λ n. n + (s * x + k)) (mul-assoc h y x ∙ ap (λ n. h * n) (mul-comm y x)) ∙ add-comm (h * (x * y)) (s * x + k))
       in
-      ap₂ _+_ (ap₂ (λ a b. a + b * 16) (ap (λ n. n % x) e ∙ digits-mod (h * y + q / x) r)
-      (ap (λ n. n / x % y) e ∙ ap (λ n. n % y) (digits-div (h * y + q / x) r) ∙ digits-mod h t))
-      (ap (λ n. n * 256) (ap₂ _/_ refl (pow-add 2 (c .outputs) (c .observed)) ∙ ap (λ n. n / (x * y)) (add-comm q (h * (x * y))) ∙ digits-div h l))
+      ap₂ _+_ (ap₂ (λ a b. a + b * kindSize) (ap (λ n. n % x) e ∙ digits-mod (h * y + s) kb)
+      (ap (λ n. n / x % y) e ∙ ap (λ n. n % y) (digits-div (h * y + s) kb) ∙ digits-mod h sb))
+      (ap (λ n. n * (kindSize * kindSize)) (ap₂ _/_ refl (pow-add 2 (c .outputs) (c .observed)) ∙ ap (λ n. n / (x * y)) (add-comm (s * x + k) (h * (x * y)))
+      ∙ digits-div h (pair-lt x y k s kb sb)))

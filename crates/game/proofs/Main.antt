@@ -4,24 +4,20 @@ use mathlib.Core.Path.{_≡_}
 use mathlib.Core.Logic.{_↔_}
 use mathlib.Core.Bool.{Bool, true, false}
 use mathlib.Core.List.{List}
-use lib.Dec.{eqb}
 use lib.ListN.{length}
-use Rattle.formula.specs.Parts.{partsOf}
 use Rattle.rules.specs.Problem.{Problem, readProblem}
-use Rattle.rules.proofs.WithinLimits.{Few}
 use Rattle.basics.specs.Says.{Says}
 use Rattle.basics.specs.Lists.{written}
 use Rattle.search.specs.PatternSet.{PatternSet}
 use Rattle.basics.specs.Reach.{closed}
-use Rattle.play.specs.Limits.{sideLimit, stopCell}
+use Rattle.play.specs.Limits.{sideLimit}
+use Rattle.play.specs.Cells.{stopCell}
 use Rattle.play.specs.Game.{Game}
-use Rattle.play.specs.Rank.{Arena, bestChoice}
-use Rattle.play.specs.Belief.{beliefs}
-use Rattle.play.specs.Answer.{positions, verdictOf, numbered, Right}
-use Rattle.game.specs.Solution.{gameOf, automatonOf, problemStates}
+use Rattle.play.specs.Rank.{Arena, RankOf, LeadsBelow, HasChoice, bestChoice}
+use Rattle.play.specs.History.{Knows}
+use Rattle.play.specs.Answer.{positions, verdictOf, Right}
+use Rattle.game.specs.Solution.{gameOf, problemStates, beliefsOf}
 use Rattle.game.specs.Claim.{solvedFrom, cellsFrom, Claim}
-use Rattle.play.proofs.Optimality.{Knows}
-use Rattle.play.proofs.LeastRanks.{RankOf, HasChoice, LeadsBelow}
 use Rattle.play.proofs.LeastRanks
 use Rattle.game.proofs.StatesJudge
 use Rattle.play.proofs.AnswerLaws
@@ -36,27 +32,26 @@ demand-3 = WholeCall.meant
 pub any-game : (G : Game) (A : Arena) (same : A .K → A .K → Bool) → ((a b : A .K) → Says (same a b) (a ≡ b)) → (limit : ℕ) (all : List (A .K))
     → positions A same (G .choices) (G .observations) limit ≡ closed all → Knows G A
     → 0 < G .observations → 0 < G .hiddens → G .choices < stopCell → G .observations ≤ sideLimit
-    → Right limit G (verdictOf (numbered A same all) eqb (G .choices) (G .observations) (length all))
+    → Right limit G (verdictOf A same (G .choices) (G .observations) (length all))
 any-game = AnswerLaws.answer-right
 
 -- a problem's beliefs know: one is final exactly where every hidden history makes the trace true
-pub beliefs-know : (p : Problem) → Few (p .signals) → (xs : List PatternSet) → problemStates p ≡ closed xs
-    → Knows (gameOf p) (beliefs (gameOf p) (automatonOf (partsOf (p .formula)) xs))
+pub beliefs-know : (p : Problem) (xs : List PatternSet) → problemStates p ≡ closed xs → Knows (gameOf p) (beliefsOf p xs)
 beliefs-know = StatesJudge.beliefs-know
 
 -- ranks are those of document 01: a final position has rank 0 ..
-pub final-rank : (A : Arena) (choices observations : ℕ) (some : 0 < observations) (k : A .K) → (A .final k ≡ true) ↔ RankOf A choices observations some k 0
+pub final-rank : (A : Arena) (choices observations : ℕ) (some : 0 < observations) (k : A .K) → (A .final k ≡ true) ↔ RankOf A choices observations k 0
 final-rank = LeastRanks.stop-rank
 
 -- .. another has rank r, the smallest with a choice after which every observation leads to a rank below r ..
 pub other-rank : (A : Arena) (choices observations : ℕ) (some : 0 < observations) (k : A .K) → A .final k ≡ false → (r : ℕ)
-    → RankOf A choices observations some k r
-    ↔ (HasChoice A choices observations some k r × ((q : ℕ) → q < r → HasChoice A choices observations some k q → ⊥))
+    → RankOf A choices observations k r
+    ↔ (HasChoice A choices observations k r × ((q : ℕ) → q < r → HasChoice A choices observations k q → ⊥))
 other-rank = LeastRanks.other-rank
 
 -- .. and it takes the smallest such choice
 pub smallest-choice : (A : Arena) (choices observations : ℕ) (some : 0 < observations) (n : ℕ) (k : A .K) (r : ℕ) → r < n → A .final k ≡ false
-    → RankOf A choices observations some k r
+    → RankOf A choices observations k r
     → let c = bestChoice A choices observations n k in
-    (c < choices) × LeadsBelow A choices observations some k r c × ((d : ℕ) → d < c → LeadsBelow A choices observations some k r d → ⊥)
+    (c < choices) × LeadsBelow A choices observations k r c × ((d : ℕ) → d < c → LeadsBelow A choices observations k r d → ⊥)
 smallest-choice = LeastRanks.takes-smallest

@@ -1,47 +1,101 @@
--- The beliefs over the tables that the states leave are the beliefs of the problem's game.
+-- The beliefs over the states' tables in memory: the search counts them, and what is answered from them is what is answered from the
+-- automaton that the tables are those of.
 -- Assumes nothing.
 use Prim.Native.Nat.{ℕ, _+_, _*_, _/_, _%_, _<_}
-use mathlib.Core.Path.{_≡_, sym, ap, ap₂, _∙_, fun-ext}
-use mathlib.Core.Bool.{_&&_}
-use mathlib.Core.List.{List}
+use native.Mathlib.Nat.{mod-lt, div-lt-iff-lt-mul, div-add-mod', mul-comm}
+use mathlib.Core.Path.{_≡_, refl, sym, ap, ap₂, _∙_, subst, fun-ext}
+use mathlib.Core.Bool.{not, _&&_, _||_}
+use mathlib.Core.List.{List, map}
 use lib.Dec.{eqb}
+use lib.ListN.{length}
 use Rattle.basics.specs.Lists.{below}
-use Rattle.basics.specs.Reach.{reachable}
-use Rattle.search.specs.ReachableSets.{sameSet}
-use Rattle.basics.specs.Successors.{stepsOver}
+use Rattle.basics.specs.Reach.{Listing, closed, over, reachable}
+use Rattle.basics.proofs.BoundedLaws.{all-ext, any-ext}
 use Rattle.basics.proofs.ListsLaws.{map-table, tabulate-ext}
-use Rattle.play.specs.Game.{Game}
-use Rattle.play.specs.Belief.{Automaton, Belief, has, nextBelief, beliefs}
+use Rattle.search.specs.ReachableSets.{sameSet}
+use Rattle.play.specs.Limits.{beliefLimit}
+use Rattle.play.specs.Rank.{Arena}
+use Rattle.play.specs.Belief.{Automaton, Belief, has, alone, beliefs}
 use Rattle.play.specs.Answer.{moves, positions}
-use Rattle.beliefs.specs.BeliefMemory.{successorIn, beliefAfter, countedBeliefs}
-use Rattle.basics.proofs.BoundedLaws.{any-ext}
+use Rattle.play.proofs.SameAnswer.{Renaming, verdict-image}
+use Rattle.beliefs.specs.BeliefMemory.{successorIn, acceptsIn, beliefAfter, countedBeliefs}
+use Rattle.game.specs.Solution.{verdict, solutionOf, beliefSolution}
+use Rattle.game.specs.StateMemory.{automatonIn, letterNumber, memorySolution}
 
--- a table of successors that is the automaton's: pair q with hidden value h is letter number q + h * pairs
-pub record Follows (G : Game) (M : Automaton) (successors : List ℕ) : Type 0 where
-  pub follows : (s q h : ℕ) → s < M .states → q < G .choices * G .observations → h < G .hiddens
-      → successorIn successors s (q + h * (G .choices * G .observations)) ≡ M .next s (G .letter (q % G .choices) (q / G .choices) h)
+abbrev pub beliefsIn : (sets successors : List ℕ) (n choices observations hiddens : ℕ) → Arena
+beliefsIn sets successors n choices observations hiddens =
+    beliefs (automatonIn sets successors n) hiddens (letterNumber choices observations)
 
-module _ (G : Game) (M : Automaton) (successors : List ℕ) (f : Follows G M successors) where
+-- they are the beliefs that pairs reach, counted either way
+module _ (sets successors : List ℕ) (n choices observations hiddens : ℕ) where
+  abbrev A : Arena
+  A = beliefsIn sets successors n choices observations hiddens
+
   abbrev pairs : ℕ
-  pairs = G .choices * G .observations
+  pairs = choices * observations
 
-  pub belief-same : (b : Belief) (q : ℕ) → q < pairs → beliefAfter successors (M .states) pairs (G .hiddens) b q
-      ≡ nextBelief G M b (q % G .choices) (q / G .choices)
+  pub pair-move : (b : Belief) (c s : ℕ) → A .move b c s ≡ beliefAfter successors n pairs hiddens b (s * choices + c)
   unfolding beliefAfter
-  belief-same b q l =
-      tabulate-ext (M .states) _ _ (λ t tb. any-ext (M .states) _ _ (λ s sb.
-      ap (λ v. has b s && v) (any-ext (G .hiddens) _ _ (λ h hb. ap (λ y. eqb y t) (f .follows s q h sb l hb)))))
+  pair-move b c s = refl
 
-  steps-same : (b : Belief) → stepsOver (beliefAfter successors (M .states) pairs (G .hiddens)) (below pairs) b
-      ≡ moves (beliefs G M) sameSet (G .choices) (G .observations) b
-  steps-same b =
-      map-table (beliefAfter successors (M .states) pairs (G .hiddens) b) pairs (λ q. q)
-      ∙ tabulate-ext pairs _ _ (λ q l. belief-same b q l)
+  pair-moves : (b : Belief) → map (beliefAfter successors n pairs hiddens b) (below pairs) ≡ moves A sameSet choices observations b
+  pair-moves b =
+      map-table (beliefAfter successors n pairs hiddens b) pairs (λ q. q)
+      ∙ tabulate-ext pairs _ _ (λ q l.
+      ap (beliefAfter successors n pairs hiddens b) (sym (div-add-mod' q choices)) ∙ sym (pair-move b (q % choices) (q / choices)))
 
-  -- all beliefs, counted either way
-  pub beliefs-same : (limit : ℕ) → M .initial ≡ 0
-      → countedBeliefs successors (M .states) pairs (G .hiddens) limit ≡ positions (beliefs G M) sameSet (G .choices) (G .observations) limit
+  pub counted-same : (limit : ℕ) → countedBeliefs successors n pairs hiddens limit ≡ positions A sameSet choices observations limit
   unfolding countedBeliefs
-  beliefs-same limit z =
-      ap₂ (λ (st : Belief → List Belief) (b : Belief). reachable sameSet st b limit) (fun-ext steps-same)
-      (tabulate-ext (M .states) _ _ (λ s h. ap (eqb s) (sym z)))
+  counted-same limit = ap (λ (st : Belief → List Belief). reachable sameSet st (alone n 0) limit) (fun-ext pair-moves)
+
+-- tables that are those of an automaton, for letters of so many choices, observations and hidden values
+pub record Tables (M : Automaton) (choices observations hiddens : ℕ) (letter : ℕ → ℕ → ℕ → ℕ) (sets successors : List ℕ) : Type 0 where
+  pub first : M .initial ≡ 0
+  pub follows : (i c s h : ℕ) → i < M .states → c < choices → s < observations → h < hiddens
+      → successorIn successors i (letterNumber choices observations c s h) ≡ M .next i (letter c s h)
+  pub accepting : (i : ℕ) → i < M .states → acceptsIn sets i ≡ M .accepts i
+
+module _ (M : Automaton) (choices observations hiddens : ℕ) (letter : ℕ → ℕ → ℕ → ℕ) (sets successors : List ℕ)
+    (t : Tables M choices observations hiddens letter sets successors) where
+  abbrev I : Arena
+  I = beliefsIn sets successors (M .states) choices observations hiddens
+
+  abbrev B : Arena
+  B = beliefs M hiddens letter
+
+  move-same : (b : Belief) (c s : ℕ) → c < choices → s < observations → B .move b c s ≡ I .move b c s
+  move-same b c s cb sb =
+      tabulate-ext (M .states) _ _ (λ j jb. any-ext (M .states) _ _ (λ i ib.
+      ap (λ v. has b i && v) (any-ext hiddens _ _ (λ h hb. ap (λ y. eqb y j) (sym (t .follows i c s h ib cb sb hb))))))
+
+  start-same : I .start ≡ B .start
+  start-same = ap (alone (M .states)) (sym (t .first))
+
+  -- the same beliefs by their own names
+  renaming : Renaming I B sameSet sameSet choices observations (λ b. b) (λ b. Unit {0})
+  renaming =
+      record {
+        met-start = tt;
+        met-next = λ b m f c cb s sb. tt;
+        named-start = start-same;
+        named-final = λ b m. all-ext (M .states) _ _ (λ i ib. ap (λ v. not (has b i) || v) (sym (t .accepting i ib)));
+        named-move = λ b m f c cb s sb. move-same b c s cb sb;
+        one = λ j k m n. refl;
+      }
+
+  pub memory-same : 0 < choices
+      → memorySolution sets successors (M .states) choices observations hiddens ≡ beliefSolution M choices observations hiddens letter
+  unfolding memorySolution
+  memory-same some = at (positions I sameSet choices observations beliefLimit) ∙ ap (solutionOf B sameSet choices observations) listed
+    where
+      at : (l : Listing Belief) → solutionOf I sameSet choices observations l ≡ solutionOf B sameSet choices observations l
+      at (closed all) = ap verdict (verdict-image renaming (length all))
+      at over = refl
+
+      steps : (b : Belief) → moves I sameSet choices observations b ≡ moves B sameSet choices observations b
+      steps b =
+          tabulate-ext (choices * observations) _ _ (λ q l. sym (move-same b (q % choices) (q / choices) (mod-lt q some)
+          (div-lt-iff-lt-mul some .1 (subst (λ n. q < n) (mul-comm choices observations) l))))
+
+      listed : positions I sameSet choices observations beliefLimit ≡ positions B sameSet choices observations beliefLimit
+      listed = ap₂ (λ (st : Belief → List Belief) (b : Belief). reachable sameSet st b beliefLimit) (fun-ext steps) start-same

@@ -1,21 +1,17 @@
 -- A problem's states by number judge its traces, so its beliefs meet the one law.
 -- Assumes nothing.
-use Prim.Native.Nat.{ℕ, suc, _+_, _*_, _/_, _%_, _^_, _<_}
-use native.Mathlib.Nat.{lt-of-lt-of-le, lt-of-le-of-lt}
+use Prim.Native.Nat.{ℕ, suc, _<_}
+use native.Mathlib.Nat.{lt-of-le-of-lt}
 use native.Mathlib.Omega.{arith}
 use mathlib.Core.Path.{_≡_, refl, sym, ap, _∙_}
-use mathlib.Core.Bool.{true}
 use mathlib.Core.List.{List, [], _∷_, foldl}
-use lib.Dec.{eqb, ltb}
 use lib.ListN.{length, getD}
 use lib.Pow.{pow-mono, pow-pos}
-use borrow.Author.Tests.{lt-ltb}
+use Rattle.basics.specs.Limits.{kindLimit}
 use Rattle.rules.specs.Judge.{countsIn}
 use Rattle.formula.specs.declared.parts.Part.{Part}
-use Rattle.formula.specs.Parts.{partsOf}
-use Rattle.rules.specs.Problem.{Problem}
+use Rattle.rules.specs.Problem.{Problem, formulaIn, problemParts}
 use Rattle.formula.specs.Semantics.{holds}
-use Rattle.formula.specs.Letter.{isLetter}
 use Rattle.rules.proofs.WithinLimits.{Few}
 use Rattle.search.specs.Limits.{stateLimit}
 use Rattle.basics.specs.Member.{_∈_}
@@ -29,50 +25,34 @@ use Rattle.basics.proofs.MemberLaws.{getD-in}
 use Rattle.search.proofs.ReachableSetsLaws.{sameSet-says}
 use Rattle.states.proofs.Acceptance.{accepts-iff-holds, start-state-rejects}
 use Rattle.states.proofs.NumberedSuccessors.{successor-right}
-use Rattle.obligations.proofs.LettersLaws.{letters-exact}
+use Rattle.obligations.proofs.LettersLaws.{letter-listed}
 use Rattle.play.specs.Limits.{beliefLimit}
 use Rattle.play.specs.Game.{Game}
-use Rattle.play.specs.Belief.{Automaton, Belief, stateFrom, beliefs}
-use Rattle.play.specs.Answer.{positions, verdictOf, numbered, Right}
-use Rattle.game.specs.Solution.{gameOf, automatonOf, problemStates}
-use Rattle.basics.proofs.Booleans.{and-true}
-use Rattle.play.proofs.Plans.{rest, History, letters, Hidden, Possible}
-use Rattle.play.proofs.Optimality.{Knows}
+use Rattle.play.specs.Belief.{Automaton, Belief, stateFrom}
+use Rattle.play.specs.History.{History, Possible, Hidden, letters, Knows}
+use Rattle.play.specs.Answer.{positions, verdictOf, Right}
+use Rattle.game.specs.Solution.{gameOf, automatonOf, problemStates, beliefsOf}
+use Rattle.play.proofs.Plans.{rest}
 use Rattle.play.proofs.BeliefsKnow.{Judges, belief-knows}
 use Rattle.basics.proofs.ReachLaws.{closed-begins}
 use Rattle.play.proofs.AnswerLaws.{answer-right}
 
-module _ (p : Problem) (few : Few (p .signals)) where
+module _ (p : Problem) where
   abbrev G : Game
   G = gameOf p
 
   abbrev ps : List Part
-  ps = partsOf (p .formula)
+  ps = problemParts p
 
   abbrev alphabet : List ℕ
   alphabet = lettersOf (countsIn (p .signals))
 
   -- what a step makes is a letter
   letter-in : (c s x : ℕ) → c < G .choices → s < G .observations → x < G .hiddens → G .letter c s x ∈ alphabet
-  unfolding isLetter
-  letter-in c s x cb sb xb =
-      letters-exact (countsIn (p .signals)) (few .outputs) (few .observed) (few .hidden) (G .letter c s x) .1 is
-    where
-      c-small : c < 16
-      c-small = lt-of-lt-of-le cb (pow-mono {i = p .signals .outputs} {j = 4} (few .outputs))
+  letter-in c s x cb sb xb = letter-listed (countsIn (p .signals)) c s x cb sb xb
 
-      s-small : s < 16
-      s-small = lt-of-lt-of-le sb (pow-mono {i = p .signals .observed} {j = 4} (few .observed))
-
-      is : isLetter (countsIn (p .signals)) (c + s * 16 + x * 256) ≡ true
-      is =
-          let low : (c + s * 16 + x * 256) % 16 ≡ c = omega (arith, c-small) in
-          let half : (c + s * 16 + x * 256) / 16 ≡ s + x * 16 = omega (arith, c-small) in
-          let rest-of : (s + x * 16) % 16 ≡ s = omega (arith, s-small) in
-          let mid : (c + s * 16 + x * 256) / 16 % 16 ≡ s = ap (λ y. y % 16) half ∙ rest-of in
-          let top : (c + s * 16 + x * 256) / 256 ≡ x = omega (arith, c-small, s-small) in
-          and-true (ap (λ y. ltb y (2 ^ (p .signals .outputs))) low ∙ lt-ltb c _ cb)
-          (and-true (ap (λ y. ltb y (2 ^ (p .signals .observed))) mid ∙ lt-ltb s _ sb) (ap (λ y. ltb y (2 ^ (p .signals .hidden))) top ∙ lt-ltb x _ xb))
+  some-hidden : 0 < G .hiddens
+  some-hidden = pow-pos (p .signals .hidden)
 
   module _ (xs : List PatternSet) (listed : problemStates p ≡ closed xs) where
     abbrev M : Automaton
@@ -101,10 +81,10 @@ module _ (p : Problem) (few : Few (p .signals)) where
         steps h (v .2) (rest x) (λ j. xb (suc j)) _ b′ ∙ ap (λ s. foldl (nextState ps) s (letters G h (rest x))) e
 
     judges : (m : ℕ × ℕ) (h : History) → Possible (G .choices) (G .observations) (m ∷ h) → (x : ℕ → ℕ) → Hidden G x
-        → holds (p .formula) (letters G (m ∷ h) x) ≡ accepts (at (stateFrom M 0 (letters G (m ∷ h) x)))
+        → holds (formulaIn p) (letters G (m ∷ h) x) ≡ accepts (at (stateFrom M 0 (letters G (m ∷ h) x)))
     unfolding stateAfter after nextState
     judges m h v x xb =
-        sym (accepts-iff-holds (p .formula) (letters G (m ∷ h) x) (omega arith))
+        sym (accepts-iff-holds (formulaIn p) (letters G (m ∷ h) x) (omega arith))
         ∙ ap accepts (sym (steps (m ∷ h) v x xb 0 (first-state .0) ∙ ap (λ s. foldl (nextState ps) s (letters G (m ∷ h) x)) (first-state .1)))
 
     states-judge : Judges G M
@@ -116,16 +96,15 @@ module _ (p : Problem) (few : Few (p .signals)) where
           next-below = λ i h c r x cb rb xb. step i h c r x cb rb xb .0;
         }
 
-    some-hidden : 0 < G .hiddens
-    some-hidden = pow-pos (p .signals .hidden)
-
-    pub beliefs-know : Knows G (beliefs G M)
+    pub beliefs-know : Knows G (beliefsOf p xs)
     beliefs-know = belief-knows G M some-hidden states-judge
 
-    -- the verdict from the beliefs is right
-    pub belief-right : (all : List Belief) → positions (beliefs G M) sameSet (G .choices) (G .observations) beliefLimit ≡ closed all
-        → Right beliefLimit G (verdictOf (numbered (beliefs G M) sameSet all) eqb (G .choices) (G .observations) (length all))
-    belief-right all counted =
-        answer-right G (beliefs G M) sameSet sameSet-says beliefLimit all counted beliefs-know (pow-pos (p .signals .observed)) some-hidden
-        (lt-of-le-of-lt (pow-mono {i = p .signals .outputs} {j = 4} (few .outputs)) (omega arith))
-        (pow-mono {i = p .signals .observed} {j = 4} (few .observed))
+-- the verdict from the beliefs is right
+pub belief-right : (p : Problem) → Few (p .signals) → (xs : List PatternSet) → problemStates p ≡ closed xs → (all : List Belief)
+    → positions (beliefsOf p xs) sameSet (gameOf p .choices) (gameOf p .observations) beliefLimit ≡ closed all
+    → Right beliefLimit (gameOf p) (verdictOf (beliefsOf p xs) sameSet (gameOf p .choices) (gameOf p .observations) (length all))
+belief-right p few xs listed all counted =
+    answer-right (gameOf p) (beliefsOf p xs) sameSet sameSet-says beliefLimit all counted (beliefs-know p xs listed)
+    (pow-pos (p .signals .observed)) (some-hidden p)
+    (lt-of-le-of-lt (pow-mono {i = p .signals .outputs} {j = kindLimit} (few .outputs)) (omega arith))
+    (pow-mono {i = p .signals .observed} {j = kindLimit} (few .observed))

@@ -9,8 +9,7 @@ use lib.ListN.{length, take, replicate}
 use Rattle.lines.specs.declared.refusal.Refusal.the-variants as refusal
 use Rattle.rules.specs.Judge.{countsIn}
 use Rattle.rules.specs.Limits.{workSize}
-use Rattle.formula.specs.Parts.{partsOf}
-use Rattle.rules.specs.Problem.{Problem, Outcome as Reading, accepted, refused, readProblem}
+use Rattle.rules.specs.Problem.{Problem, problemParts, Outcome as Reading, accepted, refused, readProblem}
 use Rattle.rules.specs.Denotes.{Denotes}
 use Rattle.obligations.specs.Letters.{lettersOf}
 use Rattle.search.specs.Limits.{stateLimit}
@@ -23,28 +22,28 @@ use Rattle.tables.specs.declared.answering.Outcome.{Outcome}
 use Rattle.tables.specs.declared.answering.Outcome.the-variants as outcome
 use Rattle.game.specs.declared.solving.Solved.{Solved}
 use Rattle.game.specs.declared.solving.Solved.the-variants.{Table, Refused}
-use Rattle.play.specs.Limits.{beliefLimit, rowSize, tableSize}
+use Rattle.play.specs.Limits.{beliefLimit}
+use Rattle.play.specs.Cells.{rowSize, tableSize}
 use Rattle.play.specs.Game.{Unrealizable}
-use Rattle.play.specs.Belief.{beliefs, firstBelief}
 use Rattle.basics.specs.Lists.{written}
 use Rattle.play.specs.Answer.{moves, cellsOf as verdictCells, Solves}
 use Rattle.tables.specs.Outcome.{outcomeOf}
-use Rattle.game.specs.Solution.{gameOf, automatonOf, problemStates, Solution, tooManyStates, tooManyBeliefs, verdict, solution}
+use Rattle.game.specs.Solution.{gameOf, problemStates, beliefsOf, Solution, tooManyStates, tooManyBeliefs, verdict, solution}
 
 -- ---- the answer
 
--- for an outcome, for a solution, for a text
-abbrev pub solvedAs : Outcome → Solved
-solvedAs (outcome.Table n r) = Table n r
-solvedAs outcome.Unrealizable = Refused refusal.Unrealizable
+-- for an outcome, for a solution, each with the number of observed signals, for a text
+abbrev pub solvedAs : ℕ → Outcome → Solved
+solvedAs observed (outcome.Table n r) = Table (record { rows = n; observed = observed }) r
+solvedAs observed outcome.Unrealizable = Refused refusal.Unrealizable
 
-abbrev pub solvedOf : Solution → Solved
-solvedOf (verdict v) = solvedAs (outcomeOf v)
-solvedOf tooManyBeliefs = Refused refusal.TooManyBeliefs
-solvedOf tooManyStates = Refused refusal.TooManyStates
+abbrev pub solvedOf : ℕ → Solution → Solved
+solvedOf observed (verdict v) = solvedAs observed (outcomeOf v)
+solvedOf observed tooManyBeliefs = Refused refusal.TooManyBeliefs
+solvedOf observed tooManyStates = Refused refusal.TooManyStates
 
 abbrev pub solvedFrom : Reading → Solved
-solvedFrom (accepted p) = solvedOf (solution p)
+solvedFrom (accepted p) = solvedOf (p .signals .observed) (solution p)
 solvedFrom (refused r) = Refused r
 
 -- lent memory that is too short
@@ -78,15 +77,14 @@ workAfter table work = cond (isShort (length work) table) work (replicate (lengt
 abbrev pub ManyStates : Problem → Type 0
 ManyStates p =
     (xs : List PatternSet) × (length xs ≡ suc stateLimit) × Distinct xs
-    × ((s : PatternSet) → s ∈ xs → IsState (partsOf (p .formula)) (lettersOf (countsIn (p .signals))) s)
+    × ((s : PatternSet) → s ∈ xs → IsState (problemParts p) (lettersOf (countsIn (p .signals))) s)
 
 -- the states are within their limit, and more than the limit of beliefs can be reached
 pub record ManyBeliefs (p : Problem) : Type 0 where
   pub states : List PatternSet
   pub listed : problemStates p ≡ closed states
   pub many :
-      AtLeast (moves (beliefs (gameOf p) (automatonOf (partsOf (p .formula)) states)) sameSet (gameOf p .choices) (gameOf p .observations))
-      (firstBelief (gameOf p) (automatonOf (partsOf (p .formula)) states)) (suc beliefLimit)
+      AtLeast (moves (beliefsOf p states) sameSet (gameOf p .choices) (gameOf p .observations)) (beliefsOf p states .start) (suc beliefLimit)
 
 -- the limits of states and of beliefs are kept
 abbrev pub Small : Problem → Type 0
@@ -96,12 +94,13 @@ Small p = (¬ ManyStates p) × (¬ ManyBeliefs p)
 abbrev pub NoProblem : List ℕ → Type 0
 NoProblem source = (p : Problem) → ¬ Denotes source p
 
--- A table solves the game of a problem within the limits. Unrealizable: no strategy wins. The formula is the one that the source
--- denotes by the written grammar. Each refusal is given only
--- where it is due, so each is given exactly there; the last four never are.
+-- A table solves the game of a problem within the limits, and its shape tells the problem's observed signals. Unrealizable: no strategy
+-- wins. The formula is the one that the source denotes by the written grammar. Each refusal is given only where it is due, so each is
+-- given exactly there; the last four never are.
 abbrev pub Claim : List ℕ → Solved → List ℕ → Type 0
-Claim source (Table n r) table =
-    (p : Problem) × Denotes source p × Small p × Solves beliefLimit (gameOf p) n r (take (n * rowSize) table)
+Claim source (Table shape r) table =
+    (p : Problem) × Denotes source p × Small p × (shape .observed ≡ p .signals .observed)
+    × Solves beliefLimit (gameOf p) (shape .rows) r (take (shape .rows * rowSize) table)
 Claim source (Refused refusal.Unrealizable) table = (p : Problem) × Denotes source p × Small p × Unrealizable (gameOf p)
 Claim source (Refused refusal.TooManyStates) table = (p : Problem) × Denotes source p × ManyStates p
 Claim source (Refused refusal.TooManyBeliefs) table = (p : Problem) × Denotes source p × ManyBeliefs p

@@ -1,14 +1,13 @@
 -- The game of a problem, the states behind it by number, and what is answered for it.
 -- Assumes nothing.
-use Prim.Native.Nat.{ℕ, _+_, _*_, _^_}
+use Prim.Native.Nat.{ℕ, _^_}
 use mathlib.Core.Bool.{Bool}
 use mathlib.Core.List.{List, []}
-use lib.Dec.{eqb}
 use lib.ListN.{length, getD}
 use Rattle.rules.specs.Judge.{countsIn}
 use Rattle.formula.specs.declared.parts.Part.{Part}
-use Rattle.formula.specs.Parts.{partsOf}
-use Rattle.rules.specs.Problem.{Problem}
+use Rattle.formula.specs.Letter.{Counts, letterFrom}
+use Rattle.rules.specs.Problem.{Problem, formulaIn, problemParts}
 use Rattle.formula.specs.Semantics.{holds}
 use Rattle.search.specs.Limits.{stateLimit}
 use Rattle.obligations.specs.Letters.{lettersOf}
@@ -20,7 +19,7 @@ use Rattle.play.specs.Limits.{beliefLimit}
 use Rattle.play.specs.Game.{Game}
 use Rattle.play.specs.Rank.{Arena}
 use Rattle.play.specs.Belief.{Automaton, beliefs}
-use Rattle.play.specs.Answer.{Verdict, positions, numbered, verdictOf}
+use Rattle.play.specs.Answer.{Verdict, positions, verdictOf}
 
 -- the controller sets the output signals; a step brings values of the observed and of the hidden ones
 abbrev pub gameOf : Problem → Game
@@ -29,8 +28,8 @@ gameOf p =
       choices = 2 ^ (p .signals .outputs);
       observations = 2 ^ (p .signals .observed);
       hiddens = 2 ^ (p .signals .hidden);
-      letter = λ c s x. c + s * 16 + x * 256;
-      isTrue = holds (p .formula);
+      letter = letterFrom;
+      isTrue = holds (formulaIn p);
     }
 
 -- listed states by number; the start is the first
@@ -45,7 +44,11 @@ automatonOf ps xs =
 
 -- a problem's states, over the letters of its signals
 abbrev pub problemStates : Problem → Listing PatternSet
-problemStates p = statesOf (partsOf (p .formula)) (lettersOf (countsIn (p .signals))) stateLimit
+problemStates p = statesOf (problemParts p) (lettersOf (countsIn (p .signals))) stateLimit
+
+-- the beliefs over listed states of a problem
+abbrev pub beliefsOf : Problem → List PatternSet → Arena
+beliefsOf p xs = beliefs (automatonOf (problemParts p) xs) (gameOf p .hiddens) (gameOf p .letter)
 
 -- what is answered for a problem: too many states, too many beliefs, or the verdict from its beliefs
 pub data Solution : Type 0 where
@@ -53,18 +56,26 @@ pub data Solution : Type 0 where
   tooManyBeliefs : Solution
   verdict : Verdict → Solution
 
--- from the positions counted, by their numbers
+-- from the positions counted
 abbrev pub solutionOf : (A : Arena) (same : A .K → A .K → Bool) (choices observations : ℕ) → Listing (A .K) → Solution
-solutionOf A same choices observations (closed all) = verdict (verdictOf (numbered A same all) eqb choices observations (length all))
+solutionOf A same choices observations (closed all) = verdict (verdictOf A same choices observations (length all))
 solutionOf A same choices observations over = tooManyBeliefs
 
-abbrev pub beliefSolution : Game → Automaton → Solution
-beliefSolution G M = solutionOf (beliefs G M) sameSet (G .choices) (G .observations)
-    (positions (beliefs G M) sameSet (G .choices) (G .observations) beliefLimit)
+-- from the beliefs over an automaton's states
+abbrev pub beliefSolution : (M : Automaton) (choices observations hiddens : ℕ) → (ℕ → ℕ → ℕ → ℕ) → Solution
+beliefSolution M choices observations hiddens letter =
+    let A = beliefs M hiddens letter in
+    solutionOf A sameSet choices observations (positions A sameSet choices observations beliefLimit)
 
-abbrev pub solutionFrom : Problem → Listing PatternSet → Solution
-solutionFrom p (closed xs) = beliefSolution (gameOf p) (automatonOf (partsOf (p .formula)) xs)
-solutionFrom p over = tooManyStates
+-- from the listed states of a formula's parts, with so many signals
+abbrev pub solutionFrom : List Part → Counts → Listing PatternSet → Solution
+solutionFrom ps c (closed xs) = beliefSolution (automatonOf ps xs) (2 ^ (c .outputs)) (2 ^ (c .observed)) (2 ^ (c .hidden)) letterFrom
+solutionFrom ps c over = tooManyStates
 
+-- from a formula's parts
+abbrev pub partsSolution : List Part → Counts → Solution
+partsSolution ps c = solutionFrom ps c (statesOf ps (lettersOf c) stateLimit)
+
+-- for a problem: that of its formula's parts and of its signals
 abbrev pub solution : Problem → Solution
-solution p = solutionFrom p (problemStates p)
+solution p = partsSolution (problemParts p) (countsIn (p .signals))

@@ -1,13 +1,12 @@
--- The states' tables in memory as those of an automaton and a game.
+-- The states' tables in memory as an automaton, and what is answered from them.
 -- Assumes nothing.
-use Prim.Native.Nat.{ℕ, _+_, _*_, _/_, _%_, _≤_, _<_}
-use mathlib.Core.Path.{_≡_}
+use Prim.Native.Nat.{ℕ, _+_, _*_, _≤_, _<_}
 use mathlib.Core.List.{List}
 use Rattle.search.specs.Limits.{letterLimit}
 use Rattle.play.specs.Limits.{sideLimit}
-use Rattle.play.specs.Game.{Game}
 use Rattle.play.specs.Belief.{Automaton}
 use Rattle.beliefs.specs.BeliefMemory.{successorIn, acceptsIn}
+use Rattle.game.specs.Solution.{Solution, beliefSolution}
 
 -- choices and observations of at most four signals each, and letters of at most nine
 pub record Widths (choices observations hiddens : ℕ) : Type 0 where
@@ -17,13 +16,15 @@ pub record Widths (choices observations hiddens : ℕ) : Type 0 where
   pub few-observations : observations ≤ sideLimit
   pub few-letters : hiddens * (choices * observations) ≤ letterLimit
 
--- n states in memory are those of an automaton, under the letters of a game
-pub record Tables (G : Game) (M : Automaton) (sets successors : List ℕ) (n choices observations hiddens : ℕ) : Type 0 where
-  pub choices-are : G .choices ≡ choices
-  pub observations-are : G .observations ≡ observations
-  pub hiddens-are : G .hiddens ≡ hiddens
-  pub states-are : M .states ≡ n
-  pub first : M .initial ≡ 0
-  pub follows : (s q h : ℕ) → s < M .states → q < G .choices * G .observations → h < G .hiddens
-      → successorIn successors s (q + h * (G .choices * G .observations)) ≡ M .next s (G .letter (q % G .choices) (q / G .choices) h)
-  pub accepting : (s : ℕ) → s < M .states → acceptsIn sets s ≡ M .accepts s
+-- n states, each with its row of successors, letters going by their numbers
+abbrev pub automatonIn : (sets successors : List ℕ) → ℕ → Automaton
+automatonIn sets successors n = record { states = n; initial = 0; next = successorIn successors; accepts = acceptsIn sets }
+
+-- the number of the letter of choice c, observation s and hidden value h
+abbrev pub letterNumber : (choices observations : ℕ) → ℕ → ℕ → ℕ → ℕ
+letterNumber choices observations c s h = s * choices + c + h * (choices * observations)
+
+-- what is answered from n states in memory
+unfoldable pub memorySolution : (sets successors : List ℕ) (n choices observations hiddens : ℕ) → Solution
+memorySolution sets successors n choices observations hiddens =
+    beliefSolution (automatonIn sets successors n) choices observations hiddens (letterNumber choices observations)

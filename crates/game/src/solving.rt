@@ -3,21 +3,17 @@ ghost use mathlib.Core.Path.{_≡_};
 ghost use Prim.Native.Nat.{_+_, _*_, _≤_, _<_};
 ghost use lib.ListN.{length};
 ghost use Rattle.formula.specs.Codes.{partsIn};
-ghost use Rattle.rules.specs.Judge.{countsIn};
-ghost use Rattle.formula.specs.Parts.{partsOf};
-ghost use Rattle.rules.specs.Problem.{Problem, readProblem};
+ghost use Rattle.rules.specs.Problem.{readProblem};
 ghost use Rattle.rules.specs.Trace.{countsOf};
 ghost use Rattle.search.specs.Limits.{stateLimit, letterLimit, setSize};
 ghost use Rattle.obligations.specs.Values.{Stored};
 ghost use Rattle.states.specs.Planes.{Sized};
-ghost use Rattle.play.specs.Limits.{tableSize};
-ghost use Rattle.play.specs.Game.{Game};
-ghost use Rattle.play.specs.Belief.{Automaton};
+ghost use Rattle.play.specs.Cells.{tableSize};
 ghost use Rattle.basics.specs.Lists.{written};
-ghost use Rattle.game.specs.Solution.{beliefSolution, solution};
+ghost use Rattle.game.specs.Solution.{partsSolution};
 ghost use Rattle.game.specs.Claim.{solvedAs, solvedOf, solvedFrom, solvedBy, cellsOf, cellsFrom, tableAfter, workAfter, Claim};
 ghost use Rattle.beliefs.specs.BeliefMemory.{Successors};
-ghost use Rattle.game.specs.StateMemory.{Tables, Widths};
+ghost use Rattle.game.specs.StateMemory.{Widths, memorySolution};
 use basics::clear;
 use beliefs::explore_beliefs;
 use lines::PART_LIMIT;
@@ -34,29 +30,34 @@ use states::explore;
 use tables::BELIEF_LIMIT;
 use tables::Outcome;
 use tables::PAIR_LIMIT;
+use tables::Shape;
 use tables::TABLE_SIZE;
 use tables::answer;
 
 // Bytes of work memory that hold the states' sets, with room for one more than the most.
 const SETS_SIZE: usize = (STATE_LIMIT + 1) * SET;
 
-// A table with its row count and worst case, or one refusal.
+// A table with its shape and worst case, or one refusal.
 pub enum Solved {
-    Table { rows: usize, worst_case: usize },
+    Table { shape: Shape, worst_case: usize },
     Refused(Refusal),
 }
 
-// The same, as it is answered for a problem.
-fn solved_as(r: Outcome) -> Solved
-    ensures { λ s. ⌜ s ≡ solvedAs r ⌝ }
+// The same, as it is answered for a problem with so many observed signals.
+fn solved_as(observed: usize, r: Outcome) -> Solved
+    ensures { λ s. ⌜ s ≡ solvedAs observed r ⌝ }
 {
     match r {
-        Outcome::Table { rows, worst_case } => Solved::Table { rows, worst_case },
+        Outcome::Table { rows, worst_case } => Solved::Table {
+            shape: Shape { rows, observed },
+            worst_case,
+        },
         Outcome::Unrealizable => Solved::Refused(Refusal::Unrealizable),
     }
 }
 
-// The answer from n states: their sets, and the number of the state that each letter leads to from each.
+// The answer from n states: their sets, and the number of the state that each letter leads to from each. A table's answer tells the
+// number of observed signals.
 fn solve_states(
     sets: &[u8],
     successors: &[u8],
@@ -64,6 +65,7 @@ fn solve_states(
     choices: usize,
     observations: usize,
     hiddens: usize,
+    observed: usize,
     table: &mut [u16],
 ) -> Solved
     requires { ⌜ stateLimit * setSize ≤ length (now sets) ⌝ }
@@ -73,10 +75,9 @@ fn solve_states(
     requires { ⌜ Widths choices observations hiddens ⌝ }
     requires { ⌜ Successors (now successors) n (choices * observations) hiddens ⌝ }
     requires { ⌜ tableSize ≤ length (now table) ⌝ }
-    ensures { λ r. ⌜ ((G : Game) (M : Automaton) → Tables G M (now (sets .entry)) (now (successors .entry)) n choices observations hiddens
-        → r ≡ solvedOf (beliefSolution G M)) ⌝ }
-    ensures { λ _. ⌜ ((G : Game) (M : Automaton) → Tables G M (now (sets .entry)) (now (successors .entry)) n choices observations hiddens
-        → now (table .exit) ≡ written (cellsOf (beliefSolution G M)) (now (table .entry))) ⌝ }
+    ensures { λ r. ⌜ r ≡ solvedOf observed (memorySolution (now (sets .entry)) (now (successors .entry)) n choices observations hiddens) ⌝ }
+    ensures { λ _. ⌜ now (table .exit)
+        ≡ written (cellsOf (memorySolution (now (sets .entry)) (now (successors .entry)) n choices observations hiddens)) (now (table .entry)) ⌝ }
 {
     let mut moves = [0u8; BELIEF_LIMIT * PAIR_LIMIT];
     let mut finals = [0u8; BELIEF_LIMIT];
@@ -89,21 +90,23 @@ fn solve_states(
         &mut moves,
         &mut finals,
     ) {
-        Explored::Found(k) => solved_as(answer(&moves, &finals, k, choices, observations, table)),
+        Explored::Found(k) => solved_as(
+            observed,
+            answer(&moves, &finals, k, choices, observations, table),
+        ),
         Explored::TooMany => Solved::Refused(Refusal::TooManyBeliefs),
     }
 }
 
-// The answer for a formula's parts, for every problem that has them and as many signals; the sets are room to work in.
+// The answer for a formula's parts and its signals; the sets are room to work in.
 fn solve_parts(parts: &[u32], sizes: Sizes, sets: &mut [u8], table: &mut [u16]) -> Solved
     requires { ⌜ Stored (now parts) ⌝ }
     requires { ⌜ Sized (now parts) sizes ⌝ }
     requires { ⌜ length (now sets) ≡ (stateLimit + 1) * setSize ⌝ }
     requires { ⌜ tableSize ≤ length (now table) ⌝ }
-    ensures { λ r. ⌜ ((p : Problem) → partsIn (now (parts .entry)) ≡ partsOf (p .formula) → countsOf sizes ≡ countsIn (p .signals)
-        → r ≡ solvedOf (solution p)) ⌝ }
-    ensures { λ _. ⌜ ((p : Problem) → partsIn (now (parts .entry)) ≡ partsOf (p .formula) → countsOf sizes ≡ countsIn (p .signals)
-        → now (table .exit) ≡ written (cellsOf (solution p)) (now (table .entry))) ⌝ }
+    ensures { λ r. ⌜ r ≡ solvedOf (sizes .observed) (partsSolution (partsIn (now (parts .entry))) (countsOf sizes)) ⌝ }
+    ensures { λ _. ⌜ now (table .exit)
+        ≡ written (cellsOf (partsSolution (partsIn (now (parts .entry))) (countsOf sizes))) (now (table .entry)) ⌝ }
 {
     let mut successors = [0u8; STATE_LIMIT * LETTER_LIMIT];
     let outputs = sizes.outputs;
@@ -117,6 +120,7 @@ fn solve_parts(parts: &[u32], sizes: Sizes, sets: &mut [u8], table: &mut [u16]) 
             1 << outputs,
             1 << observed,
             1 << hidden,
+            observed,
             table,
         ),
         Explored::TooMany => Solved::Refused(Refusal::TooManyStates),

@@ -1,6 +1,7 @@
 // Cells: one number for a part of a formula, which does not tell its place; and the numbers of parts, which do.
 ghost use mathlib.Core.Path.{_≡_};
 ghost use Prim.Native.Nat.{_+_, _-_, _%_, _≤_, _<_};
+ghost use Rattle.basics.specs.Limits.{indexLimit};
 ghost use lib.ListN.{length, set};
 ghost use lib.Seq.{sets};
 ghost use Rattle.grammar.specs.Cells.{codeAt, codesFrom};
@@ -37,7 +38,7 @@ pub(crate) fn put_two(cells: &mut [u32], n: usize, k: u8, c: usize)
 
 // The index that is s places before the last of n, 0 where there is none.
 fn index_before(n: usize, s: u32) -> u32
-    requires { ⌜ n ≤ 256 ⌝ }
+    requires { ⌜ n ≤ indexLimit ⌝ }
     ensures { λ r. ⌜ r ≡ n - 1 - s ⌝ }
 {
     let m = n as u32;
@@ -46,7 +47,7 @@ fn index_before(n: usize, s: u32) -> u32
 
 // The number of part n from its cell.
 fn code_at(n: usize, cell: u32) -> u32
-    requires { ⌜ n ≤ 256 ⌝ }
+    requires { ⌜ n ≤ indexLimit ⌝ }
     ensures { λ r. ⌜ r ≡ codeAt n cell ⌝ }
 {
     let kind = cell % 256;
@@ -63,7 +64,7 @@ fn code_at(n: usize, cell: u32) -> u32
 
 // Writes the numbers of the parts from n on.
 pub fn put_codes(cells: &[u32], n: usize, parts: &mut [u32])
-    requires { ⌜ (n + length (now cells) ≤ length (now parts)) × (length (now parts) ≤ 256) ⌝ }
+    requires { ⌜ (n + length (now cells) ≤ length (now parts)) × (length (now parts) ≤ indexLimit) ⌝ }
     ensures { λ _. ⌜ now (parts .exit) ≡ sets (now (parts .entry)) n (codesFrom n (now (cells .entry))) ⌝ }
 {
     let mut i = 0;

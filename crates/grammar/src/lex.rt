@@ -1,7 +1,5 @@
 // The tokens of a formula text.
 ghost use mathlib.Core.Path.{_≡_};
-ghost use Prim.Native.Nat.{_≤_};
-ghost use lib.ListN.{length};
 ghost use Rattle.grammar.specs.Lex.{wordKind, tokenAt};
 use basics::Class;
 use basics::is_lower;
@@ -46,7 +44,6 @@ fn word_kind(word: &[u8]) -> u8
 
 // The token at or after `at`.
 pub fn token_at(text: &[u8], at: usize) -> Token
-    requires { ⌜ at ≤ length (now text) ⌝ }
     ensures { λ r. ⌜ r ≡ tokenAt (now (text .entry)) at ⌝ }
 {
     let i = past(text, at, Class::Space);

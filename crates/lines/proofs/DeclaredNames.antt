@@ -8,6 +8,7 @@ use mathlib.Core.List.{List, [], _∷_}
 use borrow.Author.Tests.{eq-eqb, ne-eqb, lt-ltb, le-ltb}
 use lib.Dec.{eqb}
 use lib.ListN.{length}
+use Rattle.basics.specs.Limits.{indexLimit}
 use Rattle.grammar.specs.declared.lex.Token.{Token}
 use Rattle.basics.specs.Bytes.{between, sameBytes}
 use Rattle.grammar.specs.Lex.{tokenAt, tokens, nameKind}
@@ -37,7 +38,7 @@ unfolding leafValue
 leaf-values names text e =
     record { small = λ t. go (eqb (t .kind) nameKind) _ (indexOf-le (between text (t .from) (t .next)) names); constant = λ t e. rw e }
   where
-    go : (b : Bool) (i : ℕ) → i ≤ length names → cond b i 0 < 256
+    go : (b : Bool) (i : ℕ) → i ≤ length names → cond b i 0 < indexLimit
     go true i h = omega arith
     go false i h = omega arith
 

@@ -6,6 +6,7 @@ use mathlib.Core.Path.{_≡_, refl, sym, subst, ap, ap₂, _∙_}
 use mathlib.Core.Bool.{true, false}
 use mathlib.Core.List.{List, [], _∷_, _++_, append-assoc, map-append}
 use lib.Dec.{eqb}
+use Rattle.basics.specs.Limits.{indexLimit}
 use Rattle.grammar.specs.Lex.{nameKind}
 use Rattle.grammar.specs.declared.lex.Token.{Token}
 use Rattle.grammar.specs.Tree.{Tree, leaf, pre, bin, cell, oneSided, twoSided, cells}
@@ -79,7 +80,7 @@ known (grouped o c _ _ d) = known d
 
 -- the values of leaves are bytes, and only names have one
 pub record Values (val : Token → ℕ) : Type 0 where
-  pub small : (t : Token) → val t < 256
+  pub small : (t : Token) → val t < indexLimit
   pub constant : (t : Token) → eqb (t .kind) nameKind ≡ false → val t ≡ 0
 
 kind-small : {k : ℕ} → byteOf (opOf k) ≡ k → k < 256
@@ -93,7 +94,7 @@ size-known val (bin t a b) w =
     w .0 .sized (formulaOf val a) (formulaOf val b) ∙ ap₂ (λ m n. m + n + 1) (size-known val a (w .1)) (size-known val b (w .2))
 
 -- the numbers of the parts, from the cells
-codes-known : (val : Token → ℕ) → Values val → (a : Tree) → Known a → tree.size a ≤ 256 → (n : ℕ) → codesFrom n (cells val a) ≡ codesOf
+codes-known : (val : Token → ℕ) → Values val → (a : Tree) → Known a → tree.size a ≤ indexLimit → (n : ℕ) → codesFrom n (cells val a) ≡ codesOf
     (partsFrom (formulaOf val a) n)
 unfolding Known formulaOf tree.size cells codesFrom
 codes-known val v (leaf t) w h n =
@@ -144,14 +145,14 @@ pub size-formula : (val : Token → ℕ) {l : ℕ} {us : List Token} {a : Tree} 
 size-formula val {a = a} d = size-known val a (known d)
 
 module _ {val : Token → ℕ} (v : Values val) {l : ℕ} {us : List Token} {a : Tree} (d : Derives ltlf l us a) where
-  pub codes-formula : tree.size a ≤ 256 → (n : ℕ) → codesFrom n (cells val a) ≡ codesOf (partsFrom (formulaOf val a) n)
+  pub codes-formula : tree.size a ≤ indexLimit → (n : ℕ) → codesFrom n (cells val a) ≡ codesOf (partsFrom (formulaOf val a) n)
   codes-formula h n = codes-known val v a (known d) h n
 
   pub coded-formula : Coded (formulaOf val a)
   coded-formula = coded-known val v a (known d)
 
   -- the temporal operators among the cells
-  pub operators-formula : tree.size a ≤ 256 → temporals (kindsIn (cells val a)) ≡ operators (formulaOf val a)
+  pub operators-formula : tree.size a ≤ indexLimit → temporals (kindsIn (cells val a)) ≡ operators (formulaOf val a)
   operators-formula h =
       let φ = formulaOf val a in
       ap temporals (sym (kinds-from 0 (cells val a)) ∙ ap kindsIn (codes-formula h 0) ∙ kinds-of (partsFrom φ 0)) ∙ temporals-from φ 0

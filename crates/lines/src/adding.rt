@@ -4,7 +4,7 @@ ghost use Prim.Native.Nat.{_+_, _-_, _≤_, _<_};
 ghost use lib.ListN.{length};
 ghost use Rattle.grammar.specs.Lex.{tokens};
 ghost use Rattle.grammar.specs.Names.{Spans};
-ghost use Rattle.basics.specs.Limits.{operatorLimit};
+ghost use Rattle.basics.specs.Limits.{operatorLimit, indexLimit};
 ghost use Rattle.formula.specs.Limits.{partLimit};
 ghost use Rattle.formula.specs.Parts.{temporals};
 ghost use Rattle.lines.specs.Lines.{isText};
@@ -93,7 +93,7 @@ fn with_joint(n: usize, count: usize) -> usize
 
 // Joins the parts from n up to count to the n parts before them.
 fn join(n: usize, count: usize, parts: &mut [u32])
-    requires { ⌜ (n ≤ count) × (count + joint n ≤ length (now parts)) × (length (now parts) ≤ 256) ⌝ }
+    requires { ⌜ (n ≤ count) × (count + joint n ≤ length (now parts)) × (length (now parts) ≤ indexLimit) ⌝ }
     ensures { λ _. ⌜ now (parts .exit) ≡ storedFrom (joinPart n (count - n)) count (now (parts .entry)) ⌝ }
 {
     if n == 0 {
@@ -104,7 +104,7 @@ fn join(n: usize, count: usize, parts: &mut [u32])
 
 // Line `line` states the formula of these cells.
 fn add_cells(cells: &[u32], line: usize, s: Sizes, parts: &mut [u32]) -> Reading
-    requires { ⌜ length (now cells) < 256 ⌝ }
+    requires { ⌜ length (now cells) < indexLimit ⌝ }
     requires { ⌜ (s .parts ≤ partLimit) × (s .operators ≤ operatorLimit) × (length (now parts) ≡ partLimit) ⌝ }
     ensures { λ r. ⌜ r ≡ cellsReading (now (cells .entry)) line s ⌝ }
     ensures { λ _. ⌜ now (parts .exit) ≡ cellsStored (now (cells .entry)) s (now (parts .entry)) ⌝ }

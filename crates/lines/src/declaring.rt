@@ -12,7 +12,9 @@ use crate::problem::Kind;
 use crate::problem::Reading;
 use crate::problem::Sizes;
 use crate::refusal::Refusal;
+use basics::HIDDEN;
 use basics::KIND_LIMIT;
+use basics::OBSERVED;
 use basics::SIGNAL_LIMIT;
 use grammar::BITS;
 use grammar::NAME;
@@ -56,8 +58,8 @@ fn first_bit(kind: Kind) -> usize
 {
     match kind {
         Kind::Output => 0,
-        Kind::Observed => KIND_LIMIT,
-        Kind::Hidden => 2 * KIND_LIMIT,
+        Kind::Observed => OBSERVED,
+        Kind::Hidden => HIDDEN,
     }
 }
 

@@ -1,61 +1,25 @@
 -- The pattern that a letter carries back: its bits, its size, and what it reads.
 -- Assumes nothing.
-use Prim.Native.Nat.{ℕ, zero, suc, _%_, _^_, _≤_, _<_}
+use Prim.Native.Nat.{ℕ, suc, _%_, _^_, _<_}
 use native.Mathlib.Nat.{lt-of-lt-of-le}
 use native.Mathlib.Numerals.{add-one}
-use native.Mathlib.Omega.{arith}
 use mathlib.Core.Path.{_≡_, refl, sym, ap, ap₂, _∙_, subst}
-use mathlib.Core.Bool.{Bool, true, false, not, _&&_, _||_, false≢true}
+use mathlib.Core.Bool.{Bool, true, false, false≢true}
 use mathlib.Core.List.{List, [], _∷_, _++_, map}
 use lib.Pow.{pow-mono}
 use lib.Dec.{ltb}
 use lib.ListN.{length, getD, length-append, length-map, List·getD-append, List·getD-eq-default}
 use lib.Seq.{getD-append-seam}
 use borrow.Author.Tests.{ltb-true, ltb-false}
-use Rattle.formula.specs.declared.formula.Op.{Op}
-use Rattle.formula.specs.declared.formula.Op.the-variants as op
 use Rattle.basics.specs.Bits.{bit, fromBits}
 use Rattle.formula.specs.declared.parts.Part.{Part}
-use Rattle.formula.specs.Parts.{byteOf, isTemporal, lastOf, partAt, arity, bottomUp, resultAt}
-use Rattle.formula.specs.Entries.{combine, owed}
+use Rattle.formula.specs.Parts.{byteOf, isTemporal, lastOf, partAt}
+use Rattle.formula.specs.Values.{owed}
+use Rattle.formula.proofs.ValuesLaws.{with-same}
 use Rattle.obligations.specs.Obligation.{isOperator, operatorsOf, numberOf, spots, valueAt, owedAt, back}
 use Rattle.basics.proofs.BitsLaws.{bit-fromBits, fromBits-lt, bit-mod, bit-out}
 use Rattle.basics.proofs.ListsLaws.{getD-map-in, map-ext-in}
 use Rattle.obligations.proofs.OperatorSpots.{number-lt, spot-at, length-spots}
-
--- ---- a part's value
-
--- it reads its own obligation only if it is temporal
-pub combine-own : (k : Op) (s o o′ x y : Bool) → (isTemporal (byteOf k) ≡ true → o ≡ o′) → combine k s o x y ≡ combine k s o′ x y
-combine-own op.Signal s o o′ x y e = refl
-combine-own op.True s o o′ x y e = refl
-combine-own op.False s o o′ x y e = refl
-combine-own op.Not s o o′ x y e = refl
-combine-own op.And s o o′ x y e = refl
-combine-own op.Or s o o′ x y e = refl
-combine-own op.Implies s o o′ x y e = refl
-combine-own op.Next s o o′ x y e = e refl
-combine-own op.WeakNext s o o′ x y e = ap not (e refl)
-combine-own op.Eventually s o o′ x y e = ap (λ q. x || q) (e refl)
-combine-own op.Always s o o′ x y e = ap (λ q. x && not q) (e refl)
-combine-own op.Until s o o′ x y e = ap (λ q. y || (x && q)) (e refl)
-combine-own op.Release s o o′ x y e = ap (λ q. y && (x || not q)) (e refl)
-
--- the operator of a temporal part has an operand
-pub temporal-arity : (k : Op) → isTemporal (byteOf k) ≡ true → 1 ≤ arity k
-temporal-arity op.Signal e = absurd (false≢true e)
-temporal-arity op.True e = absurd (false≢true e)
-temporal-arity op.False e = absurd (false≢true e)
-temporal-arity op.Not e = absurd (false≢true e)
-temporal-arity op.And e = absurd (false≢true e)
-temporal-arity op.Or e = absurd (false≢true e)
-temporal-arity op.Implies e = absurd (false≢true e)
-temporal-arity op.Next e = omega arith
-temporal-arity op.WeakNext e = omega arith
-temporal-arity op.Eventually e = omega arith
-temporal-arity op.Always e = omega arith
-temporal-arity op.Until e = omega arith
-temporal-arity op.Release e = omega arith
 
 module _ (ps : List Part) where
   -- ---- the operators
@@ -115,23 +79,12 @@ module _ (ps : List Part) where
 
   -- values read only the operators' bits
   value-low : (a p q i : ℕ) → p % 2 ^ operatorsOf ps ≡ q % 2 ^ operatorsOf ps → valueAt ps a p i ≡ valueAt ps a q i
-  unfolding valueAt resultAt bottomUp
-  value-low a p q i e = ap (λ t. getD t i false) (rows (suc i))
+  unfolding valueAt
+  value-low a p q i e = with-same ps a _ _ i (λ n l t. own n (number-below n t))
     where
-      own : (n : ℕ) → isOperator ps n ≡ true → bit p (numberOf ps n) ≡ bit q (numberOf ps n)
-      own n t =
-          let h : numberOf ps n < operatorsOf ps = number-below n t in
+      own : (n : ℕ) → numberOf ps n < operatorsOf ps → bit p (numberOf ps n) ≡ bit q (numberOf ps n)
+      own n h =
           sym (bit-mod p (operatorsOf ps) (numberOf ps n) h) ∙ ap (λ x. bit x (numberOf ps n)) e ∙ bit-mod q (operatorsOf ps) (numberOf ps n) h
-
-      rows : (n : ℕ) → bottomUp false (λ n x y. combine (partAt ps n .kind) (bit a (partAt ps n .left)) (bit p (numberOf ps n)) x y) ps n
-          ≡ bottomUp false (λ n x y. combine (partAt ps n .kind) (bit a (partAt ps n .left)) (bit q (numberOf ps n)) x y) ps n
-      rows zero = refl
-      rows (suc n) =
-          let k = partAt ps n in
-          let s = bit a (k .left) in
-          ap₂ (λ t v. t ++ (v ∷ [])) (rows n)
-          (ap (λ t. combine (k .kind) s (bit p (numberOf ps n)) (getD t (k .left) false) (getD t (k .right) false)) (rows n)
-          ∙ combine-own (k .kind) s (bit p (numberOf ps n)) (bit q (numberOf ps n)) _ _ (own n))
 
   -- and so does the whole
   pub back-low : (a p q : ℕ) → p % 2 ^ operatorsOf ps ≡ q % 2 ^ operatorsOf ps → back ps a p ≡ back ps a q

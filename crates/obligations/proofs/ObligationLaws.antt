@@ -1,40 +1,39 @@
--- The values and obligations of parts, from those of their operands.
+-- The values of parts by a pattern: from those of their operands, and on a trace.
 -- Assumes nothing.
 use Prim.Native.Nat.{ℕ}
-use mathlib.Core.Path.{_≡_, _∙_}
-use mathlib.Core.Bool.{Bool, true, false, not, _&&_, _||_}
-use mathlib.Core.List.{List}
-use Rattle.formula.specs.declared.formula.Op.{Op}
-use Rattle.formula.specs.declared.formula.Op.the-variants as op
+use mathlib.Core.Path.{_≡_, ap₂, _∙_}
+use mathlib.Core.Bool.{true}
+use mathlib.Core.List.{List, [], _∷_}
 use Rattle.basics.specs.Bits.{bit}
 use Rattle.formula.specs.declared.parts.Part.{Part}
-use Rattle.formula.specs.Parts.{arity, partAt, Earlier}
-use Rattle.formula.specs.Entries.{combine}
-use Rattle.formula.proofs.PartsLaws.{Reads, reads-none, reads-one, reads-both, getD-bottomUp, resultAt-last}
-use Rattle.obligations.specs.Obligation.{numberOf, valueAt}
+use Rattle.formula.specs.Semantics.{Trace}
+use Rattle.formula.specs.Parts.{lastOf, partAt, Ready}
+use Rattle.formula.specs.Values.{combine, owed, valueWith, owedOn, valueOn}
+use Rattle.formula.proofs.ValuesLaws.{with-step, with-same}
+use Rattle.obligations.specs.Obligation.{isOperator, numberOf, valueAt, owedAt, back, patternOn}
+use Rattle.basics.proofs.BitsLaws.{bit-zero}
+use Rattle.obligations.proofs.CarriedBack.{pattern-own}
 
--- a value reads only the operands that its operator has
-pub combine-reads : (k : Op) (s o : Bool) → Reads (arity k) (combine k s o)
-combine-reads op.Signal s o = reads-none s
-combine-reads op.True s o = reads-none true
-combine-reads op.False s o = reads-none false
-combine-reads op.Not s o = reads-one not
-combine-reads op.And s o = reads-both _&&_
-combine-reads op.Or s o = reads-both _||_
-combine-reads op.Implies s o = reads-both (combine op.Implies s o)
-combine-reads op.Next s o = reads-one (λ x. o)
-combine-reads op.WeakNext s o = reads-one (λ x. not o)
-combine-reads op.Eventually s o = reads-one (λ x. x || o)
-combine-reads op.Always s o = reads-one (λ x. x && not o)
-combine-reads op.Until s o = reads-both (combine op.Until s o)
-combine-reads op.Release s o = reads-both (combine op.Release s o)
+module _ (ps : List Part) where
+  -- the value of a part is its operator's over the values of its operands
+  pub valueAt-step : (a p i : ℕ) → Ready ps i
+      → valueAt ps a p i
+      ≡ combine (partAt ps i .kind) (bit a (partAt ps i .left)) (bit p (numberOf ps i)) (valueAt ps a p (partAt ps i .left))
+      (valueAt ps a p (partAt ps i .right))
+  unfolding valueAt
+  valueAt-step a p i r = with-step ps a (λ n. bit p (numberOf ps n)) i r
 
--- the value of a part is its operator's over the values of its operands
-pub valueAt-step : (ps : List Part) (a p i : ℕ) → Earlier ps i
-    → valueAt ps a p i
-    ≡ combine (partAt ps i .kind) (bit a (partAt ps i .left)) (bit p (numberOf ps i)) (valueAt ps a p (partAt ps i .left)) (valueAt ps a p (partAt ps i .right))
-unfolding valueAt
-valueAt-step ps a p i e =
-    resultAt-last false _ ps i
-    ∙ combine-reads (partAt ps i .kind) (bit a (partAt ps i .left)) (bit p (numberOf ps i)) _ _ _ _
-    (λ h. getD-bottomUp false _ ps i _ (e .left-earlier h)) (λ h. getD-bottomUp false _ ps i _ (e .right-earlier h))
+  -- the pattern that a trace meets has the obligations that it meets
+  owed-pattern : (π : Trace) (i : ℕ) → isOperator ps i ≡ true → bit (patternOn ps π) (numberOf ps i) ≡ owedOn ps π i
+  unfolding patternOn back valueAt owedAt owedOn
+  owed-pattern [] i t = bit-zero (numberOf ps i)
+  owed-pattern (a ∷ π) i t =
+      let same : (n : ℕ) → valueAt ps a (patternOn ps π) n ≡ valueWith ps a (owedOn ps π) n
+      = λ n. with-same ps a (λ j. bit (patternOn ps π) (numberOf ps j)) (owedOn ps π) n (λ j l. owed-pattern π j) in
+      pattern-own ps (owedAt ps a (patternOn ps π)) (valueAt ps a (patternOn ps π) (lastOf ps)) i t
+      ∙ ap₂ (owed (partAt ps i .kind)) (same (partAt ps i .left)) (same i)
+
+  -- and gives the values on the trace that has one step more in front
+  pub value-pattern : (a : ℕ) (π : Trace) (i : ℕ) → valueAt ps a (patternOn ps π) i ≡ valueOn ps (a ∷ π) i
+  unfolding valueAt valueOn
+  value-pattern a π i = with-same ps a (λ n. bit (patternOn ps π) (numberOf ps n)) (owedOn ps π) i (λ n l. owed-pattern π n)

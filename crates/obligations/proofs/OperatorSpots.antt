@@ -11,9 +11,7 @@ use lib.ListN.{length, getD, take, length-append, List·getD-append, length-take
 use lib.Seq.{getD-append-seam, getD-take}
 use Rattle.basics.specs.Bits.{digit}
 use Rattle.formula.specs.declared.parts.Part.{Part}
-use Rattle.formula.specs.Formula.{Formula, operators}
-use Rattle.formula.specs.Parts.{byteOf, isTemporal, temporals, kindsOf, partsFrom, partsOf, partAt}
-use Rattle.formula.proofs.TemporalCount.{temporals-from}
+use Rattle.formula.specs.Parts.{byteOf, isTemporal, temporals, kindsOf, partAt}
 use Rattle.basics.specs.Member.{_∈_}
 use Rattle.obligations.specs.Obligation.{isOperator, numberOf, operatorsOf, onlyIf, spotsTo, spots}
 use Rattle.basics.proofs.MemberLaws.{getD-in}
@@ -106,12 +104,7 @@ number-cons q ps zero = omega arith
 number-cons q ps (suc n) = omega (arith, number-cons q ps n)
 
 -- as many as there are bytes that stand for one
-operators-are : (ps : List Part) → operatorsOf ps ≡ temporals (kindsOf ps)
+pub operators-are : (ps : List Part) → operatorsOf ps ≡ temporals (kindsOf ps)
 unfolding operatorsOf numberOf temporals
 operators-are [] = refl
 operators-are (q ∷ ps) = number-cons q ps (length ps) ∙ ap (λ m. digit (isTemporal (byteOf (q .kind))) + m) (operators-are ps)
-
--- a formula's parts have its temporal operators
-pub operators-from : (φ : Formula) → operatorsOf (partsOf φ) ≡ operators φ
-unfolding partsOf
-operators-from φ = operators-are (partsFrom φ 0) ∙ temporals-from φ 0

@@ -12,17 +12,21 @@ use lib.ListN.{length, getD, set}
 use lib.Seq.{sets, length-sets}
 use Rattle.basics.specs.Bits.{bit}
 use Rattle.formula.specs.Codes.{partsIn}
+use Rattle.basics.specs.Limits.{wordSize}
 use Rattle.basics.specs.Lists.{tabulate}
+use Rattle.basics.specs.Limits.{indexLimit}
 use Rattle.formula.specs.declared.parts.Part.{Part}
-use Rattle.formula.specs.Parts.{arity, partAt, Earlier}
-use Rattle.formula.specs.Entries.{combine}
+use Rattle.formula.specs.Parts.{partAt, reads, Ready, AllReady}
+use Rattle.formula.specs.Values.{combine}
+use Rattle.formula.proofs.ValuesLaws.{combine-reads}
+use Rattle.formula.proofs.CodesLaws.{length-in}
 use Rattle.basics.proofs.ListsLaws.{length-tabulate, getD-tabulate, tabulate-suc}
 use Rattle.obligations.specs.Obligation.{numberOf, valueAt}
 use Rattle.obligations.specs.Words.{allLanes, obligationLanes, combineLanes, valueLanes}
 use Rattle.obligations.specs.Values.{Stored, blockSize, partLane, withPart, valuesTo}
 use Rattle.obligations.proofs.WordsLaws.{bit-lanes, lanes-ext}
 use Rattle.basics.proofs.Stores.{sets-snoc, getD-sets-other, getD-sets-same}
-use Rattle.obligations.proofs.ObligationLaws.{combine-reads, valueAt-step}
+use Rattle.obligations.proofs.ObligationLaws.{valueAt-step}
 
 -- ---- one part's words, written while its operands' are read
 
@@ -79,23 +83,23 @@ pub record Evaluated (ps : List Part) (letters : List ℕ) (w n : ℕ) (v : List
   pub value : (i x : ℕ) → i < n → x < blockSize → getD v (i * blockSize + x) 0 ≡ valueLanes ps (getD letters x 0) w i
 
 -- a part's value, lane by lane, from those of its operands
-combine-lanes : (ps : List Part) (a w i x y : ℕ) → Earlier ps i
-    → (1 ≤ arity (partAt ps i .kind) → x ≡ valueLanes ps a w (partAt ps i .left))
-    → (2 ≤ arity (partAt ps i .kind) → y ≡ valueLanes ps a w (partAt ps i .right))
+combine-lanes : (ps : List Part) (a w i x y : ℕ) → Ready ps i
+    → (1 ≤ reads (partAt ps i .kind) → x ≡ valueLanes ps a w (partAt ps i .left))
+    → (2 ≤ reads (partAt ps i .kind) → y ≡ valueLanes ps a w (partAt ps i .right))
     → combineLanes (partAt ps i .kind) (allLanes (bit a (partAt ps i .left))) (obligationLanes (numberOf ps i) w) x y ≡ valueLanes ps a w i
 unfolding combineLanes allLanes obligationLanes valueLanes
 combine-lanes ps a w i x y e ex ey =
     let q : Part = partAt ps i in
     lanes-ext _ _ (λ j h.
     ap₂ (λ s o. combine (q .kind) s o (bit x j) (bit y j)) (bit-lanes _ j h) (bit-lanes _ j h)
-    ∙ combine-reads (q .kind) (bit a (q .left)) (bit (w * 64 + j) (numberOf ps i)) (bit x j) (valueAt ps a (w * 64 + j) (q .left)) (bit y j)
-    (valueAt ps a (w * 64 + j) (q .right))
+    ∙ combine-reads (q .kind) (bit a (q .left)) (bit (w * wordSize + j) (numberOf ps i)) (bit x j) (valueAt ps a (w * wordSize + j) (q .left)) (bit y j)
+    (valueAt ps a (w * wordSize + j) (q .right))
     (λ b. ap (λ n. bit n j) (ex b) ∙ bit-lanes _ j h) (λ b. ap (λ n. bit n j) (ey b) ∙ bit-lanes _ j h)
-    ∙ sym (valueAt-step ps a (w * 64 + j) i e))
+    ∙ sym (valueAt-step ps a (w * wordSize + j) i e))
 
 module _ (ps : List Part) (letters : List ℕ) (w : ℕ) where
   -- one more part
-  evaluated-more : (i : ℕ) (v : List ℕ) → Earlier ps i → i < 256 → length v ≡ 256 * blockSize → Evaluated ps letters w i v
+  evaluated-more : (i : ℕ) (v : List ℕ) → Ready ps i → i < indexLimit → length v ≡ indexLimit * blockSize → Evaluated ps letters w i v
       → Evaluated ps letters w (suc i) (withPart (partAt ps i) (obligationLanes (numberOf ps i) w) letters i v)
   unfolding withPart partLane
   evaluated-more i v f s e known = record { value = λ n x h l. at n x l (eq-or-lt-of-le (le-of-suc-le-suc h)) }
@@ -113,17 +117,17 @@ module _ (ps : List Part) (letters : List ℕ) (w : ℕ) where
           rw p
           (getD-sets-same v (i * blockSize) (tabulate blockSize lane) x 0 (subst (λ m. x < m) (sym (length-tabulate blockSize lane)) l) inside
           ∙ getD-tabulate blockSize lane x 0 l
-          ∙ combine-lanes ps (getD letters x 0) w i _ _ f (λ b. known .value (q .left) x (f .left-earlier b) l)
-          (λ b. known .value (q .right) x (f .right-earlier b) l))
+          ∙ combine-lanes ps (getD letters x 0) w i _ _ f (λ b. known .value (q .left) x (f .left-ready b) l)
+          (λ b. known .value (q .right) x (f .right-ready b) l))
       at n x l (inr p) =
           getD-sets-other v (i * blockSize) (tabulate blockSize lane) (n * blockSize + x) 0 (λ k b d. omega (arith, length-tabulate blockSize lane))
           ∙ known .value n x p l
 
-pub evaluated : (codes letters : List ℕ) (w n : ℕ) (v : List ℕ) → Stored codes → n ≤ length codes → length v ≡ 256 * blockSize
+pub evaluated : (codes letters : List ℕ) (w n : ℕ) (v : List ℕ) → Stored codes → n ≤ length codes → length v ≡ indexLimit * blockSize
     → Evaluated (partsIn codes) letters w n (valuesTo (partsIn codes) letters w n v)
-unfolding valuesTo
+unfolding valuesTo AllReady
 evaluated codes letters w zero v s h l = record { value = λ i x b. absurd (omega arith) }
 evaluated codes letters w (suc n) v s h l =
     let ps = partsIn codes in
-    evaluated-more ps letters w n (valuesTo ps letters w n v) (s .formed n h) (omega (arith, s .few))
+    evaluated-more ps letters w n (valuesTo ps letters w n v) (s .ready n (subst (λ m. n < m) (sym (length-in codes)) h)) (omega (arith, s .few))
     (length-values ps letters w v n ∙ l) (evaluated codes letters w n v s (omega arith) l)

@@ -1,4 +1,4 @@
--- Words of 64 answers, and what `&`, `|` and `!` make of them.
+-- Words of answers, and what `&`, `|` and `!` make of them.
 -- Assumes nothing.
 use Prim.Native.Nat.{ℕ, zero, suc, _+_, _*_, _-_, _/_, _%_, _^_, _≤_, _<_}
 use native.Mathlib.Nat.{mod-lt, pow-suc, lt-of-le-of-lt, mul-add-mod-self-right}
@@ -11,7 +11,8 @@ use lib.Pow.{shr-shr}
 use lib.Dec.{eqb}
 use Rattle.formula.specs.declared.formula.Op.{Op}
 use Rattle.basics.specs.Bits.{bit}
-use Rattle.formula.specs.Entries.{combine, owed}
+use Rattle.basics.specs.Limits.{wordBits, wordSize}
+use Rattle.formula.specs.Values.{combine, owed}
 use Rattle.obligations.specs.Words.{lanes, allLanes, obligationLanes, combineLanes, owedLanes}
 use Rattle.basics.proofs.BitsLaws.{bit-low, bit-high, bit-zero, bit-mod, bit-table, table-lt, table-unique}
 
@@ -63,48 +64,48 @@ bit-not (suc n) x (suc j) h l =
 
 -- ---- words of answers
 
-pub bit-lanes : (f : ℕ → Bool) (j : ℕ) → j < 64 → bit (lanes f) j ≡ f j
+pub bit-lanes : (f : ℕ → Bool) (j : ℕ) → j < wordSize → bit (lanes f) j ≡ f j
 unfolding lanes
-bit-lanes f = bit-table 64 f
+bit-lanes f = bit-table wordSize f
 
-lanes-lt : (f : ℕ → Bool) → lanes f < 2 ^ 64
+lanes-lt : (f : ℕ → Bool) → lanes f < 2 ^ wordSize
 unfolding lanes
-lanes-lt f = table-lt 64 f
+lanes-lt f = table-lt wordSize f
 
-lanes-unique : (f : ℕ → Bool) (x : ℕ) → x < 2 ^ 64 → ((j : ℕ) → j < 64 → bit x j ≡ f j) → x ≡ lanes f
+lanes-unique : (f : ℕ → Bool) (x : ℕ) → x < 2 ^ wordSize → ((j : ℕ) → j < wordSize → bit x j ≡ f j) → x ≡ lanes f
 unfolding lanes
-lanes-unique f = table-unique 64 f
+lanes-unique f = table-unique wordSize f
 
-pub lanes-ext : (f g : ℕ → Bool) → ((j : ℕ) → j < 64 → f j ≡ g j) → lanes f ≡ lanes g
+pub lanes-ext : (f g : ℕ → Bool) → ((j : ℕ) → j < wordSize → f j ≡ g j) → lanes f ≡ lanes g
 lanes-ext f g e = lanes-unique g (lanes f) (lanes-lt f) (λ j h. bit-lanes f j h ∙ e j h)
 
--- the number x has 64 bits, and they are the answers of f
+-- the number x has a word's bits, and they are the answers of f
 pub record Carries (x : ℕ) (f : ℕ → Bool) : Type 0 where
-  pub small : x < 2 ^ 64
-  pub answers : (j : ℕ) → j < 64 → bit x j ≡ f j
+  pub small : x < 2 ^ wordSize
+  pub answers : (j : ℕ) → j < wordSize → bit x j ≡ f j
 
 pub carried : {x : ℕ} {f : ℕ → Bool} → Carries x f → x ≡ lanes f
 carried {x} {f} c = lanes-unique f x (c .small) (c .answers)
 
 -- a word carries its own bits
-pub own : {x : ℕ} → x < 2 ^ 64 → Carries x (bit x)
+pub own : {x : ℕ} → x < 2 ^ wordSize → Carries x (bit x)
 own h = record { small = h; answers = λ j l. refl }
 
 pub none : Carries 0 (λ j. false)
 none = record { small = omega arith; answers = λ j l. bit-zero j }
 
 module _ {x : ℕ} {f : ℕ → Bool} (c : Carries x f) where
-  pub nots : Carries (18446744073709551615 - x) (λ j. not (f j))
-  nots = record { small = omega arith; answers = λ j l. bit-not 64 x j (c .small) l ∙ ap not (c .answers j l) }
+  pub nots : Carries ((2 ^ wordSize - 1) - x) (λ j. not (f j))
+  nots = record { small = omega arith; answers = λ j l. bit-not wordSize x j (c .small) l ∙ ap not (c .answers j l) }
 
   module _ {y : ℕ} {g : ℕ → Bool} (d : Carries y g) where
     pub ands : Carries (bitAnd x y) (λ j. f j && g j)
     ands = record { small = lt-of-le-of-lt (and-le-l x y) (c .small); answers = λ j l. bit-and x y j ∙ ap₂ _&&_ (c .answers j l) (d .answers j l) }
 
     pub ors : Carries (bitOr x y) (λ j. f j || g j)
-    ors = record { small = or-lt 64 x y (c .small) (d .small); answers = λ j l. bit-or x y j ∙ ap₂ _||_ (c .answers j l) (d .answers j l) }
+    ors = record { small = or-lt wordSize x y (c .small) (d .small); answers = λ j l. bit-or x y j ∙ ap₂ _||_ (c .answers j l) (d .answers j l) }
 
-pub all : Carries 18446744073709551615 (λ j. true)
+pub all : Carries (2 ^ wordSize - 1) (λ j. true)
 all = nots none
 
 -- ---- obligations in a block of patterns
@@ -119,20 +120,20 @@ bit-above n w j k h l =
     ap (λ m. eqb (m % 2) 1)
     (ap (λ m. (w * 2 ^ n + j) / 2 ^ m) e ∙ sym (shr-shr (w * 2 ^ n + j) n (k - n)) ∙ ap (λ m. m / 2 ^ (k - n)) (digits-div w l))
 
--- below 6 an obligation is the same in every block
-pub obligation-low : (x k i w : ℕ) → k ≡ i → i < 6 → x ≡ lanes (λ j. bit j i) → x ≡ obligationLanes k w
+-- an obligation that a word has all values of is the same in every block
+pub obligation-low : (x k i w : ℕ) → k ≡ i → i < wordBits → x ≡ lanes (λ j. bit j i) → x ≡ obligationLanes k w
 unfolding obligationLanes
-obligation-low x k i w e h r = r ∙ rw e (lanes-ext (λ j. bit j i) (λ j. bit (w * 64 + j) i) (λ j l. sym (bit-below 6 w j i h)))
+obligation-low x k i w e h r = r ∙ rw e (lanes-ext (λ j. bit j i) (λ j. bit (w * wordSize + j) i) (λ j l. sym (bit-below wordBits w j i h)))
 
-pub not-low : (k : ℕ) → (k ≡ 0 → ⊥) → (k ≡ 1 → ⊥) → (k ≡ 2 → ⊥) → (k ≡ 3 → ⊥) → (k ≡ 4 → ⊥) → (k ≡ 5 → ⊥) → 6 ≤ k
+pub not-low : (k : ℕ) → (k ≡ 0 → ⊥) → (k ≡ 1 → ⊥) → (k ≡ 2 → ⊥) → (k ≡ 3 → ⊥) → (k ≡ 4 → ⊥) → (k ≡ 5 → ⊥) → wordBits ≤ k
 not-low k a b c d e f = omega arith
 
--- and from 6 on it has one answer for a whole block
-pub obligation-high : (x k w : ℕ) → 6 ≤ k → x ≡ allLanes (eqb (bitAnd (w / 2 ^ (k - 6)) 1) 1) → x ≡ obligationLanes k w
+-- and another has one answer for a whole block
+pub obligation-high : (x k w : ℕ) → wordBits ≤ k → x ≡ allLanes (eqb (bitAnd (w / 2 ^ (k - wordBits)) 1) 1) → x ≡ obligationLanes k w
 unfolding allLanes obligationLanes
 obligation-high x k w h r =
-    r ∙ ap (λ m. allLanes (eqb m 1)) (and-mask (w / 2 ^ (k - 6)) 1)
-    ∙ lanes-ext (λ j. bit w (k - 6)) (λ j. bit (w * 64 + j) k) (λ j l. sym (bit-above 6 w j k h l))
+    r ∙ ap (λ m. allLanes (eqb m 1)) (and-mask (w / 2 ^ (k - wordBits)) 1)
+    ∙ lanes-ext (λ j. bit w (k - wordBits)) (λ j. bit (w * wordSize + j) k) (λ j l. sym (bit-above wordBits w j k h l))
 
 -- ---- a part, lane by lane
 

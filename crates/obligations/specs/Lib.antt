@@ -1,4 +1,4 @@
--- Obligations of a formula's parts; patterns 64 at a time, and the values of all parts in memory; letters by number.
+-- Obligations of a formula's parts; patterns a word at a time, and the values of all parts in memory; letters by number.
 pub mod Obligation
 pub mod Words
 pub mod Values

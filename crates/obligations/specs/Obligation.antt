@@ -4,13 +4,13 @@
 -- Assumes nothing.
 use Prim.Native.Nat.{ℕ, zero, suc, _+_}
 use mathlib.Core.Bool.{Bool, true, false}
-use mathlib.Core.List.{List, [], _∷_, _++_, map}
+use mathlib.Core.List.{List, [], _∷_, _++_, map, foldr}
 use lib.ListN.{length}
 use Rattle.basics.specs.Bits.{bit, digit, fromBits}
-use Rattle.formula.specs.Semantics.{Trace, orAtEnd, holds}
+use Rattle.formula.specs.Semantics.{Trace}
 use Rattle.formula.specs.declared.parts.Part.{Part}
-use Rattle.formula.specs.Parts.{byteOf, isTemporal, partAt, lastOf, resultAt, formulaAt}
-use Rattle.formula.specs.Entries.{combine, owed}
+use Rattle.formula.specs.Parts.{byteOf, isTemporal, partAt, lastOf}
+use Rattle.formula.specs.Values.{valueWith, owedWith}
 
 -- part i is a temporal operator
 abbrev pub isOperator : List Part → ℕ → Bool
@@ -42,23 +42,16 @@ spots ps = spotsTo ps (length ps)
 
 -- the value of part i at a step with letter a, from a pattern p about the next step
 unfoldable pub valueAt : List Part → ℕ → ℕ → ℕ → Bool
-valueAt ps a p =
-    resultAt false (λ i x y. combine (partAt ps i .kind) (bit a (partAt ps i .left)) (bit p (numberOf ps i)) x y) ps
+valueAt ps a p = valueWith ps a (λ i. bit p (numberOf ps i))
 
 -- the obligation of part i about that step
 unfoldable pub owedAt : List Part → ℕ → ℕ → ℕ → Bool
-owedAt ps a p i = owed (partAt ps i .kind) (valueAt ps a p (partAt ps i .left)) (valueAt ps a p i)
+owedAt ps a p i = owedWith ps (valueAt ps a p) i
 
 -- the pattern about the present step that letter a makes of pattern p about the next step
 unfoldable pub back : List Part → ℕ → ℕ → ℕ
 back ps a p = fromBits (map (owedAt ps a p) (spots ps) ++ (valueAt ps a p (lastOf ps) ∷ []))
 
--- ---- what the bits mean
-
--- the obligation of part i that the steps π meet: 1 when a step is left and, there, what it asks is so
-unfoldable pub dueAt : List Part → Trace → ℕ → Bool
-dueAt ps π i = orAtEnd false (λ σ. owed (partAt ps i .kind) (holds (formulaAt ps (partAt ps i .left)) σ) (holds (formulaAt ps i) σ)) π
-
--- the pattern that the steps π meet
-unfoldable pub duePattern : List Part → Trace → ℕ
-duePattern ps π = fromBits (map (dueAt ps π) (spots ps) ++ (orAtEnd false (holds (formulaAt ps (lastOf ps))) π ∷ []))
+-- the pattern that the steps of a trace meet
+unfoldable pub patternOn : List Part → Trace → ℕ
+patternOn ps π = foldr (back ps) 0 π

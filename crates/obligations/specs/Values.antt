@@ -10,15 +10,16 @@ use Rattle.basics.specs.Limits.{operatorLimit}
 use Rattle.formula.specs.Limits.{partLimit}
 use Rattle.basics.specs.Lists.{tabulate}
 use Rattle.formula.specs.declared.parts.Part.{Part}
-use Rattle.formula.specs.Parts.{partAt, Earlier}
+use Rattle.formula.specs.Parts.{partAt, arity, AllReady}
 use Rattle.obligations.specs.Obligation.{numberOf, operatorsOf}
 use Rattle.obligations.specs.Words.{allLanes, obligationLanes, combineLanes}
 
 -- ---- the parts
 
--- numbers hold parts, each after its operands, and not too many
+-- numbers hold parts, each after what its value reads at the same step, with all operands among them, and not too many
 pub record Stored (codes : List ℕ) : Type 0 where
-  pub formed : (i : ℕ) → i < length codes → Earlier (partsIn codes) i
+  pub ready : AllReady (partsIn codes)
+  pub inside : (i : ℕ) → i < length codes → 1 ≤ arity (partAt (partsIn codes) i .kind) → partAt (partsIn codes) i .left < length codes
   pub some : 0 < length codes
   pub few : length codes ≤ partLimit
   pub operators : operatorsOf (partsIn codes) ≤ operatorLimit
@@ -27,7 +28,7 @@ pub record Stored (codes : List ℕ) : Type 0 where
 unfoldable pub numbersOf : List Part → List ℕ
 numbersOf ps = tabulate (length ps) (numberOf ps)
 
--- ---- the values of all parts, for a block of letters: entry i * 16 + x is part i's at letter x
+-- ---- the values of all parts, for a block of letters: entry i * blockSize + x is part i's at letter x
 
 -- letters that are evaluated together
 abbrev pub blockSize : ℕ

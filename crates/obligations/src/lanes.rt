@@ -1,7 +1,9 @@
-// Patterns 64 at a time: bit j of a word is for pattern j of a block.
+// Patterns a word at a time: bit j of a word is for pattern j of a block.
 ghost use mathlib.Core.Path.{_≡_};
 ghost use Prim.Native.Nat.{_<_};
+ghost use Rattle.basics.specs.Limits.{wordSize};
 ghost use Rattle.obligations.specs.Words.{allLanes, obligationLanes, combineLanes, owedLanes};
+use basics::WORD_BITS;
 use formula::Op;
 
 const ALL: u64 = 18446744073709551615;
@@ -13,9 +15,12 @@ pub(crate) fn all_lanes(b: bool) -> u64
     if b { ALL } else { 0 }
 }
 
-// Obligation k in the patterns of block w: below 6 the same in every block, from 6 on one answer for a whole block.
+// How many obligations a word has all values of.
+const LOW: u8 = WORD_BITS as u8;
+
+// Obligation k in the patterns of block w: a low one is the same in every block, another has one answer for a whole block.
 pub(crate) fn obligation_lanes(k: u8, w: usize) -> u64
-    requires { ⌜ k < 64 ⌝ }
+    requires { ⌜ k < wordSize ⌝ }
     ensures { λ r. ⌜ r ≡ obligationLanes k w ⌝ }
 {
     if k == 0 {
@@ -36,7 +41,7 @@ pub(crate) fn obligation_lanes(k: u8, w: usize) -> u64
     if k == 5 {
         return 18446744069414584320;
     }
-    all_lanes((w >> (k - 6)) & 1 == 1)
+    all_lanes((w >> (k - LOW)) & 1 == 1)
 }
 
 // The value of a part from the signal's value, its own obligation and its operands' values.

@@ -4,6 +4,7 @@ ghost use mathlib.Core.List.{_++_};
 ghost use Prim.Native.Nat.{_≤_};
 ghost use lib.ListN.{length, drop};
 ghost use Rattle.formula.specs.Codes.{partsIn};
+ghost use Rattle.basics.specs.Limits.{indexLimit};
 ghost use Rattle.obligations.specs.Obligation.{operatorsOf, spots as spotsOf};
 ghost use Rattle.obligations.specs.Values.{numbersOf};
 use formula::is_temporal_at;
@@ -11,7 +12,7 @@ use formula::is_temporal_at;
 // Writes for each part how many operators stand before it, and for each operator which part it is.
 pub fn number_parts(parts: &[u32], numbers: &mut [u8], spots: &mut [u8])
     requires { ⌜ length (now parts) ≤ length (now numbers) ⌝ }
-    requires { ⌜ length (now numbers) ≤ 256 ⌝ }
+    requires { ⌜ length (now numbers) ≤ indexLimit ⌝ }
     requires { ⌜ operatorsOf (partsIn (now parts)) ≤ length (now spots) ⌝ }
     ensures { λ _. ⌜ now (numbers .exit) ≡ numbersOf (partsIn (now (parts .entry))) ++ drop (length (now (parts .entry))) (now (numbers .entry)) ⌝ }
     ensures { λ _. ⌜ now (spots .exit) ≡ spotsOf (partsIn (now (parts .entry))) ++ drop (operatorsOf (partsIn (now (parts .entry)))) (now (spots .entry)) ⌝ }

@@ -1,8 +1,9 @@
-// The values of all parts for a block of letters, 64 patterns at a time.
+// The values of all parts for a block of letters, a word of patterns at a time.
 ghost use mathlib.Core.Path.{_≡_};
 ghost use Prim.Native.Nat.{_<_, _≤_, _*_};
 ghost use lib.ListN.{length, take};
 ghost use Rattle.formula.specs.Codes.{partsIn};
+ghost use Rattle.basics.specs.Limits.{indexLimit};
 ghost use Rattle.obligations.specs.Values.{Stored, numbersOf, blockSize, withPart, valuesTo};
 use crate::lanes::all_lanes;
 use crate::lanes::combined_lanes;
@@ -17,8 +18,8 @@ pub const BLOCK: usize = 16;
 // Writes the words of part i, from those of its operands; o is its obligation.
 fn put_part(part: Part, o: u64, letters: &[u16], i: usize, v: &mut [u64])
     requires { ⌜ length (now letters) ≡ blockSize ⌝ }
-    requires { ⌜ i < 256 ⌝ }
-    requires { ⌜ length (now v) ≡ 256 * blockSize ⌝ }
+    requires { ⌜ i < indexLimit ⌝ }
+    requires { ⌜ length (now v) ≡ indexLimit * blockSize ⌝ }
     ensures { λ _. ⌜ now (v .exit) ≡ withPart part o (now (letters .entry)) i (now (v .entry)) ⌝ }
 {
     let op = part.kind;
@@ -46,7 +47,7 @@ pub fn put_values(parts: &[u32], numbers: &[u8], letters: &[u16], w: usize, n: u
     requires { ⌜ take (length (now parts)) (now numbers) ≡ numbersOf (partsIn (now parts)) ⌝ }
     requires { ⌜ length (now letters) ≡ blockSize ⌝ }
     requires { ⌜ n ≤ length (now parts) ⌝ }
-    requires { ⌜ length (now v) ≡ 256 * blockSize ⌝ }
+    requires { ⌜ length (now v) ≡ indexLimit * blockSize ⌝ }
     ensures { λ _. ⌜ now (v .exit) ≡ valuesTo (partsIn (now (parts .entry))) (now (letters .entry)) w n (now (v .entry)) ⌝ }
 {
     if n == 0 {

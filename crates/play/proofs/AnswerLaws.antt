@@ -3,32 +3,30 @@
 use Prim.Native.Nat.{ℕ, _+_, _*_, _/_, _%_, _≤_, _<_}
 use native.Mathlib.Nat.{mul-comm}
 use native.Mathlib.Omega.{arith}
-use mathlib.Core.Path.{_≡_, refl, sym, ap, ap₂, _∙_, subst}
+use mathlib.Core.Path.{_≡_, refl, sym, ap₂, subst}
 use mathlib.Core.Logic.{_↔_, _⊎_, inl, inr}
 use mathlib.Core.Bool.{Bool, true, false, cond}
-use mathlib.Core.List.{List, [], _∷_, flatMap}
+use mathlib.Core.List.{List, flatMap}
 use lib.Dec.{eqb, ltb}
-use lib.ListN.{length, getD}
+use lib.ListN.{length}
 use lib.Arith.{digits-lt, digits-div, digits-mod}
 use borrow.Author.Tests.{ltb-true, ltb-false, eqb-true, eq-eqb}
 use Rattle.basics.specs.Says.{Says}
-use Rattle.basics.proofs.ListsLaws.{length-tabulate}
 use Rattle.basics.specs.Member.{_∈_}
-use Rattle.basics.specs.Lists.{below}
-use Rattle.basics.specs.Reach.{closed, indexIn, Reached, reached-first, reached-step}
-use Rattle.basics.proofs.MemberLaws.{in-tabulate, in-below, getD-in}
-use Rattle.basics.proofs.ReachLaws.{closed-lists, index-right}
-use Rattle.play.specs.Limits.{sideLimit, stopCell}
+use Rattle.basics.specs.Reach.{closed, Reached, reached-first, reached-step}
+use Rattle.basics.proofs.MemberLaws.{in-tabulate}
+use Rattle.basics.proofs.ReachLaws.{closed-lists}
+use Rattle.play.specs.Limits.{sideLimit}
+use Rattle.play.specs.Cells.{stopCell}
 use Rattle.play.specs.Game.{Game}
 use Rattle.play.specs.Rank.{Arena, best}
+use Rattle.play.specs.History.{Knows}
 use Rattle.play.specs.Table.{Laid, listOf, rows, rowOf, tableStrategy, tableCells}
-use Rattle.play.specs.Answer.{moves, positions, startRank, Verdict, verdictOf, numbered, Right}
+use Rattle.play.specs.Answer.{moves, positions, startRank, Verdict, verdictOf, Right}
 use Rattle.basics.proofs.BoundedLaws.{first-passes, first-least}
-use Rattle.play.proofs.Order.{setOrder}
 use Rattle.play.proofs.RankLaws.{In, HasRank}
-use Rattle.play.proofs.Plans.{History, letters, Hidden, Possible, know}
 use Rattle.play.proofs.FiniteArena.{Closed}
-use Rattle.play.proofs.Optimality.{set, answer, descends, Knows, solved as solve, no-rank-unrealizable, verdict}
+use Rattle.play.proofs.Optimality.{set, answer, descends, solved as solve, no-rank-unrealizable, verdict}
 use Rattle.play.proofs.LeastRanks.{takes-smallest}
 use Rattle.play.proofs.SameStrategy.{optimal-agree}
 use Rattle.play.proofs.RankedRows.{rows-listed, rows-ranked, rows-le, rank-lt-rows}
@@ -107,57 +105,26 @@ module _ (G : Game) (some-observation : 0 < G .observations) (some-hidden : 0 < 
           none (inl l) = absurd (omega (arith, ltb-false r n e))
           none (inr q) = q
 
--- ---- positions by number
+-- ---- positions that are counted
 
 module _ (A : Arena) (same : A .K → A .K → Bool) (says : (a b : A .K) → Says (same a b) (a ≡ b)) (choices observations limit : ℕ)
     (all : List (A .K)) (counted : positions A same choices observations limit ≡ closed all) where
   abbrev exact : (x : A .K) → (x ∈ all) ↔ Reached (moves A same choices observations) (A .start) x
   exact = closed-lists same says (moves A same choices observations) (A .start) limit all counted .0 .exact
 
-  abbrev N : Arena
-  N = numbered A same all
+  pub start-counted : A .start ∈ all
+  start-counted = exact (A .start) .1 reached-first
 
-  -- the position that a number stands for
-  abbrev at : ℕ → A .K
-  at i = getD all i (A .start)
+  pub move-counted : (k : A .K) → k ∈ all → (c : ℕ) → c < choices → (s : ℕ) → s < observations → A .move k c s ∈ all
+  move-counted k m c cb s sb = exact (A .move k c s) .1 (reached-step (exact k .0 m) (moves-cover A same choices observations k c s cb sb))
 
-  pub start-number : (N .start < length all) × (at (N .start) ≡ A .start)
-  start-number = index-right same says (A .start) all (A .start) (exact (A .start) .1 reached-first)
-
-  pub move-number : (i c s : ℕ) → i < length all → c < choices → s < observations → (N .move i c s < length all) × (at (N .move i c s) ≡ A .move (at i) c s)
-  move-number i c s h cb sb =
-      index-right same says (A .move (at i) c s) all (A .start)
-      (exact (A .move (at i) c s) .1 (reached-step (exact (at i) .0 (getD-in all i (A .start) h)) (moves-cover A same choices observations (at i) c s cb sb)))
-
-  know-number : (h : History) → Possible choices observations h → (i : ℕ) → i < length all → at (know N i h) ≡ know A (at i) h
-  know-number [] v i b = refl
-  know-number (m ∷ h) v i b =
-      let (b′, e) = move-number i (m .0) (m .1) b (v .0) (v .1) in
-      know-number h (v .2) (N .move i (m .0) (m .1)) b′ ∙ ap (λ k. know A k h) e
-
-  numbers-closed : (some-observation : 0 < observations) → Closed (setOrder choices observations) N some-observation (below (length all))
-  numbers-closed some i m f c cb s sb = in-below (length all) _ .1 (move-number i c s (in-below (length all) i .0 m) cb sb .0)
-
-module _ (G : Game) (A : Arena) (same : A .K → A .K → Bool) (says : (a b : A .K) → Says (same a b) (a ≡ b)) (limit : ℕ)
-    (all : List (A .K)) (counted : positions A same (G .choices) (G .observations) limit ≡ closed all) (knows : Knows G A) where
-  abbrev first : (indexIn same (A .start) all < length all) × (getD all (indexIn same (A .start) all) (A .start) ≡ A .start)
-  first = start-number A same says (G .choices) (G .observations) limit all counted
-
-  numbered-knows : Knows G (numbered A same all)
-  numbered-knows =
-      record {
-        starts = ap (A .final) (first .1) ∙ knows .starts;
-        law = λ m h v.
-            subst (λ k. (A .final k ≡ true) ↔ ((x : ℕ → ℕ) → Hidden G x → G .isTrue (letters G (m ∷ h) x) ≡ true))
-            (sym (know-number A same says (G .choices) (G .observations) limit all counted (m ∷ h) v _ (first .0) ∙ ap (λ k. know A k (m ∷ h)) (first .1)))
-            (knows .law m h v);
-      }
-
-  -- what is answered is right
-  pub answer-right : 0 < G .observations → 0 < G .hiddens → G .choices < stopCell → G .observations ≤ sideLimit
-      → Right limit G (verdictOf (numbered A same all) eqb (G .choices) (G .observations) (length all))
-  answer-right some-observation some-hidden few-choices few-observations =
-      verdict-right G some-observation some-hidden few-choices few-observations (numbered A same all) numbered-knows eqb eqb-says (below (length all))
-      (numbers-closed A same says (G .choices) (G .observations) limit all counted some-observation) (in-below (length all) _ .1 (first .0))
-      (length all) (length-tabulate (length all) (λ k. k)) limit
-      (closed-lists same says (moves A same (G .choices) (G .observations)) (A .start) limit all counted .1)
+-- what is answered is right
+pub answer-right : (G : Game) (A : Arena) (same : A .K → A .K → Bool) (says : (a b : A .K) → Says (same a b) (a ≡ b)) (limit : ℕ)
+    (all : List (A .K)) → positions A same (G .choices) (G .observations) limit ≡ closed all → Knows G A
+    → 0 < G .observations → 0 < G .hiddens → G .choices < stopCell → G .observations ≤ sideLimit
+    → Right limit G (verdictOf A same (G .choices) (G .observations) (length all))
+answer-right G A same says limit all counted knows some-observation some-hidden few-choices few-observations =
+    verdict-right G some-observation some-hidden few-choices few-observations A knows same says all
+    (λ k m f. move-counted A same says (G .choices) (G .observations) limit all counted k m)
+    (start-counted A same says (G .choices) (G .observations) limit all counted) (length all) refl limit
+    (closed-lists same says (moves A same (G .choices) (G .observations)) (A .start) limit all counted .1)

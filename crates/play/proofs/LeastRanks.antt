@@ -7,31 +7,21 @@ use mathlib.Core.Path.{_≡_, sym, ap, subst}
 use mathlib.Core.Logic.{_↔_, inl, inr}
 use mathlib.Core.Bool.{Bool, true, false}
 use Rattle.basics.specs.Bounded.{all, firstThat}
-use Rattle.play.specs.Rank.{Arena, setFirst, Rank, choiceWithin, bestChoice}
+use Rattle.play.specs.Rank.{Arena, setFirst, RankOf, LeadsBelow, HasChoice, choiceWithin, bestChoice}
 use Rattle.basics.proofs.BoundedLaws.{any-at, any-of, all-at, all-of, first-of, first-least}
 use Rattle.basics.proofs.Booleans.{test, clash, or-cases, or-intro-right}
 use Rattle.play.proofs.Order.{setOrder}
 use Rattle.play.proofs.RankLaws.{In, within-le, rank-of, rank-searched}
 
 module _ (A : Arena) (choices observations : ℕ) (some-observation : 0 < observations) where
-  abbrev pub RankOf : A .K → ℕ → Type 0
-  RankOf k r = Rank A (setFirst choices observations) k r
-
-  -- after the choice every observation leads to a rank below r
-  abbrev pub LeadsBelow : A .K → ℕ → ℕ → Type 0
-  LeadsBelow k r c = (s : ℕ) → s < observations → (q : ℕ) × (q < r) × RankOf (A .move k c s) q
-
-  abbrev pub HasChoice : A .K → ℕ → Type 0
-  HasChoice k r = (c : ℕ) × (c < choices) × LeadsBelow k r c
-
   -- a stop position has rank 0
-  pub stop-rank : (k : A .K) → (A .final k ≡ true) ↔ RankOf k 0
+  pub stop-rank : (k : A .K) → (A .final k ≡ true) ↔ RankOf A choices observations k 0
   stop-rank k = (λ t. (t, λ q h. absurd (not-suc-le-zero h)), λ a. a .0)
 
   abbrev works : ℕ → A .K → ℕ → Bool
   works r k c = all observations (λ s. In (setOrder choices observations) A r (A .move k c s))
 
-  works-iff : (r : ℕ) (k : A .K) (c : ℕ) → (works r k c ≡ true) ↔ LeadsBelow k (suc r) c
+  works-iff : (r : ℕ) (k : A .K) (c : ℕ) → (works r k c ≡ true) ↔ LeadsBelow A choices observations k (suc r) c
   works-iff r k c = (
     λ t s h.
         let (q, b, a) = rank-of (setOrder choices observations) A r (A .move k c s)
@@ -42,7 +32,7 @@ module _ (A : Arena) (choices observations : ℕ) (some-observation : 0 < observ
         within-le (setOrder choices observations) A q r (A .move k c s) (le-of-suc-le-suc b) (a .0)),
   )
 
-  choice-iff : (k : A .K) → A .final k ≡ false → (r : ℕ) → (In (setOrder choices observations) A r k ≡ true) ↔ HasChoice k r
+  choice-iff : (k : A .K) → A .final k ≡ false → (r : ℕ) → (In (setOrder choices observations) A r k ≡ true) ↔ HasChoice A choices observations k r
   choice-iff k f zero = (λ t. clash t f, λ e. let (q, b, a) = e .2 0 some-observation in absurd (not-suc-le-zero b))
   choice-iff k f (suc r) = (
     λ t.
@@ -55,7 +45,7 @@ module _ (A : Arena) (choices observations : ℕ) (some-observation : 0 < observ
 
   -- another has rank r, the smallest with a choice after which every observation leads to a rank below r
   pub other-rank : (k : A .K) → A .final k ≡ false → (r : ℕ)
-      → RankOf k r ↔ (HasChoice k r × ((q : ℕ) → q < r → HasChoice k q → ⊥))
+      → RankOf A choices observations k r ↔ (HasChoice A choices observations k r × ((q : ℕ) → q < r → HasChoice A choices observations k q → ⊥))
   other-rank k f r = (
     λ a. (choice-iff k f r .0 (a .0), λ q h c. clash (choice-iff k f q .1 c) (a .1 q h)),
     λ e. (
@@ -65,13 +55,14 @@ module _ (A : Arena) (choices observations : ℕ) (some-observation : 0 < observ
   )
 
   -- it takes the smallest such choice
-  pub takes-smallest : (n : ℕ) (k : A .K) (r : ℕ) → r < n → A .final k ≡ false → RankOf k r
+  pub takes-smallest : (n : ℕ) (k : A .K) (r : ℕ) → r < n → A .final k ≡ false → RankOf A choices observations k r
       → let c = bestChoice A choices observations n k in
-      (c < choices) × LeadsBelow k r c × ((d : ℕ) → d < c → LeadsBelow k r d → ⊥)
+      (c < choices) × LeadsBelow A choices observations k r c × ((d : ℕ) → d < c → LeadsBelow A choices observations k r d → ⊥)
   takes-smallest n k zero h f a = clash (a .0) f
   takes-smallest n k (suc r) h f a =
       let (c, b, l) = other-rank k f (suc r) .0 a .0 in
       let (b′, w) = first-of (works r k) choices c b (works-iff r k c .1 l) in
-      subst (λ (c : ℕ). (c < choices) × LeadsBelow k (suc r) c × ((d : ℕ) → d < c → LeadsBelow k (suc r) d → ⊥))
+      subst (λ (c : ℕ). (c < choices) × LeadsBelow A choices observations k (suc r) c
+      × ((d : ℕ) → d < c → LeadsBelow A choices observations k (suc r) d → ⊥))
       (sym (ap (λ (q : ℕ). choiceWithin A choices observations (pred q) k) (rank-searched (setOrder choices observations) A n (suc r) k h a)))
       (b′, works-iff r k (firstThat (works r k) choices) .0 w, λ d u l. clash (works-iff r k d .1 l) (first-least (works r k) choices d u))

@@ -15,8 +15,8 @@ pub mod BeliefsKnow
 -- the table
 pub mod SameStrategy
 pub mod RankedRows
+pub mod CellsLaws
 pub mod TableLaws
 -- the answer; positions by another name have the same
 pub mod AnswerLaws
-pub mod SameArena
-pub mod SameVerdict
+pub mod SameAnswer

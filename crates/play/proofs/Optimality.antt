@@ -3,7 +3,7 @@
 use Prim.Native.Nat.{ℕ, zero, suc, _≤_, _<_, pred}
 use native.Mathlib.Omega.{arith}
 use mathlib.Core.Path.{_≡_, refl, sym, ap, _∙_, subst, fun-ext}
-use mathlib.Core.Logic.{_↔_, _⊎_, inl, inr}
+use mathlib.Core.Logic.{_⊎_, inl, inr}
 use mathlib.Core.Bool.{Bool, true, false, not, false≢true}
 use mathlib.Core.Option.{Option, none, some, Option·none-ne-some}
 use mathlib.Core.List.{List, [], _∷_, List·Memᴰ}
@@ -13,11 +13,12 @@ use Rattle.basics.specs.Lists.{tabulate}
 use Rattle.basics.specs.Bounded.{all, firstThat}
 use Rattle.play.specs.Game.{Game, Play, seen, Decision, choose, stop, AllBelow, Strategy, IsStrategy, GoesOn, Steps, choiceOf, run, Wins, WorstCase, Optimal, Unrealizable}
 use Rattle.play.specs.Rank.{Arena, setFirst, rankBelow, choiceWithin, bestChoice, best}
+use Rattle.play.specs.History.{Knows}
 use Rattle.basics.proofs.BoundedLaws.{any-at, all-at, first-of, none-first, first-least, first-passes}
 use Rattle.basics.proofs.Booleans.{test, clash}
 use Rattle.play.proofs.Order.{Order, setOrder}
 use Rattle.play.proofs.RankLaws.{In, HasRank, goes-on, rank-searched}
-use Rattle.play.proofs.Plans.{Plan, respond, Goes, stuck, History, PlanSteps, planRun, letters, Hidden, Possible, WinsFor, know, Tracks, Legal, steps-unique}
+use Rattle.play.proofs.Plans.{Plan, respond, Goes, stuck, PlanSteps, planRun, WinsFor, Tracks, Legal, steps-unique}
 use Rattle.play.proofs.UpperBound.{follow, Descends}
 use Rattle.play.proofs.BestPlan.{BestPlan, plan-least, plan-best}
 use Rattle.play.proofs.TrapsDefeat.{Trap, no-win}
@@ -134,13 +135,7 @@ module _ (G : Game) where
       go (zero, st, t) = stuck (ap lift (st .0)) (λ s. is .opens .0, ap lift (is .opens .1))
       go (suc n, st, t) = (suc n, plan-steps σ p (suc n) st, subst TrueRun (sym (plan-run σ p (suc n))) t)
 
-  -- THE ONE LAW that positions must meet: after one step at least, a position stops exactly if the run is true whatever was hidden
-  pub record Knows (A : Arena) : Type 0 where
-    pub starts : A .final (A .start) ≡ false
-    pub law : (m : ℕ × ℕ) (h : History) → Possible (G .choices) (G .observations) (m ∷ h)
-        → (A .final (know A (A .start) (m ∷ h)) ≡ true) ↔ ((x : ℕ → ℕ) → Hidden G x → G .isTrue (letters G (m ∷ h) x) ≡ true)
-
-  module _ (some-observation : 0 < G .observations) (some-hidden : 0 < G .hiddens) (A : Arena) (knows : Knows A) where
+  module _ (some-observation : 0 < G .observations) (some-hidden : 0 < G .hiddens) (A : Arena) (knows : Knows G A) where
     pub tracks : Tracks G A (A .start) TrueRun
     tracks [] v = (λ t. clash t (knows .starts), λ f. absurd (false≢true (f (λ i. 0) (λ i. some-hidden))))
     tracks (m ∷ h) v = knows .law m h v

@@ -2,7 +2,7 @@
 -- allowed answer is right at every observation. All facts on ranks and plays are shown over it.
 -- Assumes nothing.
 use Prim.Native.Nat.{ℕ, _<_}
-use mathlib.Core.Path.{_≡_, refl, sym, subst}
+use mathlib.Core.Path.{_≡_, refl, sym, _∙_, subst}
 use mathlib.Core.Bool.{Bool, true, false}
 use mathlib.Core.Logic.{inl, inr}
 use Rattle.basics.specs.Bounded.{all}
@@ -25,6 +25,18 @@ module _ {choices observations : ℕ} (O : Order choices observations) where
 
   pub can-mono : (ok ok′ : ℕ → ℕ → Bool) → ((c s : ℕ) → ok c s ≡ true → ok′ c s ≡ true) → O .can ok ≡ true → O .can ok′ ≡ true
   can-mono ok ok′ up t = let (g, a, right) = O .answer ok t in can-of ok′ g a (λ s h. up (g s) s (right s h))
+
+  -- the test looks at choices and observations that can occur alone
+  pub can-ext : (ok ok′ : ℕ → ℕ → Bool) → ((c s : ℕ) → c < choices → s < observations → ok c s ≡ ok′ c s) → O .can ok ≡ O .can ok′
+  can-ext ok ok′ e =
+      elim (test (O .can ok)) [
+        | inl t ↦ let (g, a, right) = O .answer ok t in t ∙ sym (can-of ok′ g a (λ s h. sym (e (g s) s (O .below g a s h) h) ∙ right s h))
+        | inr f ↦
+            elim (test (O .can ok′)) [
+              | inl t ↦ let (g, a, right) = O .answer ok′ t in clash (can-of ok g a (λ s h. e (g s) s (O .below g a s h) h ∙ right s h)) f
+              | inr f′ ↦ f ∙ sym f′
+            ]
+      ]
 
 abbrev pub setOrder : (choices observations : ℕ) → Order choices observations
 setOrder choices observations =

@@ -13,6 +13,7 @@ use mathlib.Core.List.{List, [], _∷_}
 use Rattle.basics.specs.Lists.{tabulate}
 use Rattle.play.specs.Game.{Game, Reply, Play, seen, AllBelow}
 use Rattle.play.specs.Rank.{Arena}
+use Rattle.play.specs.History.{History, Possible, know, Hidden, letters}
 use Rattle.play.proofs.Order.{Order}
 
 -- ---- plans: strategies that answer each list of past observations by a choice for every observation of the step, or stop
@@ -33,31 +34,6 @@ module _ (G : Game) where
 
   abbrev pub planRun : Plan → Play G → ℕ → List ℕ
   planRun σ p n = tabulate n (λ i. G .letter (respond (σ (seen p i)) ((p i) .observation)) ((p i) .observation) ((p i) .hidden))
-
--- ---- histories: the choice and the observation of each step so far, oldest first
-
-abbrev pub History : Type 0
-History = List (ℕ × ℕ)
-
-module _ (G : Game) where
-  -- hidden values, one a step
-  abbrev pub Hidden : (ℕ → ℕ) → Type 0
-  Hidden x = (i : ℕ) → x i < G .hiddens
-
-  -- the letters that a history and hidden values make
-  abbrev pub letters : History → (ℕ → ℕ) → List ℕ
-  letters [] x = []
-  letters (m ∷ h) x = G .letter (m .0) (m .1) (x 0) ∷ letters h (λ i. x (suc i))
-
--- its choices are choices and its observations observations
-abbrev pub Possible : (choices observations : ℕ) → History → Type 0
-Possible choices observations [] = Unit {0}
-Possible choices observations (m ∷ h) = (m .0 < choices) × (m .1 < observations) × Possible choices observations h
-
--- the position after a history
-abbrev pub know : (A : Arena) → A .K → History → A .K
-know A k [] = k
-know A k (m ∷ h) = know A (A .move k (m .0) (m .1)) h
 
 -- ---- plays step by step
 

@@ -4,16 +4,16 @@ use Prim.Native.Nat.{ℕ, zero, suc, _≤_, _<_}
 use native.Mathlib.Omega.{arith}
 use mathlib.Core.Path.{_≡_, refl, ap, subst}
 use mathlib.Core.Logic.{inl, inr}
-use mathlib.Core.Bool.{Bool, true, false}
-use mathlib.Core.List.{List, [], List·Memᴰ·not-nil}
+use mathlib.Core.Bool.{Bool, false}
+use mathlib.Core.List.{List, List·Memᴰ·not-nil}
 use lib.ListN.{length, getD}
-use Rattle.basics.specs.Lists.{tabulate}
 use Rattle.basics.specs.Says.{Says}
 use Rattle.basics.specs.Member.{_∈_}
 use Rattle.basics.specs.Reach.{Listing, closed, over, indexIn, reachable, Reached, reached-first, reached-step}
 use Rattle.basics.proofs.MemberLaws.{in-tabulate, getD-in, distinct-length-le}
 use Rattle.basics.proofs.ReachLaws.{closed-lists, over-iff, index-right, closed-begins}
 use Rattle.play.specs.Rank.{Arena}
+use Rattle.play.specs.Table.{followersBy}
 use Rattle.basics.proofs.Booleans.{test, clash}
 use Rattle.play.proofs.Order.{Order}
 use Rattle.play.proofs.RankLaws.{HasRank, rank-of, unstopped}
@@ -25,10 +25,6 @@ pub reached-all : {K : Type 0} {steps : K → List K} {first : K} (P : K → Typ
     → {x : K} → Reached steps first x → P x
 reached-all P p s reached-first = p
 reached-all P p s (reached-step {x = x} {y = y} r m) = s x y (reached-all P p s r) m
-
--- the positions that follow one, observations upward, by the answer given
-abbrev pub followersBy : (A : Arena) → (A .K → ℕ → ℕ) → ℕ → A .K → List (A .K)
-followersBy A answer observations k = elim (A .final k) [ true ↦ [] | false ↦ tabulate observations (λ s. A .move k (answer k s) s) ]
 
 module _ (A : Arena) (answer : A .K → ℕ → ℕ) (observations : ℕ) (k : A .K) where
   abbrev to : ℕ → A .K
@@ -67,26 +63,38 @@ module _ (A : Arena) (same : A .K → A .K → Bool) (says : (a b : A .K) → Sa
   next-place i h f s b =
       index-right same says (A .move (row i) (answer (row i) s) s) rows (A .start) (next-in (row i) (getD-in rows i (A .start) h) f s b)
 
+-- positions that are met, and ranked below n; `Met` is kept by moves from positions that are not final
+module _ {choices observations : ℕ} (O : Order choices observations) (A : Arena) (Met : A .K → Type 0)
+    (met-next : (k : A .K) → Met k → A .final k ≡ false → (c : ℕ) → c < choices → (s : ℕ) → s < observations → Met (A .move k c s))
+    (n : ℕ) (answer : A .K → ℕ → ℕ) (down : Descends O A answer n) where
+  abbrev pub MetRanked : A .K → Type 0
+  MetRanked k = Met k × (q : ℕ) × (q < n) × HasRank O A k q
+
+  -- answers are choices, and lead to such positions
+  pub ranked-answer : (k : A .K) → MetRanked k → A .final k ≡ false → (s : ℕ) → s < observations
+      → (answer k s < choices) × MetRanked (A .move k (answer k s) s)
+  ranked-answer k (m, zero, b, a) f s sb = clash (a .0) f
+  ranked-answer k (m, suc q, b, a) f s sb =
+      let (al, right) = down k q b a in
+      let (q′, h, a′) = rank-of O A q (A .move k (answer k s) s) (right s sb) in
+      let cb = O .below (answer k) al s sb in
+      (cb, (met-next k m f (answer k s) cb s sb, q′, omega arith, a′))
+
 module _ {choices observations : ℕ} (O : Order choices observations) (A : Arena) (same : A .K → A .K → Bool) (says : (a b : A .K) → Says (same a b) (a ≡ b))
     (some-observation : 0 < observations) (all : List (A .K)) (closed-all : Closed O A some-observation all) (start-in : A .start ∈ all)
     (n : ℕ) (fits : length all ≤ n) (answer : A .K → ℕ → ℕ) (down : Descends O A answer n)
     (r : ℕ) (small : r < n) (start-rank : HasRank O A (A .start) r) where
   -- a position that is counted and ranked
   abbrev pub Ranked : A .K → Type 0
-  Ranked k = (k ∈ all) × (q : ℕ) × (q < n) × HasRank O A k q
+  Ranked = MetRanked O A (λ k. k ∈ all) closed-all n answer down
 
   abbrev steps : A .K → List (A .K)
   steps = followersBy A answer observations
 
   pub ranked-next : (k j : A .K) → Ranked k → j ∈ steps k → Ranked j
-  ranked-next k j (m, q, b, a) u = let (f, s, sb, e) = followers-mem A answer observations k j u in on q b a f s sb e
-    where
-      on : (q : ℕ) → q < n → HasRank O A k q → A .final k ≡ false → (s : ℕ) → s < observations → A .move k (answer k s) s ≡ j → Ranked j
-      on zero b a f s sb e = clash (a .0) f
-      on (suc q) b a f s sb e =
-          let (al, right) = down k q b a in
-          let (q′, h, a′) = rank-of O A q (A .move k (answer k s) s) (right s sb) in
-          subst Ranked e (closed-all k m f (answer k s) (O .below (answer k) al s sb) s sb, q′, omega arith, a′)
+  ranked-next k j p u =
+      let (f, s, sb, e) = followers-mem A answer observations k j u in
+      subst Ranked e (ranked-answer O A (λ k. k ∈ all) closed-all n answer down k p f s sb .1)
 
   ranked : {k : A .K} → Reached steps (A .start) k → Ranked k
   ranked = reached-all Ranked (start-in, r, small, start-rank) ranked-next

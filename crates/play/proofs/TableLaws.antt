@@ -1,73 +1,30 @@
 -- A table read as a strategy is the strategy whose rows it holds.
 -- Assumes nothing.
-use Prim.Native.Nat.{ℕ, zero, suc, _+_, _≤_, _<_}
+use Prim.Native.Nat.{ℕ, _≤_, _<_}
 use native.Mathlib.Omega.{arith}
-use mathlib.Core.Path.{_≡_, refl, sym, ap, _∙_, subst}
-use mathlib.Core.Logic.{_⊎_, inl, inr}
-use mathlib.Core.Bool.{Bool, true, false, cond}
+use mathlib.Core.Path.{_≡_, sym, ap, _∙_, subst}
+use mathlib.Core.Logic.{inl, inr}
+use mathlib.Core.Bool.{Bool, true, false}
 use mathlib.Core.List.{List, [], _∷_, flatMap}
-use lib.Dec.{eqb, ltb}
+use lib.Dec.{eqb}
 use lib.ListN.{length, getD}
-use borrow.Author.Tests.{lt-ltb, le-ltb, ltb-true, eqb-true}
-use Rattle.basics.proofs.ListsLaws.{getD-tabulate, tabulate-ext, getD-zeros}
+use borrow.Author.Tests.{eqb-true}
 use Rattle.basics.specs.Says.{Says}
 use Rattle.basics.specs.Member.{_∈_}
 use Rattle.basics.specs.Reach.{closed, indexIn, reachable}
 use Rattle.basics.proofs.EqualRows.{length-rows, getD-rows}
 use Rattle.basics.proofs.MemberLaws.{getD-in}
-use Rattle.play.specs.Limits.{sideLimit, rowSize, stopCell}
+use Rattle.play.specs.Limits.{sideLimit}
+use Rattle.play.specs.Cells.{choiceAt, nextAt, rowSize, stopCell, cell, firstCell, isStop, nextCell, stopRow, choiceRow}
 use Rattle.play.specs.Game.{choose, AllBelow}
 use Rattle.play.specs.Rank.{Arena, bestChoice, best}
-use Rattle.play.specs.Table.{cell, isStop, readFrom, tableStrategy, Laid, stopRow, choiceRow, listOf, followers, rowOf, tableCells}
+use Rattle.play.specs.Table.{readFrom, tableStrategy, Laid, listOf, followers, rowOf, tableCells}
 use Rattle.basics.proofs.Booleans.{test}
 use Rattle.basics.proofs.BoundedLaws.{first-le}
 use Rattle.play.proofs.RankedRows.{some-row, first-row, next-place}
+use Rattle.play.proofs.CellsLaws.{stop-length, stop-first, stop-next, choice-length, choice-first, choice-next, choice-unused}
 
 -- ---- one row
-
--- where the table stops
-pub stop-length : length stopRow ≡ rowSize
-unfolding stopRow
-stop-length = refl
-
-pub stop-first : getD stopRow 0 0 ≡ stopCell
-unfolding stopRow
-stop-first = refl
-
-pub stop-at : (s : ℕ) → 0 < s → getD stopRow s 0 ≡ 0
-unfolding stopRow
-stop-at zero h = absurd (omega arith)
-stop-at (suc s) h = getD-zeros sideLimit s
-
--- with a choice
-module _ (observations c : ℕ) (next : ℕ → ℕ) where
-  pub choice-length : length (choiceRow observations c next) ≡ rowSize
-  unfolding choiceRow
-  choice-length = refl
-
-  pub choice-first : getD (choiceRow observations c next) 0 0 ≡ c
-  unfolding choiceRow
-  choice-first = refl
-
-  choice-at : (s : ℕ) → s < sideLimit → getD (choiceRow observations c next) (1 + s) 0 ≡ cond (ltb s observations) (next s) 0
-  unfolding choiceRow
-  choice-at s h =
-      let e : 1 + s ≡ suc s = omega arith in
-      ap (λ j. getD (choiceRow observations c next) j 0) e ∙ getD-tabulate sideLimit (λ s. cond (ltb s observations) (next s) 0) s 0 h
-
-  pub choice-next : (s : ℕ) → s < sideLimit → s < observations → getD (choiceRow observations c next) (1 + s) 0 ≡ next s
-  choice-next s h b = choice-at s h ∙ rw (lt-ltb s observations b)
-
-  pub choice-unused : (s : ℕ) → s < sideLimit → observations ≤ s → getD (choiceRow observations c next) (1 + s) 0 ≡ 0
-  choice-unused s h b = choice-at s h ∙ rw (le-ltb s observations b)
-
-pub choice-ext : (observations c : ℕ) (f g : ℕ → ℕ) → ((s : ℕ) → s < observations → f s ≡ g s) → choiceRow observations c f ≡ choiceRow observations c g
-unfolding choiceRow
-choice-ext observations c f g e = ap (λ l. c ∷ l) (tabulate-ext sideLimit _ _ (λ s h. at s (test (ltb s observations))))
-  where
-    at : (s : ℕ) → (ltb s observations ≡ true) ⊎ (ltb s observations ≡ false) → cond (ltb s observations) (f s) 0 ≡ cond (ltb s observations) (g s) 0
-    at s (inl t) = rw t (e s (ltb-true s observations t))
-    at s (inr t) = rw t
 
 module _ (A : Arena) (same : A .K → A .K → Bool) (choices observations n : ℕ) (ks : List (A .K)) (k : A .K) where
   pub row-stop : A .final k ≡ true → rowOf A same choices observations n ks k ≡ stopRow
@@ -105,41 +62,41 @@ module _ (A : Arena) (same : A .K → A .K → Bool) (says : (a b : A .K) → Sa
 
   stop-row : (i : ℕ) → i < length ks → A .final (at i) ≡ true → isStop table i ≡ true
   stop-row i h t =
-      ap (λ (c : ℕ). eqb c stopCell) (cell-is i 0 h (omega arith) ∙ ap (λ (r : List ℕ). getD r 0 0)
+      ap (λ (c : ℕ). eqb c stopCell) (cell-is i choiceAt h (omega arith) ∙ ap (λ (r : List ℕ). getD r choiceAt 0)
       (row-stop A same choices observations n ks (at i) t) ∙ stop-first)
 
-  choice-cell : (i : ℕ) → i < length ks → A .final (at i) ≡ false → cell table i 0 ≡ choice (at i)
-  choice-cell i h f = cell-is i 0 h (omega arith) ∙ ap (λ (r : List ℕ). getD r 0 0) (row-goes A same choices observations n ks (at i) f)
+  choice-cell : (i : ℕ) → i < length ks → A .final (at i) ≡ false → firstCell table i ≡ choice (at i)
+  choice-cell i h f = cell-is i choiceAt h (omega arith) ∙ ap (λ (r : List ℕ). getD r choiceAt 0) (row-goes A same choices observations n ks (at i) f)
       ∙ choice-first observations _ _
 
   goes-row : (i : ℕ) → i < length ks → A .final (at i) ≡ false → isStop table i ≡ false
   goes-row i h f =
       elim (test (isStop table i)) [
         | inl t ↦
-            let e = eqb-true (cell table i 0) stopCell t in
+            let e = eqb-true (firstCell table i) stopCell t in
             let b : choice (at i) ≤ choices = first-le _ choices in
             absurd (omega (arith, choice-cell i h f))
         | inr g ↦ g
       ]
 
-  stop-cell : (i : ℕ) → i < length ks → A .final (at i) ≡ true → (s : ℕ) → s < sideLimit → cell table i (1 + s) ≡ 0
-  stop-cell i h t s b = cell-is i (1 + s) h (omega arith) ∙ ap (λ (r : List ℕ). getD r (1 + s) 0) (row-stop A same choices observations n ks (at i) t)
-      ∙ stop-at (1 + s) (omega arith)
+  stop-cell : (i : ℕ) → i < length ks → A .final (at i) ≡ true → (s : ℕ) → s < sideLimit → nextCell table i s ≡ 0
+  stop-cell i h t s b = cell-is i (nextAt s) h (omega arith) ∙ ap (λ (r : List ℕ). getD r (nextAt s) 0) (row-stop A same choices observations n ks (at i) t)
+      ∙ stop-next s
 
   goes-cell : (i j : ℕ) → i < length ks → A .final (at i) ≡ false → j < rowSize
       → cell table i j ≡ getD (choiceRow observations (choice (at i)) (λ s. indexIn same (A .move (at i) (choice (at i)) s) ks)) j 0
   goes-cell i j h f b = cell-is i j h b ∙ ap (λ (r : List ℕ). getD r j 0) (row-goes A same choices observations n ks (at i) f)
 
   next-cell : (i : ℕ) → i < length ks → A .final (at i) ≡ false → (s : ℕ) → s < observations
-      → cell table i (1 + s) ≡ indexIn same (A .move (at i) (choice (at i)) s) ks
-  next-cell i h f s b = goes-cell i (1 + s) h f (omega arith) ∙ choice-next observations _ _ s (omega arith) b
+      → nextCell table i s ≡ indexIn same (A .move (at i) (choice (at i)) s) ks
+  next-cell i h f s b = goes-cell i (nextAt s) h f (omega arith) ∙ choice-next observations _ _ s (omega arith) b
 
-  unused-cell : (i : ℕ) → i < length ks → A .final (at i) ≡ false → (s : ℕ) → observations ≤ s → s < sideLimit → cell table i (1 + s) ≡ 0
-  unused-cell i h f s o b = goes-cell i (1 + s) h f (omega arith) ∙ choice-unused observations _ _ s b o
+  unused-cell : (i : ℕ) → i < length ks → A .final (at i) ≡ false → (s : ℕ) → observations ≤ s → s < sideLimit → nextCell table i s ≡ 0
+  unused-cell i h f s o b = goes-cell i (nextAt s) h f (omega arith) ∙ choice-unused observations _ _ s b o
 
   -- the row that an observation leads to is that of the next position
   next-row : (i : ℕ) → i < length ks → A .final (at i) ≡ false → (s : ℕ) → s < observations
-      → (cell table i (1 + s) < length ks) × (at (cell table i (1 + s)) ≡ A .move (at i) (choice (at i)) s)
+      → (nextCell table i s < length ks) × (at (nextCell table i s) ≡ A .move (at i) (choice (at i)) s)
   next-row i h f s b =
       subst (λ (j : ℕ). (j < length ks) × (getD ks j (A .start) ≡ A .move (at i) (choice (at i)) s)) (sym (next-cell i h f s b))
       (next-place A same says (λ k s. choice k) observations n ks listed i h f s b)
@@ -172,7 +129,7 @@ module _ (A : Arena) (same : A .K → A .K → Bool) (says : (a b : A .K) → Sa
         | inl t ↦ rw (stop-row i b t, readFrom, t, best)
         | inr f ↦
             let (b′, e) = next-row i b f s (v .0) in
-            rw (goes-row i b f, readFrom, f, best) (table-reads h (v .1) (cell table i (1 + s)) b′ ∙ ap (λ (k : A .K). best A choices observations n k h) e)
+            rw (goes-row i b f, readFrom, f, best) (table-reads h (v .1) (nextCell table i s) b′ ∙ ap (λ (k : A .K). best A choices observations n k h) e)
       ]
 
   -- the table, read from its first row, is the strategy of the smallest choices that work

@@ -10,9 +10,10 @@ use mathlib.Core.Option.{Option, none, some}
 use mathlib.Core.List.{List, []}
 use Rattle.play.specs.Game.{Game, Play, seen}
 use Rattle.play.specs.Rank.{Arena}
+use Rattle.play.specs.History.{Possible, know}
 use Rattle.basics.proofs.Booleans.{clash}
 use Rattle.play.proofs.Order.{Order}
-use Rattle.play.proofs.Plans.{rest, Plan, after, respond, Goes, stuck, PlanSteps, planRun, history, Possible, WinsFor, hiding, know, Tracks, Legal, legal-after, steps-unique, run-letters}
+use Rattle.play.proofs.Plans.{rest, Plan, after, respond, Goes, stuck, PlanSteps, planRun, history, WinsFor, hiding, Tracks, Legal, legal-after, steps-unique, run-letters}
 
 module _ (G : Game) (O : Order (G .choices) (G .observations)) where
   -- the choices and observations so far are possible ones

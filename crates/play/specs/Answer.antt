@@ -4,9 +4,9 @@ use Prim.Native.Nat.{ℕ, _*_, _/_, _%_, _≤_, _<_}
 use mathlib.Core.Bool.{Bool, cond}
 use mathlib.Core.List.{List, []}
 use lib.Dec.{ltb}
-use lib.ListN.{length, getD}
+use lib.ListN.{length}
 use Rattle.basics.specs.Lists.{tabulate}
-use Rattle.basics.specs.Reach.{Listing, indexIn, reachable}
+use Rattle.basics.specs.Reach.{Listing, reachable}
 use Rattle.play.specs.Game.{Game, Optimal, Unrealizable}
 use Rattle.play.specs.Rank.{Arena, setFirst, rankBelow}
 use Rattle.play.specs.Table.{tableStrategy, Laid, rows, tableCells}
@@ -34,16 +34,6 @@ abbrev pub verdictOf : (A : Arena) (same : A .K → A .K → Bool) (choices obse
 verdictOf A same choices observations n =
     cond (ltb (startRank A same choices observations n) n)
     (solved (length (rows A same choices observations n)) (startRank A same choices observations n) (tableCells A same choices observations n)) unrealizable
-
--- positions that are counted, by their numbers
-abbrev pub numbered : (A : Arena) → (A .K → A .K → Bool) → List (A .K) → Arena
-numbered A same all =
-    record {
-      K = ℕ;
-      start = indexIn same (A .start) all;
-      move = λ i c s. indexIn same (A .move (getD all i (A .start)) c s) all;
-      final = λ i. A .final (getD all i (A .start));
-    }
 
 -- what is written for a verdict
 abbrev pub cellsOf : Verdict → List ℕ

@@ -8,7 +8,6 @@ use lib.Dec.{eqb}
 use lib.ListN.{getD}
 use Rattle.basics.specs.Lists.{tabulate}
 use Rattle.basics.specs.Bounded.{all, any}
-use Rattle.play.specs.Game.{Game}
 use Rattle.play.specs.Rank.{Arena}
 
 pub record Automaton : Type 0 where
@@ -42,18 +41,20 @@ reached n hiddens lead b = tabulate n (λ t. any n (λ s. has b s && any hiddens
 abbrev pub every : (n : ℕ) → (ℕ → Bool) → Belief → Bool
 every n ok b = all n (λ s. not (has b s) || ok s)
 
-module _ (G : Game) (M : Automaton) where
+module _ (M : Automaton) where
   -- at first the initial state alone
   abbrev pub firstBelief : Belief
   firstBelief = alone (M .states) (M .initial)
-
-  -- after a choice and an observation
-  abbrev pub nextBelief : Belief → ℕ → ℕ → Belief
-  nextBelief b c r = reached (M .states) (G .hiddens) (λ s x. M .next s (G .letter c r x)) b
 
   -- all its states accept
   abbrev pub finalBelief : Belief → Bool
   finalBelief b = every (M .states) (M .accepts) b
 
-  abbrev pub beliefs : Arena
-  beliefs = record { K = Belief; start = firstBelief; move = nextBelief; final = finalBelief }
+  -- with so many hidden values, and the letter of a choice, an observation and a hidden value
+  module _ (hiddens : ℕ) (letter : ℕ → ℕ → ℕ → ℕ) where
+    -- after a choice and an observation
+    abbrev pub nextBelief : Belief → ℕ → ℕ → Belief
+    nextBelief b c r = reached (M .states) hiddens (λ s x. M .next s (letter c r x)) b
+
+    abbrev pub beliefs : Arena
+    beliefs = record { K = Belief; start = firstBelief; move = nextBelief; final = finalBelief }

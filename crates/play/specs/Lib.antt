@@ -2,8 +2,10 @@
 pub mod Limits
 -- the meaning: strategies, plays, winning, the worst case
 pub mod Game
--- the answer: ranks and smallest choices, beliefs, the table
+-- the answer: ranks and smallest choices, what positions know, beliefs, the table
 pub mod Rank
+pub mod History
 pub mod Belief
+pub mod Cells
 pub mod Table
 pub mod Answer

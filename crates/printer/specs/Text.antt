@@ -1,6 +1,6 @@
 -- The text that a table and a refusal are printed as ("The desk's printing" of document 01).
 -- Assumes nothing.
-use Prim.Native.Nat.{ℕ, _+_, _^_}
+use Prim.Native.Nat.{ℕ, _^_}
 use mathlib.Core.Bool.{cond}
 use mathlib.Core.List.{List, [], _∷_, _++_, flatMap}
 use Rattle.basics.specs.Bytes.{bytesOf}
@@ -8,25 +8,26 @@ use Rattle.basics.specs.Lists.{tabulate}
 use Rattle.basics.specs.Text.{decimal, line}
 use Rattle.lines.specs.declared.refusal.Refusal.{Refusal}
 use Rattle.lines.specs.Refusal.{numberOf, placeOf}
-use Rattle.play.specs.Table.{cell, isStop}
+use Rattle.play.specs.Cells.{firstCell, isStop, nextCell}
+use Rattle.tables.specs.declared.shape.Shape.{Shape}
 
--- the first n cells of a row
-abbrev pub cellFields : List ℕ → ℕ → ℕ → List (List ℕ)
-cellFields t row n = tabulate n (λ i. decimal (cell t row i))
+-- the first n next rows of a row
+abbrev pub nextFields : List ℕ → ℕ → ℕ → List (List ℕ)
+nextFields t row n = tabulate n (λ s. decimal (nextCell t row s))
 
--- a row: `stop`, or the choice and a next row for each possible observation upward, as they stand in the cells
-abbrev pub rowFields : List ℕ → ℕ → ℕ → List (List ℕ)
-rowFields t observed row = cond (isStop t row) (bytesOf "stop" ∷ []) (cellFields t row (1 + 2 ^ observed))
+-- a row: `stop`, or the choice and a next row for each possible observation upward
+abbrev pub rowFields : List ℕ → Shape → ℕ → List (List ℕ)
+rowFields t shape row = cond (isStop t row) (bytesOf "stop" ∷ []) (decimal (firstCell t row) ∷ nextFields t row (2 ^ (shape .observed)))
 
-abbrev pub rowText : List ℕ → ℕ → ℕ → List ℕ
-rowText t observed row = line (bytesOf "row") (decimal row ∷ rowFields t observed row)
+abbrev pub rowText : List ℕ → Shape → ℕ → List ℕ
+rowText t shape row = line (bytesOf "row") (decimal row ∷ rowFields t shape row)
 
 -- the first n rows
-abbrev pub rowsText : List ℕ → ℕ → ℕ → List ℕ
-rowsText t observed n = flatMap (rowText t observed) (tabulate n (λ row. row))
+abbrev pub rowsText : List ℕ → Shape → ℕ → List ℕ
+rowsText t shape n = flatMap (rowText t shape) (tabulate n (λ row. row))
 
-abbrev pub tableText : List ℕ → ℕ → ℕ → ℕ → List ℕ
-tableText t rows worst observed = line (bytesOf "table") (decimal rows ∷ decimal worst ∷ []) ++ rowsText t observed rows
+abbrev pub tableText : List ℕ → Shape → ℕ → List ℕ
+tableText t shape worst = line (bytesOf "table") (decimal (shape .rows) ∷ decimal worst ∷ []) ++ rowsText t shape (shape .rows)
 
 -- a refusal: its number and its place
 abbrev pub refusalText : Refusal → List ℕ

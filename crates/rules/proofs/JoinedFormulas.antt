@@ -3,13 +3,13 @@ use Prim.Native.Nat.{ℕ, zero, suc, _+_, _-_, _<_}
 use native.Mathlib.Omega.{arith}
 use mathlib.Core.Path.{_≡_, refl, sym, ap, _∙_, subst}
 use mathlib.Core.Option.{Option, none, some}
-use mathlib.Core.List.{List, [], _++_, append-nil, append-assoc}
+use mathlib.Core.List.{List, [], _∷_, _++_, append-nil, append-assoc, foldl, foldl-append}
 use lib.ListN.{length}
 use Rattle.formula.specs.declared.formula.Op.the-variants as op
 use Rattle.formula.specs.Formula.{Formula, size, operators}
 use Rattle.formula.specs.Parts.{onePart, partsFrom, partsOf}
 use Rattle.formula.specs.declared.parts.Part.{Part}
-use Rattle.rules.specs.Problem.{joined, sizeIn, operatorsIn}
+use Rattle.rules.specs.Problem.{Line, rule, joined, withLine, joinedLines, sizeIn, operatorsIn}
 use Rattle.lines.specs.Effect.{joint}
 use Rattle.lines.specs.Memory.{joinPart, addedParts, storedFrom}
 use Rattle.formula.proofs.PartsLaws.{length-parts, parts-some}
@@ -64,4 +64,21 @@ unfolding operators
 operators-joined none φ = omega arith
 operators-joined (some ψ) φ = refl
 
--- ---- the joining part, as the code stores it
+-- ---- the formula of all lines
+
+pub joined-more : (ls : List Line) (φ : Formula) → joinedLines (ls ++ (rule φ ∷ [])) ≡ some (joined (joinedLines ls) φ)
+joined-more ls φ = foldl-append withLine none ls (rule φ ∷ [])
+
+-- there is one where there is a line
+from-some : (ψ : Formula) (ls : List Line) → (φ : Formula) × (foldl withLine (some ψ) ls ≡ some φ)
+from-some ψ [] = (ψ, refl)
+from-some ψ (rule φ ∷ ls) = from-some (joined (some ψ) φ) ls
+
+pub joined-some : (ls : List Line) → ¬ (ls ≡ []) → (φ : Formula) × (joinedLines ls ≡ some φ)
+joined-some [] h = absurd (h refl)
+joined-some (rule φ ∷ ls) h = from-some φ ls
+
+-- and no part where there is none
+pub no-parts : (ls : List Line) → sizeIn (joinedLines ls) ≡ 0 → ls ≡ []
+no-parts [] e = refl
+no-parts (rule φ ∷ ls) e = let (ψ, q) = from-some φ ls in absurd (omega (arith, size-pos ψ, sym (ap sizeIn q) ∙ e))

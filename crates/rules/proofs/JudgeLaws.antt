@@ -1,7 +1,7 @@
 -- From a problem that was read to the verdict on a trace, and what the verdict means. Assumes nothing.
 use Prim.Native.Nat.{ℕ, _≤_, _<_}
 use native.Mathlib.Omega.{arith}
-use mathlib.Core.Path.{_≡_, refl, sym, ap, _∙_}
+use mathlib.Core.Path.{_≡_, refl, sym, ap, _∙_, subst}
 use mathlib.Core.Bool.{Bool, true, false, _||_, false≢true, cond}
 use mathlib.Core.Option.{Option, none, some}
 use mathlib.Core.List.{List}
@@ -20,17 +20,17 @@ use Rattle.formula.specs.Limits.{partLimit}
 use Rattle.rules.specs.Limits.{traceLimit, workSize}
 use Rattle.formula.specs.Formula.{Formula}
 use Rattle.formula.specs.Semantics.{Trace, holds}
-use Rattle.formula.specs.Parts.{partsOf}
+use Rattle.formula.specs.Parts.{lastOf, AllReady}
 use Rattle.formula.specs.Codes.{codeOf, codesOf, partsIn}
-use Rattle.formula.specs.Entries.{judgedTrue}
-use Rattle.rules.specs.Problem.{Problem, Outcome, accepted, refused, readProblem}
+use Rattle.formula.specs.Values.{valueOn}
+use Rattle.rules.specs.Problem.{Problem, formulaIn, problemParts, Outcome, accepted, refused, readProblem}
 use Rattle.rules.specs.Denotes.{Denotes}
 use Rattle.rules.specs.Reading.{sizesOf, readingOf, partsOfOutcome}
 use Rattle.rules.specs.Trace.{countsOf, orBadStep, badStep, verdictOn}
 use Rattle.formula.specs.Letter.{Counts}
 use Rattle.rules.specs.Judge.{countsIn, judgedBy, judged, workAfter, Means}
-use Rattle.formula.proofs.Agreement.{holds-iff-Sat}
-use Rattle.formula.proofs.PartsLaws.{length-parts, parts-some}
+use Rattle.rules.proofs.SatisfiesLaws.{holds-iff-satisfies}
+use Rattle.rules.proofs.ProblemLaws.{parts-counted, some-part, formed}
 use Rattle.lines.proofs.MemoryLaws.{stored-front}
 use Rattle.rules.proofs.TraceLaws.{verdict-holds}
 use Rattle.rules.proofs.WithinLimits.{Within, read-within}
@@ -48,39 +48,40 @@ pub record Taken (o : Outcome) (s : Sizes) (codes : List ℕ) : Type 0 where
   pub is : o ≡ accepted problem
   pub within : Within problem
   pub sizes : s ≡ sizesOf problem
-  pub front : take (s .parts) codes ≡ codesOf (partsOf (problem .formula))
+  pub front : take (s .parts) codes ≡ codesOf (problemParts problem)
 
 -- what `read` leaves in a list that was all zero
 pub taken : (source : List ℕ) (s : Sizes) (r : Reading) → r ≡ readingOf (readProblem source) → r ≡ reading.Accepted s
-    → (q : List ℕ) → q ≡ partsOfOutcome (readProblem source) (replicate 96 0) → Taken (readProblem source) s q
+    → (q : List ℕ) → q ≡ partsOfOutcome (readProblem source) (replicate partLimit 0) → Taken (readProblem source) s q
 taken source s r e h q i = go (readProblem source) (sym e ∙ h) i (read-within source)
   where
-    go : (o : Outcome) → readingOf o ≡ reading.Accepted s → q ≡ partsOfOutcome o (replicate 96 0)
+    go : (o : Outcome) → readingOf o ≡ reading.Accepted s → q ≡ partsOfOutcome o (replicate partLimit 0)
         → ((x : Problem) → o ≡ accepted x → Within x) → Taken o s q
     go (accepted x) h i within =
         let w = within x refl in
         let z = sym (same-sizes (sizesOf x) s h) in
-        let n : length (partsOf (x .formula)) ≡ s .parts = length-parts (x .formula) ∙ sym (ap (λ (t : Sizes). t .parts) z) in
-        let m : s .parts ≤ 96 = rw z (w .parts) in
+        let n : length (problemParts x) ≡ s .parts = parts-counted x ∙ sym (ap (λ (t : Sizes). t .parts) z) in
+        let m : s .parts ≤ partLimit = rw z (w .parts) in
         record {
           problem = x;
           is = refl;
           within = w;
           sizes = z;
           front = ap (λ t. take (s .parts) t) i
-              ∙ stored-front (partsOf (x .formula)) (s .parts) (replicate 96 0) n (omega (arith, length-replicate {A = ℕ} 96 0));
+              ∙ stored-front (problemParts x) (s .parts) (replicate partLimit 0) n (omega (arith, length-replicate {A = ℕ} partLimit 0));
         }
     go (refused x) h i within = not-refused x s h
 
 module _ {o : Outcome} {s : Sizes} {codes : List ℕ} (t : Taken o s codes) where
   abbrev φ : Formula
-  φ = t .problem .formula
+  φ = formulaIn (t .problem)
 
   pub taken-length : length (take (s .parts) codes) ≡ s .parts
-  taken-length = ap length (t .front) ∙ length-map (partsOf φ) codeOf ∙ length-parts φ ∙ sym (ap (λ (x : Sizes). x .parts) (t .sizes))
+  taken-length =
+      ap length (t .front) ∙ length-map (problemParts (t .problem)) codeOf ∙ parts-counted (t .problem) ∙ sym (ap (λ (x : Sizes). x .parts) (t .sizes))
 
   pub some-parts : 0 < length (take (s .parts) codes)
-  some-parts = rw (t .front, length-map (partsOf φ) codeOf) (parts-some φ)
+  some-parts = rw (t .front, length-map (problemParts (t .problem)) codeOf) (some-part (t .problem))
 
   pub few-parts : s .parts ≤ partLimit
   few-parts = rw (t .sizes) (t .within .parts)
@@ -89,31 +90,34 @@ module _ {o : Outcome} {s : Sizes} {codes : List ℕ} (t : Taken o s codes) wher
   few-signals = rw (t .sizes) (t .within .few .outputs, t .within .few .observed, t .within .few .hidden)
 
   -- the numbers hold the formula's parts
-  pub taken-parts : partsIn (take (s .parts) codes) ≡ partsOf φ
+  pub taken-parts : partsIn (take (s .parts) codes) ≡ problemParts (t .problem)
   taken-parts = ap partsIn (t .front) ∙ t .within .held
 
-  pub judged-source : (π : Trace) (w : ℕ) → 256 ≤ w → (v : Verdict) → v ≡ verdictOn (countsOf s) π (judgedTrue (partsIn (take (s .parts) codes)) w π)
-      → v ≡ judgedBy o π
-  judged-source π w h v e =
-      let f : length (partsOf φ) ≤ w = omega (arith, length-parts φ, t .within .parts) in
-      rw (t .is) (e ∙ ap (λ ps. verdictOn (countsOf s) π (judgedTrue ps w π)) taken-parts ∙ verdict-holds (countsOf s) π φ w f
+  -- and they stand as the states need them
+  pub taken-ready : AllReady (partsIn (take (s .parts) codes))
+  taken-ready = subst AllReady (sym taken-parts) (formed (t .problem))
+
+  pub judged-source : (π : Trace) (v : Verdict)
+      → v ≡ verdictOn (countsOf s) π (valueOn (partsIn (take (s .parts) codes)) π (lastOf (partsIn (take (s .parts) codes)))) → v ≡ judgedBy o π
+  judged-source π v e =
+      rw (t .is) (e ∙ ap (λ ps. verdictOn (countsOf s) π (valueOn ps π (lastOf ps))) taken-parts ∙ verdict-holds (countsOf s) π φ
       ∙ ap (λ (x : Sizes). verdictOn (countsOf x) π (holds φ π)) (t .sizes))
 
 -- ---- what a verdict means
 
 -- a trace that is not refused has steps, and its verdict is the formula's value
-verdict-means : (source : List ℕ) (p : Problem) → Denotes source p → (c : Counts) (π : Trace) → Means source π (verdictOn c π (holds (p .formula) π))
+verdict-means : (source : List ℕ) (p : Problem) → Denotes source p → (c : Counts) (π : Trace) → Means source π (verdictOn c π (holds (formulaIn p) π))
 unfolding verdictOn
-verdict-means source p d c π = by-length (eqb (length π) 0) refl (ltb traceLimit (length π)) (badStep c 1 π) (holds (p .formula) π) refl
+verdict-means source p d c π = by-length (eqb (length π) 0) refl (ltb traceLimit (length π)) (badStep c 1 π) (holds (formulaIn p) π) refl
   where
-    by-length : (a : Bool) → eqb (length π) 0 ≡ a → (b : Bool) (n : Option ℕ) (v : Bool) → holds (p .formula) π ≡ v
+    by-length : (a : Bool) → eqb (length π) 0 ≡ a → (b : Bool) (n : Option ℕ) (v : Bool) → holds (formulaIn p) π ≡ v
         → Means source π (cond (a || b) (Refused (BadTrace 0)) (orBadStep n (cond v True False)))
     by-length true e b n v h = tt
     by-length false e true n v h = tt
     by-length false e false (some n) v h = tt
-    by-length false e false none true h = (p, d, holds-iff-Sat (p .formula) π (omega (arith, eqb-false (length π) 0 e)) .0 h)
+    by-length false e false none true h = (p, d, holds-iff-satisfies p π (omega (arith, eqb-false (length π) 0 e)) .0 h)
     by-length false e false none false h =
-        (p, d, λ z. false≢true (sym h ∙ holds-iff-Sat (p .formula) π (omega (arith, eqb-false (length π) 0 e)) .1 z))
+        (p, d, λ z. false≢true (sym h ∙ holds-iff-satisfies p π (omega (arith, eqb-false (length π) 0 e)) .1 z))
 
 pub judged-means : (source : List ℕ) (π : Trace) → Means source π (judgedBy (readProblem source) π)
 judged-means source π = go (readProblem source) refl

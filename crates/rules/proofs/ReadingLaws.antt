@@ -4,8 +4,8 @@ use native.Mathlib.Numerals.{add-one}
 use native.Mathlib.Omega.{arith}
 use mathlib.Core.Path.{_≡_, refl, sym, ap, _∙_, subst}
 use mathlib.Core.Bool.{true, false}
-use mathlib.Core.Option.{Option, none, some}
-use mathlib.Core.List.{List}
+use mathlib.Core.Option.{Option, some}
+use mathlib.Core.List.{List, [], _∷_, _++_}
 use borrow.Author.Tests.{ltb-true, ltb-false, lt-ltb, le-ltb, eqb-false}
 use lib.Dec.{eqb, ltb}
 use lib.ListN.{length, getD, drop, replicate, getD-replicate}
@@ -24,13 +24,14 @@ use Rattle.rules.specs.Limits.{sourceLimit}
 use Rattle.formula.specs.Limits.{partLimit}
 use Rattle.formula.specs.Formula.{Formula, size, operators}
 use Rattle.lines.specs.Lines.{lines, tabPlace, hasTab}
-use Rattle.rules.specs.Problem.{sizeIn, operatorsIn, Draft, Outcome, accepted, refused, finish, withDeclared, withFormula, after, readLines, blank, readProblem}
+use Rattle.rules.specs.Problem.{rule, joined, joinedLines, sizeIn, operatorsIn, Draft, partCount, operatorCount, Outcome, accepted, refused, finish, withDeclared, withFormula, after, readLines, blank, readProblem}
 use Rattle.lines.specs.Effect.{firstBit, isFull, joint, isLarge, Effect, declares, states, refuses, withSignal}
 use Rattle.lines.specs.Memory.{signalsIn, countIn, moreSignals, moreParts, addedParts, storedFrom, spanned, readingAfter, spansAfter, partsAfter, Kept, lineEffect, LineRead}
 use Rattle.rules.specs.Reading.{readingOf, PartsRead, partsOfOutcome}
 use Rattle.basics.proofs.BytesLaws.{past-in}
 use Rattle.lines.proofs.LineFields.{field-is, length-line}
-use Rattle.rules.proofs.JoinedFormulas.{written, size-pos, stored-joined, size-joined, operators-joined}
+use Rattle.rules.proofs.JoinedFormulas.{written, stored-joined, size-joined, operators-joined, joined-more, joined-some, no-parts}
+use Rattle.rules.proofs.DenotesLaws.{finish-some}
 use Rattle.basics.proofs.Booleans.{or-left, or-right}
 use Rattle.lines.proofs.LinesLaws.{lines-none, lines-ended, lines-unended}
 use Rattle.lines.proofs.SignalSpans.{spans-more, signals-more}
@@ -45,15 +46,15 @@ pub record Going (source p₀ : List ℕ) (at line : ℕ) (s : Sizes) (spans p :
   pub numbered : line ≤ at + 1
   pub rest : readLines line (lines (drop at source)) draft ≡ readLines 1 (lines source) blank
   pub signals : draft .signals ≡ signalsIn source s spans
-  pub parts : sizeIn (draft .formula) ≡ s .parts
-  pub operators : operatorsIn (draft .formula) ≡ s .operators
-  pub stored : p ≡ storedFrom (written (draft .formula)) 0 p₀
+  pub parts : partCount draft ≡ s .parts
+  pub operators : operatorCount draft ≡ s .operators
+  pub stored : p ≡ storedFrom (written (joinedLines (draft .lines))) 0 p₀
   pub kept : Kept source s spans p
 
 abbrev pub noSizes : Sizes
 noSizes = record { outputs = 0; observed = 0; hidden = 0; parts = 0; operators = 0 }
 
-spans-none : (source : List ℕ) → Spans source (replicate 24 0)
+spans-none : (source : List ℕ) → Spans source (replicate (2 * bits) 0)
 spans-none source =
     record {
       all = refl;
@@ -61,13 +62,13 @@ spans-none source =
       inside = λ b h. zero-le (zeros (2 * b + 1) (omega arith));
     }
   where
-    zeros : (i : ℕ) → i < 24 → _≡_ {A = ℕ} (getD (replicate 24 0) i 0) 0
-    zeros i h = getD-replicate 24 i 0 0 h
+    zeros : (i : ℕ) → i < 2 * bits → _≡_ {A = ℕ} (getD (replicate (2 * bits) 0) i 0) 0
+    zeros i h = getD-replicate (2 * bits) i 0 0 h
 
     zero-le : {m n : ℕ} → m ≡ 0 → m ≤ n
     zero-le e = omega arith
 
-pub begin : (source p : List ℕ) → length p ≡ partLimit → Going source p 0 1 noSizes (replicate 24 0) p
+pub begin : (source p : List ℕ) → length p ≡ partLimit → Going source p 0 1 noSizes (replicate (2 * bits) 0) p
 unfolding written namesIn namesFrom
 begin source p h =
     record {
@@ -198,6 +199,8 @@ module _ {source p₀ : List ℕ} {at line : ℕ} {s : Sizes} {spans p : List �
         states-going φ i t q =
             let b = stating line (between source at end) (signalsIn source s spans) (s .parts) (s .operators) φ i in
             let kept = g .kept in
+            let f : Option Formula = joinedLines (g .draft .lines) in
+            let joined-now : joinedLines (g .draft .lines ++ (rule φ ∷ [])) ≡ some (joined f φ) = joined-more (g .draft .lines) φ in
             let small : isLarge (s .parts) (s .operators) φ ≡ false = subst (λ x. isLarge (s .parts) (s .operators) x ≡ false) (b .is) (b .small) in
             let sizes : moreParts (size φ) (operators φ) s ≡ t = same-sizes _ t (sym (ap (λ f. readingAfter f s) i) ∙ sym (d .reading) ∙ q) in
             let here : spans′ ≡ spans = d .spans-left ∙ ap (λ f. spansAfter f s (at + tabPlace (between source at end) + 1) end spans) i in
@@ -209,11 +212,11 @@ module _ {source p₀ : List ℕ} {at line : ℕ} {s : Sizes} {spans p : List �
               numbered = omega (arith, g .numbered, line-in);
               rest = rw (add-one line) (goes-on (states φ) i);
               signals = g .signals;
-              parts = sym (size-joined (g .draft .formula) φ) ∙ ap (λ n. n + size φ + joint n) (g .parts);
-              operators = sym (operators-joined (g .draft .formula) φ) ∙ ap (λ n. n + operators φ) (g .operators);
-              stored = ap (λ n. storedFrom (addedParts φ n) n p) (sym (g .parts)) ∙ ap
-                  (storedFrom (addedParts φ (sizeIn (g .draft .formula))) (sizeIn (g .draft .formula))) (g .stored)
-                  ∙ stored-joined (g .draft .formula) φ p₀;
+              parts = ap sizeIn joined-now ∙ sym (size-joined f φ) ∙ ap (λ n. n + size φ + joint n) (g .parts);
+              operators = ap operatorsIn joined-now ∙ sym (operators-joined f φ) ∙ ap (λ n. n + operators φ) (g .operators);
+              stored = ap (λ n. storedFrom (addedParts φ n) n p) (sym (g .parts))
+                  ∙ ap (storedFrom (addedParts φ (sizeIn f)) (sizeIn f)) (g .stored)
+                  ∙ stored-joined f φ p₀ ∙ ap (λ x. storedFrom (written x) 0 p₀) (sym joined-now);
               kept = record {
                 spans-in = kept .spans-in;
                 outputs-few = kept .outputs-few;
@@ -236,26 +239,21 @@ module _ {source p₀ : List ℕ} {at line : ℕ} {s : Sizes} {spans p : List �
   -- ---- no more lines
 
   module _ (h : length source ≤ at) where
-    finished : whole ≡ finish (g .draft .signals) (g .draft .formula)
+    finished : whole ≡ finish (g .draft .signals) (g .draft .lines)
     unfolding readLines
     finished = sym (g .rest) ∙ ap (λ ls. readLines line ls (g .draft)) (lines-none source at h)
 
     pub no-formula : s .parts ≡ 0 → whole ≡ refused NoFormula
-    no-formula z = finished ∙ go (g .draft .formula) (g .parts ∙ z)
-      where
-        go : (f : Option Formula) → sizeIn f ≡ 0 → finish (g .draft .signals) f ≡ refused NoFormula
-        go none e = refl
-        go (some φ) e = absurd (omega (arith, size-pos φ))
+    no-formula z = finished ∙ ap (finish (g .draft .signals)) (no-parts (g .draft .lines) (g .parts ∙ z))
 
+    -- a problem that is read has the counts that are kept, and its parts are stored
     pub some-formula : (s .parts ≡ 0 → ⊥) → (Accepted s ≡ readingOf whole) × PartsRead whole p₀ p
     unfolding written
-    some-formula z = go (g .draft .formula) refl
-      where
-        go : (f : Option Formula) → g .draft .formula ≡ f → (Accepted s ≡ readingOf whole) × PartsRead whole p₀ p
-        go none e = absurd (z (sym (g .parts) ∙ ap sizeIn e))
-        go (some φ) e =
-            rw (finished, e)
-            (rw (g .signals, sym (ap sizeIn e) ∙ g .parts, sym (ap operatorsIn e) ∙ g .operators) (refl, g .stored ∙ ap (λ f. storedFrom (written f) 0 p₀) e))
+    some-formula z =
+        let some-line : ¬ (g .draft .lines ≡ []) = λ e. z (sym (g .parts) ∙ ap (λ ls. sizeIn (joinedLines ls)) e) in
+        let (φ, e) = joined-some (g .draft .lines) some-line in
+        rw (finished, finish-some (g .draft .signals) (g .draft .lines) some-line)
+        (rw (g .signals, e, sym (ap sizeIn e) ∙ g .parts, sym (ap operatorsIn e) ∙ g .operators) (refl, g .stored ∙ ap (λ f. storedFrom (written f) 0 p₀) e))
 
 pub refused-answer : (o : Outcome) (x : Refusal) (q q′ : List ℕ) → o ≡ refused x → (Refused x ≡ readingOf o) × PartsRead o q q′
 refused-answer o x q q′ e = rw e (refl, tt)

@@ -4,7 +4,6 @@ use Prim.Native.Nat.{ℕ, suc, _≤_}
 use native.Mathlib.Omega.{arith}
 use mathlib.Core.Path.{_≡_, subst}
 use mathlib.Core.Bool.{Bool, true, false, not, cond}
-use mathlib.Core.Option.{Option, none, some}
 use mathlib.Core.List.{List, [], _∷_}
 use lib.Dec.{ltb}
 use lib.ListN.{length}
@@ -18,9 +17,8 @@ use Rattle.lines.specs.declared.problem.Word.{Word}
 use Rattle.lines.specs.declared.problem.Word.the-variants.{Declare, Rule, Unknown}
 use Rattle.rules.specs.Limits.{sourceLimit}
 use Rattle.lines.specs.Refusal.{numberOf}
-use Rattle.formula.specs.Formula.{Formula}
 use Rattle.lines.specs.Lines.{SourceLine, ended, unended, lines, hasTab, firstField, secondField, wordOf, isName, isText}
-use Rattle.rules.specs.Problem.{Draft, Outcome, accepted, refused, finish, after, effectAfter, readLines, blank, readProblem}
+use Rattle.rules.specs.Problem.{Line, Draft, Outcome, accepted, refused, finish, after, effectAfter, readLines, blank, readProblem}
 use Rattle.lines.specs.Effect.{Signals, formulaOf, allDeclared, isDeclared, isFull, isLarge, Effect, declares, states, refuses, declareEffect, readEffect, stateEffect, byWord, effectOf}
 
 Early : Effect → Type 0
@@ -61,10 +59,10 @@ Small : Outcome → Type 0
 Small (accepted p) = Unit {0}
 Small (refused r) = numberOf r ≤ 8
 
-small-finish : (g : Signals) (o : Option Formula) → Small (finish g o)
+small-finish : (g : Signals) (ls : List Line) → Small (finish g ls)
 unfolding Small
-small-finish g none = omega arith
-small-finish g (some φ) = tt
+small-finish g [] = omega arith
+small-finish g (l ∷ ls) = tt
 
 small-after : (e : Effect) (d : Draft) (f : Draft → Outcome) → Early e → ((d : Draft) → Small (f d)) → Small (after e d f)
 unfolding Small Early
@@ -74,7 +72,7 @@ small-after (refuses r) d f p q = p
 
 small-lines : (line : ℕ) (ls : List SourceLine) (d : Draft) → Small (readLines line ls d)
 unfolding readLines Small
-small-lines line [] d = small-finish (d .signals) (d .formula)
+small-lines line [] d = small-finish (d .signals) (d .lines)
 small-lines line (unended l ∷ ls) d = omega arith
 small-lines line (ended l ∷ ls) d = small-after (effectAfter line l d) d (readLines (suc line) ls) (early-effect line (d .signals) _ _ l)
     (small-lines (suc line) ls)

@@ -1,11 +1,11 @@
 -- How the code judges a trace: a letter, the letters of a trace, and the verdict.
 -- Assumes nothing.
-use Prim.Native.Nat.{ℕ, suc, _+_, _*_, _/_, _%_, _^_, _≤_, _<_}
+use Prim.Native.Nat.{ℕ, suc, _+_, _-_, _*_, _/_, _%_, _^_, _≤_, _<_}
 use native.Mathlib.Nat.{one-mul}
 use native.Mathlib.Numerals.{add-one}
 use native.Mathlib.Omega.{arith}
 use mathlib.Core.Path.{_≡_, refl, sym, ap, _∙_}
-use mathlib.Core.Bool.{Bool, true, false, _&&_, _||_, false≢true, cond}
+use mathlib.Core.Bool.{Bool, true, false, _&&_, _||_, cond}
 use mathlib.Core.Option.{Option, none, some}
 use mathlib.Core.List.{[], _∷_}
 use lib.Bits.{bitAnd, and-mask}
@@ -20,11 +20,11 @@ use Rattle.formula.specs.Formula.{Formula}
 use Rattle.basics.specs.Limits.{kindLimit}
 use Rattle.rules.specs.Limits.{traceLimit}
 use Rattle.formula.specs.Semantics.{Trace, holds}
-use Rattle.formula.specs.Parts.{partsOf}
-use Rattle.formula.specs.Entries.{judgedTrue}
+use Rattle.formula.specs.Parts.{lastOf, partsOf}
+use Rattle.formula.specs.Values.{valueOn}
 use Rattle.rules.specs.Trace.{badStep, stepNumber, orBadStep, verdictOn}
-use Rattle.formula.specs.Letter.{Counts, isLetter}
-use Rattle.formula.proofs.EntriesLaws.{judged-holds}
+use Rattle.formula.specs.Letter.{Counts, kindSize, isLetter}
+use Rattle.formula.proofs.FormulaValues.{value-parts}
 
 -- ---- a letter
 
@@ -34,12 +34,12 @@ shl-one n h = shl-exact 1 n 16 (lit< tt) (omega arith) ∙ one-mul (2 ^ n)
 
 -- the code's test of a letter
 pub letter-test : (c : Counts) (a : ℕ) → c .outputs ≤ kindLimit → c .observed ≤ kindLimit → c .hidden ≤ kindLimit
-    → ltb (bitAnd a 15) (1 * 2 ^ c .outputs % 65536)
-    && (ltb (bitAnd (a / 16) 15) (1 * 2 ^ c .observed % 65536) && ltb (a / 256) (1 * 2 ^ c .hidden % 65536))
+    → ltb (bitAnd a (kindSize - 1)) (1 * 2 ^ c .outputs % 65536)
+    && (ltb (bitAnd (a / kindSize) (kindSize - 1)) (1 * 2 ^ c .observed % 65536) && ltb (a / (kindSize * kindSize)) (1 * 2 ^ c .hidden % 65536))
     ≡ isLetter c a
 unfolding isLetter
 letter-test c a h i j =
-    rw (shl-one (c .outputs) h, shl-one (c .observed) i, shl-one (c .hidden) j, and-mask a 4, and-mask (a / 16) 4)
+    rw (shl-one (c .outputs) h, shl-one (c .observed) i, shl-one (c .hidden) j, and-mask a kindLimit, and-mask (a / kindSize) kindLimit)
 
 -- ---- the letters from place i on
 
@@ -62,10 +62,6 @@ module _ (c : Counts) (π : Trace) (i : ℕ) where
 -- whether a trace has a length that is refused
 abbrev pub badLength : Trace → Bool
 badLength π = eqb (length π) 0 || ltb traceLimit (length π)
-
-some-steps : (π : Trace) → badLength π ≡ false → 0 < length π
-some-steps [] e = absurd (false≢true (sym e))
-some-steps (a ∷ π) e = omega arith
 
 -- a step from 1 on is never 0
 bad-none : (c : Counts) (n : ℕ) (π : Trace) → stepNumber (badStep c (suc n) π) ≡ 0 → badStep c (suc n) π ≡ none
@@ -98,10 +94,6 @@ module _ (c : Counts) (π : Trace) (b : Bool) where
   verdict-judged n v l e z t = rw (l, bad-none c 0 π (sym e ∙ z), t)
 
 -- judging by a formula's parts
-pub verdict-holds : (c : Counts) (π : Trace) (φ : Formula) (w : ℕ) → length (partsOf φ) ≤ w
-    → verdictOn c π (judgedTrue (partsOf φ) w π) ≡ verdictOn c π (holds φ π)
-verdict-holds c π φ w f = go (badLength π) refl
-  where
-    go : (b : Bool) → badLength π ≡ b → verdictOn c π (judgedTrue (partsOf φ) w π) ≡ verdictOn c π (holds φ π)
-    go true l = verdict-length c π _ l ∙ sym (verdict-length c π _ l)
-    go false l = ap (verdictOn c π) (judged-holds φ w π f (some-steps π l))
+pub verdict-holds : (c : Counts) (π : Trace) (φ : Formula) → verdictOn c π (valueOn (partsOf φ) π (lastOf (partsOf φ))) ≡ verdictOn c π (holds φ π)
+verdict-holds c [] φ = verdict-length c [] _ refl ∙ sym (verdict-length c [] _ refl)
+verdict-holds c (a ∷ π) φ = ap (verdictOn c (a ∷ π)) (value-parts φ (a ∷ π))

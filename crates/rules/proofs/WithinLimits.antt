@@ -2,7 +2,7 @@
 use Rattle.basics.proofs.Booleans.{or-left, or-right}
 use Prim.Native.Nat.{ℕ, _+_, _≤_, _<_}
 use native.Mathlib.Omega.{arith}
-use mathlib.Core.Path.{_≡_, refl, subst, _∙_}
+use mathlib.Core.Path.{_≡_, refl, sym, ap, subst, _∙_}
 use mathlib.Core.Bool.{false}
 use mathlib.Core.Option.{Option, none, some}
 use mathlib.Core.List.{List}
@@ -18,13 +18,13 @@ use Rattle.formula.specs.Limits.{partLimit}
 use Rattle.formula.specs.Formula.{Formula, size, operators}
 use Rattle.formula.specs.Parts.{partsFrom, partsOf}
 use Rattle.lines.specs.Lines.{SourceLine}
-use Rattle.rules.specs.Problem.{joined, sizeIn, operatorsIn, Draft, Problem, accepted, readProblem}
+use Rattle.rules.specs.Problem.{joined, joinedLines, sizeIn, operatorsIn, Draft, partCount, operatorCount, Problem, formulaIn, problemParts, accepted, readProblem}
 use Rattle.lines.specs.Effect.{Signals, count, isFull, withSignal, joint}
 use Rattle.rules.specs.Denotes.{Reads, declared, stated, Make, done, next}
 use Rattle.formula.proofs.CodesLaws.{Held, Coded, held-binary}
 use Rattle.lines.proofs.TreeCodes.{coded-formula}
 use Rattle.lines.proofs.DeclaredNames.{leaf-values}
-use Rattle.rules.proofs.JoinedFormulas.{size-joined, operators-joined}
+use Rattle.rules.proofs.JoinedFormulas.{size-joined, operators-joined, joined-more, joined-some}
 use Rattle.rules.proofs.DenotesLaws.{read-denotes}
 
 -- few enough signals of each kind, and in all
@@ -87,9 +87,9 @@ coded-joined (some ψ) φ c d = λ n h. held-binary op.And ψ φ c d n h
 record Small (d : Draft) : Type 0 where
   few : Few (d .signals)
   named : length (d .signals .names) ≡ bits
-  coded : CodedIn (d .formula)
-  parts : sizeIn (d .formula) ≤ partLimit
-  operators : operatorsIn (d .formula) ≤ operatorLimit
+  coded : CodedIn (joinedLines (d .lines))
+  parts : partCount d ≤ partLimit
+  operators : operatorCount d ≤ operatorLimit
 
 reads-small : {d d′ : Draft} {l : List ℕ} → Small d → Reads d l d′ → Small d′
 reads-small {d} s (declared k tab word named new room) =
@@ -104,29 +104,32 @@ reads-small {d} s (stated a tab word text derives known small) =
     record {
       few = s .few;
       named = s .named;
-      coded = coded-joined (d .formula) _ (s .coded) (coded-formula (leaf-values (d .signals .names) _ (s .named)) derives);
-      parts = subst (λ n. n ≤ partLimit) (size-joined (d .formula) _) (ltb-false partLimit _ (or-left _ _ small));
+      coded =
+          subst CodedIn (sym (joined-more (d .lines) _))
+          (coded-joined (joinedLines (d .lines)) _ (s .coded) (coded-formula (leaf-values (d .signals .names) _ (s .named)) derives));
+      parts =
+          subst (λ n. n ≤ partLimit) (size-joined (joinedLines (d .lines)) _ ∙ ap sizeIn (sym (joined-more (d .lines) _)))
+          (ltb-false partLimit _ (or-left _ _ small));
       operators =
-          subst (λ n. n ≤ operatorLimit) (operators-joined (d .formula) _)
-          (ltb-false operatorLimit _ (or-right (ltb partLimit (sizeIn (d .formula) + size _ + joint (sizeIn (d .formula)))) _ small));
+          subst (λ n. n ≤ operatorLimit) (operators-joined (joinedLines (d .lines)) _ ∙ ap operatorsIn (sym (joined-more (d .lines) _)))
+          (ltb-false operatorLimit _ (or-right (ltb partLimit (partCount d + size _ + joint (partCount d))) _ small));
     }
 
 -- a problem within the limits
 pub record Within (p : Problem) : Type 0 where
   pub few : Few (p .signals)
-  pub parts : size (p .formula) ≤ partLimit
-  pub operators : operators (p .formula) ≤ operatorLimit
-  pub held : Held (partsOf (p .formula))
+  pub parts : size (formulaIn p) ≤ partLimit
+  pub operators : operators (formulaIn p) ≤ operatorLimit
+  pub held : Held (problemParts p)
 
 make-within : {d : Draft} {ls : List SourceLine} {p : Problem} → Small d → Make d ls p → Within p
 unfolding CodedIn partsOf
-make-within s (done φ e) =
-    record {
-      few = s .few;
-      held = subst CodedIn e (s .coded) 0 (omega (arith, subst (λ f. sizeIn f ≤ partLimit) e (s .parts)));
-      parts = subst (λ f. sizeIn f ≤ partLimit) e (s .parts);
-      operators = subst (λ f. operatorsIn f ≤ operatorLimit) e (s .operators);
-    }
+make-within s (done {d = d} some-line) =
+    let (φ, e) = joined-some (d .lines) some-line in
+    let small : size φ ≤ partLimit = subst (λ f. sizeIn f ≤ partLimit) e (s .parts) in
+    let few : operators φ ≤ operatorLimit = subst (λ f. operatorsIn f ≤ operatorLimit) e (s .operators) in
+    let held : Held (partsOf φ) = subst CodedIn e (s .coded) 0 (omega arith) in
+    record { few = s .few; parts = rw e small; operators = rw e few; held = rw e held }
 make-within s (next d′ r m) = make-within (reads-small s r) m
 
 -- a problem that is read is within the limits

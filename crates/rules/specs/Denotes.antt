@@ -4,7 +4,6 @@
 use Prim.Native.Nat.{ℕ, _≤_}
 use mathlib.Core.Path.{_≡_}
 use mathlib.Core.Bool.{true, false}
-use mathlib.Core.Option.{some}
 use mathlib.Core.List.{List, [], _∷_}
 use lib.ListN.{length}
 use Rattle.grammar.specs.Lex.{tokens}
@@ -16,12 +15,12 @@ use Rattle.lines.specs.declared.problem.Word.the-variants.{Declare, Rule}
 use Rattle.rules.specs.Limits.{sourceLimit}
 use Rattle.formula.specs.Formula.{Formula}
 use Rattle.lines.specs.Lines.{SourceLine, ended, lines, hasTab, firstField, secondField, wordOf, isName, isText}
-use Rattle.rules.specs.Problem.{sizeIn, operatorsIn, Draft, withDeclared, withFormula, Problem, blank}
+use Rattle.rules.specs.Problem.{partCount, operatorCount, Draft, withDeclared, withFormula, Problem, blank}
 use Rattle.lines.specs.Effect.{isDeclared, isFull, formulaOf, allDeclared, isLarge}
 
 -- the formula of a tree that is derived from a text
-abbrev formulaIn : Draft → List ℕ → Tree → Formula
-formulaIn d text a = formulaOf (leafValue (d .signals .names) text) a
+abbrev statedFormula : Draft → List ℕ → Tree → Formula
+statedFormula d text a = formulaOf (leafValue (d .signals .names) text) a
 
 -- a line takes what was read before it to what is read after it
 pub data Reads (d : Draft) (line : List ℕ) : Draft → Type 0 where
@@ -30,12 +29,12 @@ pub data Reads (d : Draft) (line : List ℕ) : Draft → Type 0 where
       → Reads d line (withDeclared k (secondField line) d)
   stated : (a : Tree) → hasTab line ≡ true → wordOf (firstField line) ≡ Rule → isText (secondField line) ≡ true
       → Derived (secondField line) a → allDeclared (d .signals) (secondField line) (tokens (secondField line) 0) ≡ true
-      → isLarge (sizeIn (d .formula)) (operatorsIn (d .formula)) (formulaIn d (secondField line) a) ≡ false
-      → Reads d line (withFormula (formulaIn d (secondField line) a) d)
+      → isLarge (partCount d) (operatorCount d) (statedFormula d (secondField line) a) ≡ false
+      → Reads d line (withFormula (statedFormula d (secondField line) a) d)
 
 -- the lines that are left make a problem of what was read
 pub data Make : Draft → List SourceLine → Problem → Type 0 where
-  done : {d : Draft} (φ : Formula) → d .formula ≡ some φ → Make d [] (record { signals = d .signals; formula = φ })
+  done : {d : Draft} → ¬ (d .lines ≡ []) → Make d [] (record { signals = d .signals; lines = d .lines })
   next : {d : Draft} {l : List ℕ} {ls : List SourceLine} {p : Problem} (d′ : Draft) → Reads d l d′ → Make d′ ls p → Make d (ended l ∷ ls) p
 
 -- the text is a problem

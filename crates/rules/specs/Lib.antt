@@ -1,6 +1,7 @@
 -- Problems and traces: reading a problem, what it denotes by the written grammar, and judging a trace.
 pub mod Limits
 pub mod Problem
+pub mod Satisfies
 pub mod Denotes
 pub mod Trace
 pub mod Judge

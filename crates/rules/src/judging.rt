@@ -3,13 +3,18 @@ ghost use mathlib.Core.Path.{_≡_};
 ghost use Prim.Native.Nat.{_≤_, _<_};
 ghost use lib.ListN.{length};
 ghost use Rattle.formula.specs.Codes.{partsIn};
-ghost use Rattle.formula.specs.Entries.{judgedTrue};
-ghost use Rattle.basics.specs.Limits.{kindLimit};
+ghost use Rattle.formula.specs.Parts.{lastOf};
+ghost use Rattle.formula.specs.Values.{valueOn};
+ghost use Rattle.basics.specs.Limits.{kindLimit, indexLimit};
 ghost use Rattle.rules.specs.Trace.{countsOf, badStep, stepNumber, verdictOn};
 ghost use Rattle.formula.specs.Letter.{isLetter};
 ghost use Rattle.rules.specs.Problem.{readProblem};
 ghost use Rattle.rules.specs.Judge.{judgedBy, judged, workAfter, Means};
 use crate::reader::read;
+use basics::HIDDEN;
+use basics::INDEX_LIMIT;
+use basics::KIND_LIMIT;
+use basics::OBSERVED;
 use basics::clear;
 use formula::holds_on;
 use lines::PART_LIMIT;
@@ -24,6 +29,9 @@ pub enum Verdict {
     Refused(Refusal),
 }
 
+// The bits of one kind of signals.
+const KIND_MASK: u16 = (1 << KIND_LIMIT) - 1;
+
 // Whether a letter has no bit without a signal.
 fn is_letter(s: Sizes, letter: u16) -> bool
     requires { ⌜ (s .outputs ≤ kindLimit) × (s .observed ≤ kindLimit) × (s .hidden ≤ kindLimit) ⌝ }
@@ -32,8 +40,8 @@ fn is_letter(s: Sizes, letter: u16) -> bool
     let outputs = s.outputs;
     let observed = s.observed;
     let hidden = s.hidden;
-    (letter & 15 < 1 << outputs)
-        & ((letter >> 4 & 15 < 1 << observed) & (letter >> 8 < 1 << hidden))
+    (letter & KIND_MASK < 1 << outputs)
+        & ((letter >> OBSERVED & KIND_MASK < 1 << observed) & (letter >> HIDDEN < 1 << hidden))
 }
 
 // The first step, counted from 1, whose letter has such a bit; 0 if there is none.
@@ -59,10 +67,10 @@ pub const WORK_SIZE: usize = 65536;
 // The verdict on a trace by a formula's parts; the entries are room to work in.
 fn judge_trace(parts: &[u32], s: Sizes, trace: &[u16], entries: &mut [u8]) -> Verdict
     requires { ⌜ 0 < length (now parts) ⌝ }
-    requires { ⌜ (length (now parts) ≤ length (now entries)) × (256 ≤ length (now entries)) ⌝ }
+    requires { ⌜ (length (now parts) ≤ length (now entries)) × (indexLimit ≤ length (now entries)) ⌝ }
     requires { ⌜ (s .outputs ≤ kindLimit) × (s .observed ≤ kindLimit) × (s .hidden ≤ kindLimit) ⌝ }
     ensures { λ r. ⌜ r ≡ verdictOn (countsOf s) (now (trace .entry))
-        (judgedTrue (partsIn (now (parts .entry))) (length (now (entries .entry))) (now (trace .entry))) ⌝ }
+        (valueOn (partsIn (now (parts .entry))) (now (trace .entry)) (lastOf (partsIn (now (parts .entry))))) ⌝ }
 {
     let steps = trace.len();
     if (steps == 0) | (steps > TRACE_LIMIT) {
@@ -81,7 +89,7 @@ fn judge_trace(parts: &[u32], s: Sizes, trace: &[u16], entries: &mut [u8]) -> Ve
 
 // The verdict on a trace by a problem's text; the entries are room to work in.
 fn judge_source(source: &[u8], trace: &[u16], entries: &mut [u8]) -> Verdict
-    requires { ⌜ 256 ≤ length (now entries) ⌝ }
+    requires { ⌜ indexLimit ≤ length (now entries) ⌝ }
     ensures { λ r. ⌜ r ≡ judgedBy (readProblem (now (source .entry))) (now (trace .entry)) ⌝ }
 {
     let mut parts = [0u32; PART_LIMIT];
@@ -104,7 +112,7 @@ pub fn judge(source: &[u8], trace: &[u16], work: &mut [u8]) -> Verdict
     if work.len() < WORK_SIZE {
         return Verdict::Refused(Refusal::ShortMemory);
     }
-    let r = judge_source(source, trace, &mut work[..256]);
+    let r = judge_source(source, trace, &mut work[..INDEX_LIMIT]);
     clear(work);
     r
 }

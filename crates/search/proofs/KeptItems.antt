@@ -1,7 +1,7 @@
 -- The items that the memory keeps while a search runs, of any length and packed in any way.
 -- Assumes nothing.
 use Prim.Native.Nat.{ℕ, _+_, _*_, _/_, _%_, _≤_, _<_}
-use native.Mathlib.Nat.{div-add-mod', mod-lt}
+use native.Mathlib.Nat.{div-add-mod'}
 use native.Mathlib.Omega.{arith}
 use mathlib.Core.Path.{_≡_, refl, sym, ap, _∙_, subst}
 use mathlib.Core.Bool.{Bool, true, false, cond}
@@ -12,54 +12,55 @@ use lib.Seq.{ext-getD, length-take-le, getD-take}
 use borrow.Author.Tests.{ltb-true, ltb-false}
 use borrow.Rule.Slice.PartMut.{putMid}
 use Rattle.search.specs.declared.searching.Explored.the-variants.{Found, TooMany}
-use Rattle.search.specs.Limits.{setSize}
 use Rattle.search.specs.Slots.{itemsIn, HoldsItems, countUpTo}
-use Rattle.basics.proofs.EqualRows.{length-rows, getD-rows}
+use Rattle.basics.proofs.EqualRows.{row-ends, row-at, length-rows, getD-rows}
 use Rattle.basics.proofs.LentPart.{mid-in}
 use Rattle.search.proofs.SlotsLaws.{length-itemsIn, getD-itemsIn, Packing, items-more, holds-more}
 
-module _ (len : ℕ) (pack : List Bool → List ℕ) (packing : Packing len pack) (mem : List ℕ) (n : ℕ) where
+module _ (w len : ℕ) (pack : List Bool → List ℕ) (packing : Packing w len pack) (mem : List ℕ) (n : ℕ) where
   -- what holds items begins with their bytes
-  pub holds-bytes : n * setSize ≤ length mem → HoldsItems len pack mem n → take (n * setSize) mem ≡ flatMap pack (itemsIn len mem n)
+  pub holds-bytes : n * w ≤ length mem → HoldsItems w len pack mem n → take (n * w) mem ≡ flatMap pack (itemsIn w len mem n)
   holds-bytes room h = ext-getD 0 _ _ (cut ∙ sym whole) (λ y l. entry y (subst (λ m. y < m) cut l))
     where
-      cut : length (take (n * setSize) mem) ≡ n * setSize
-      cut = length-take-le (n * setSize) mem room
+      cut : length (take (n * w) mem) ≡ n * w
+      cut = length-take-le (n * w) mem room
 
-      whole : length (flatMap pack (itemsIn len mem n)) ≡ n * setSize
-      whole = length-rows setSize pack (packing .size) (itemsIn len mem n) ∙ ap (λ m. m * setSize) (length-itemsIn len mem n)
+      whole : length (flatMap pack (itemsIn w len mem n)) ≡ n * w
+      whole = length-rows w pack (packing .size) (itemsIn w len mem n) ∙ ap (λ m. m * w) (length-itemsIn w len mem n)
 
-      cell : (i b : ℕ) → i < n → b < setSize → getD (take (n * setSize) mem) (i * setSize + b) 0 ≡ getD (flatMap pack (itemsIn len mem n)) (i * setSize + b) 0
+      cell : (i b : ℕ) → i < n → b < w → getD (take (n * w) mem) (i * w + b) 0 ≡ getD (flatMap pack (itemsIn w len mem n)) (i * w + b) 0
       cell i b l m =
-          getD-take (n * setSize) mem (i * setSize + b) 0 (omega arith) ∙ h .slot i b l m
-          ∙ sym (getD-rows setSize pack (packing .size) (itemsIn len mem n) [] i b (subst (λ k. i < k) (sym (length-itemsIn len mem n)) l) m
-          ∙ ap (λ s. getD (pack s) b 0) (getD-itemsIn len mem n i [] l))
+          getD-take (n * w) mem (i * w + b) 0 (omega (arith, row-ends w n i l)) ∙ h .slot i b l m
+          ∙ sym (getD-rows w pack (packing .size) (itemsIn w len mem n) [] i b (subst (λ k. i < k) (sym (length-itemsIn w len mem n)) l) m
+          ∙ ap (λ s. getD (pack s) b 0) (getD-itemsIn w len mem n i [] l))
 
-      entry : (y : ℕ) → y < n * setSize → getD (take (n * setSize) mem) y 0 ≡ getD (flatMap pack (itemsIn len mem n)) y 0
+      entry : (y : ℕ) → y < n * w → getD (take (n * w) mem) y 0 ≡ getD (flatMap pack (itemsIn w len mem n)) y 0
       entry y l =
-          subst (λ k. getD (take (n * setSize) mem) k 0 ≡ getD (flatMap pack (itemsIn len mem n)) k 0) (div-add-mod' y setSize)
-          (cell (y / setSize) (y % setSize) (omega arith) (mod-lt y (omega arith)))
+          subst (λ k. getD (take (n * w) mem) k 0 ≡ getD (flatMap pack (itemsIn w len mem n)) k 0) (div-add-mod' y w)
+          (cell (y / w) (y % w) (row-at w n y l .0) (row-at w n y l .1))
 
 -- ---- the first item
 
-module _ (len : ℕ) (pack : List Bool → List ℕ) (packing : Packing len pack) (first : List Bool) (long : length first ≡ len)
-    (k : ℕ) (mem bytes : List ℕ) (is : bytes ≡ pack first) (size : k ≡ setSize) (room : setSize ≤ length mem) where
-  begun : (b : ℕ) → b < setSize → getD (putMid 0 k mem bytes) (0 * setSize + b) 0 ≡ getD (pack first) b 0
+module _ (w len : ℕ) (pack : List Bool → List ℕ) (packing : Packing w len pack) (first : List Bool) (long : length first ≡ len)
+    (k : ℕ) (mem bytes : List ℕ) (is : bytes ≡ pack first) (size : k ≡ w) (room : w ≤ length mem) where
+  begun : (b : ℕ) → b < w → getD (putMid 0 k mem bytes) (0 * w + b) 0 ≡ getD (pack first) b 0
   begun b h =
-      mid-in mem 0 k bytes (omega arith) (ap length is ∙ packing .size first ∙ sym size) b (omega arith) ∙ ap (λ l. getD l b 0) is
+      let z : 0 * w + b ≡ 0 + b = omega arith in
+      ap (λ y. getD (putMid 0 k mem bytes) y 0) z ∙ mid-in mem 0 k bytes (omega arith)
+      (ap length is ∙ packing .size first ∙ sym size) b (omega arith) ∙ ap (λ l. getD l b 0) is
 
-  none : HoldsItems len pack mem 0
+  none : HoldsItems w len pack mem 0
   none = record { slot = λ i b h. absurd (omega arith) }
 
-  nothing : (y : ℕ) → y < 0 * setSize → getD (putMid 0 k mem bytes) y 0 ≡ getD mem y 0
+  nothing : (y : ℕ) → y < 0 * w → getD (putMid 0 k mem bytes) y 0 ≡ getD mem y 0
   nothing y h = absurd (omega arith)
 
-  pub first-items : itemsIn len (putMid 0 k mem bytes) 1 ≡ first ∷ []
+  pub first-items : itemsIn w len (putMid 0 k mem bytes) 1 ≡ first ∷ []
   unfolding itemsIn
-  first-items = items-more len pack packing mem (putMid 0 k mem bytes) 0 none nothing first long begun
+  first-items = items-more w len pack packing mem (putMid 0 k mem bytes) 0 none nothing first long begun
 
-  pub first-holds : HoldsItems len pack (putMid 0 k mem bytes) 1
-  first-holds = holds-more len pack packing mem (putMid 0 k mem bytes) 0 none nothing first long begun
+  pub first-holds : HoldsItems w len pack (putMid 0 k mem bytes) 1
+  first-holds = holds-more w len pack packing mem (putMid 0 k mem bytes) 0 none nothing first long begun
 
 -- ---- how many there are
 

@@ -6,6 +6,7 @@ pub mod SlotBytes
 pub mod SlotsLaws
 pub mod HalfSets
 pub mod PackedSets
+pub mod LimitsLaws
 pub mod KeptItems
 -- the search, step by step and turn by turn
 pub mod StepsFromItem

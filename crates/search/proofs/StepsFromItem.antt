@@ -12,13 +12,12 @@ use lib.Seq.{getD-set-same, getD-set-other, ext-getD}
 use borrow.Author.Tests.{lt-ltb, le-ltb}
 use Rattle.search.specs.declared.searching.Explored.{Explored}
 use Rattle.search.specs.declared.searching.Explored.the-variants.{Found, TooMany}
-use Rattle.search.specs.Limits.{setSize}
 use Rattle.basics.specs.Bounded.{firstThat}
 use Rattle.basics.specs.Lists.{below}
 use Rattle.basics.specs.Reach.{isIn, indexIn, addNew}
 use Rattle.search.specs.ReachableSets.{sameSet}
 use Rattle.basics.specs.Successors.{grownOver, rowOver}
-use Rattle.search.specs.Slots.{itemsIn, HoldsItems, withSet, sameSlot, countUpTo, ExpandedItems}
+use Rattle.search.specs.Slots.{itemsIn, HoldsItems, withItem, sameSlot, countUpTo, ExpandedItems}
 use Rattle.basics.proofs.ListsLaws.{length-map-below, getD-map-below}
 use Rattle.basics.proofs.BoundedLaws.{first-le, last-or-before}
 use Rattle.basics.proofs.GrowingList.{index-last, index-added, add-old, add-new, all-none, all-more, all-longer}
@@ -26,7 +25,7 @@ use Rattle.search.proofs.ReachableSetsLaws.{sameSet-says}
 use Rattle.search.proofs.SlotsLaws
 
 -- step a leads from item s to f s a; the items xs are there before
-module _ (len : ℕ) (pack : List Bool → List ℕ) (f : List Bool → ℕ → List Bool) (s : List Bool) (xs : List (List Bool)) where
+module _ (w len : ℕ) (pack : List Bool → List ℕ) (f : List Bool → ℕ → List Bool) (s : List Bool) (xs : List (List Bool)) where
   -- the items after the first a steps
   abbrev grownTo : ℕ → List (List Bool)
   grownTo a = grownOver sameSet f (below a) xs s
@@ -37,24 +36,24 @@ module _ (len : ℕ) (pack : List Bool → List ℕ) (f : List Bool → ℕ → 
 
   -- after the first a steps there are m items in memory, and the row has the place of each
   pub record Reading (a m : ℕ) (mem row : List ℕ) : Type 0 where
-    pub items : itemsIn len mem m ≡ grownTo a
-    pub holds : HoldsItems len pack mem m
+    pub items : itemsIn w len mem m ≡ grownTo a
+    pub holds : HoldsItems w len pack mem m
     pub entry : (b : ℕ) → b < a → getD row b 0 ≡ indexIn sameSet (f s b) (grownTo a)
     pub there : (b : ℕ) → b < a → isIn sameSet (f s b) (grownTo a) ≡ true
 
-  pub reading-none : (n : ℕ) (mem row : List ℕ) → itemsIn len mem n ≡ xs → HoldsItems len pack mem n → Reading 0 n mem row
+  pub reading-none : (n : ℕ) (mem row : List ℕ) → itemsIn w len mem n ≡ xs → HoldsItems w len pack mem n → Reading 0 n mem row
   unfolding grownOver
   reading-none n mem row e g =
       record { items = e ∙ sym (all-none sameSet (f s) xs); holds = g; entry = λ b h. absurd (omega arith); there = λ b h. absurd (omega arith) }
 
   reading-count : (a m : ℕ) (mem row : List ℕ) → Reading a m mem row → length (grownTo a) ≡ m
-  reading-count a m mem row r = ap length (sym (r .items)) ∙ SlotsLaws.length-itemsIn len mem m
+  reading-count a m mem row r = ap length (sym (r .items)) ∙ SlotsLaws.length-itemsIn w len mem m
 
   -- one more
-  reading-more : (a m m′ : ℕ) (mem w row : List ℕ) (y : ℕ) → a < length row → Reading a m mem row → itemsIn len w m′ ≡ grownTo (a + 1) → HoldsItems
-      len pack w m′
-      → (indexIn sameSet (f s a) (grownTo (a + 1)) ≡ y) × (isIn sameSet (f s a) (grownTo (a + 1)) ≡ true) → Reading (a + 1) m′ w (set row a y)
-  reading-more a m m′ mem w row y l r e k q =
+  reading-more : (a m m′ : ℕ) (mem new row : List ℕ) (y : ℕ) → a < length row → Reading a m mem row
+      → itemsIn w len new m′ ≡ grownTo (a + 1) → HoldsItems w len pack new m′
+      → (indexIn sameSet (f s a) (grownTo (a + 1)) ≡ y) × (isIn sameSet (f s a) (grownTo (a + 1)) ≡ true) → Reading (a + 1) m′ new (set row a y)
+  reading-more a m m′ mem new row y l r e k q =
       record {
         items = e;
         holds = k;
@@ -90,7 +89,7 @@ module _ (len : ℕ) (pack : List Bool → List ℕ) (f : List Bool → ℕ → 
 
   abbrev pub Answers : (limit count : ℕ) → Explored → List ℕ → List ℕ → Type 0
   Answers limit count r mem row =
-      (r ≡ countUpTo limit (grownTo count)) × ExpandedItems len pack limit (grownTo count) (rowOver sameSet f (below count) (grownTo count) s) mem row
+      (r ≡ countUpTo limit (grownTo count)) × ExpandedItems w len pack limit (grownTo count) (rowOver sameSet f (below count) (grownTo count) s) mem row
 
   module _ {limit count size a m : ℕ} {mem row : List ℕ} (z : Adding limit count size a m mem row) where
     -- every step has been taken
@@ -101,19 +100,19 @@ module _ (len : ℕ) (pack : List Bool → List ℕ) (f : List Bool → ℕ → 
         let many : length (grownTo count) ≡ m = reading-count count m mem row r in (
           sym (rw (many, le-ltb limit m (z .1))),
           record {
-            items-in = λ l. ap (itemsIn len mem) many ∙ r .items;
-            holds = λ l. subst (HoldsItems len pack mem) (sym many) (r .holds);
+            items-in = λ l. ap (itemsIn w len mem) many ∙ r .items;
+            holds = λ l. subst (HoldsItems w len pack mem) (sym many) (r .holds);
             row-is = λ l. reading-row count m mem row r (z .3);
           },
         )
 
     module _ (l : a < length row) where
       -- one more
-      adding-more : (m′ : ℕ) (w : List ℕ) (y : ℕ) → m′ ≤ limit → length w ≡ size → itemsIn len w m′ ≡ grownTo (a + 1) → HoldsItems len pack w m′
-          → (indexIn sameSet (f s a) (grownTo (a + 1)) ≡ y) × (isIn sameSet (f s a) (grownTo (a + 1)) ≡ true) → Adding limit count size (a + 1) m′ w
-          (set row a y)
-      adding-more m′ w y few long e k q =
-          (omega (arith, l, z .3), few, long, length-set row a y ∙ z .3, reading-more a m m′ mem w row y l (z .4) e k q)
+      adding-more : (m′ : ℕ) (new : List ℕ) (y : ℕ) → m′ ≤ limit → length new ≡ size → itemsIn w len new m′ ≡ grownTo (a + 1)
+          → HoldsItems w len pack new m′ → (indexIn sameSet (f s a) (grownTo (a + 1)) ≡ y) × (isIn sameSet (f s a) (grownTo (a + 1)) ≡ true)
+          → Adding limit count size (a + 1) m′ new (set row a y)
+      adding-more m′ new y few long e k q =
+          (omega (arith, l, z .3), few, long, length-set row a y ∙ z .3, reading-more a m m′ mem new row y l (z .4) e k q)
 
       -- the same item as an earlier step's: its place is copied
       pub adding-copy : (b : ℕ) → b < a → f s b ≡ f s a → Adding limit count size (a + 1) m mem (set row a (getD row b 0))
@@ -124,48 +123,48 @@ module _ (len : ℕ) (pack : List Bool → List ℕ) (f : List Bool → ℕ → 
           adding-more m mem (getD row b 0) (z .1) (z .2) (z .4 .items ∙ sym same) (z .4 .holds) (rw same (index, there))
 
       -- the item is written behind the others, and the first place with its bytes is t
-      module _ (packing : SlotsLaws.Packing len pack) (whole : size ≡ (limit + 1) * setSize) (long : length (f s a) ≡ len) (w : List ℕ) (t : ℕ)
-          (written : w ≡ withSet mem m (pack (f s a))) (first : t ≡ firstThat (sameSlot w m) m) where
-        room : m * setSize + setSize ≤ length mem
-        room = omega (arith, z .1, z .2, whole)
+      module _ (packing : SlotsLaws.Packing w len pack) (whole : size ≡ (limit + 1) * w) (long : length (f s a) ≡ len) (new : List ℕ) (t : ℕ)
+          (written : new ≡ withItem w mem m (pack (f s a))) (first : t ≡ firstThat (sameSlot w new m) m) where
+        room : m * w + w ≤ length mem
+        room = SlotsLaws.place-room w limit m (length mem) (z .1) (z .2 ∙ whole)
 
-        kept : length w ≡ size
-        kept = ap length written ∙ SlotsLaws.with-length mem (pack (f s a)) m room (packing .size (f s a)) ∙ z .2
+        kept : length new ≡ size
+        kept = ap length written ∙ SlotsLaws.with-length w mem (pack (f s a)) m room (packing .size (f s a)) ∙ z .2
 
-        before : (k : ℕ) → k < m * setSize → getD w k 0 ≡ getD mem k 0
-        before k h = ap (λ v. getD v k 0) written ∙ SlotsLaws.with-before mem (pack (f s a)) m room k h
+        before : (k : ℕ) → k < m * w → getD new k 0 ≡ getD mem k 0
+        before k h = ap (λ v. getD v k 0) written ∙ SlotsLaws.with-before w mem (pack (f s a)) m room k h
 
-        behind : (b : ℕ) → b < setSize → getD w (m * setSize + b) 0 ≡ getD (pack (f s a)) b 0
-        behind b h = ap (λ v. getD v (m * setSize + b) 0) written ∙ SlotsLaws.with-there mem (pack (f s a)) m room (packing .size (f s a)) b h
+        behind : (b : ℕ) → b < w → getD new (m * w + b) 0 ≡ getD (pack (f s a)) b 0
+        behind b h = ap (λ v. getD v (m * w + b) 0) written ∙ SlotsLaws.with-there w mem (pack (f s a)) m room (packing .size (f s a)) b h
 
         place-le : t ≤ m
-        place-le = rw first (first-le (sameSlot w m) m)
+        place-le = rw first (first-le (sameSlot w new m) m)
 
         -- it was there before
-        pub adding-old : (t ≡ m → ⊥) → Adding limit count size (a + 1) m w (set row a t)
+        pub adding-old : (t ≡ m → ⊥) → Adding limit count size (a + 1) m new (set row a t)
         adding-old ne =
-            let old : (indexIn sameSet (f s a) (itemsIn len mem m) ≡ t) × (isIn sameSet (f s a) (itemsIn len mem m) ≡ true)
-            = SlotsLaws.place-old len pack packing mem w m (z .4 .holds) before (f s a) long behind t first (omega (arith, place-le, ne)) in
+            let old : (indexIn sameSet (f s a) (itemsIn w len mem m) ≡ t) × (isIn sameSet (f s a) (itemsIn w len mem m) ≡ true)
+            = SlotsLaws.place-old w len pack packing mem new m (z .4 .holds) before (f s a) long behind t first (omega (arith, place-le, ne)) in
             let q : (indexIn sameSet (f s a) (grownTo a) ≡ t) × (isIn sameSet (f s a) (grownTo a) ≡ true) = rw (z .4 .items) at old in
             let same : grownTo (a + 1) ≡ grownTo a = to-more a ∙ add-old sameSet (grownTo a) (f s a) (q .1) in
-            adding-more m w t (z .1) kept (SlotsLaws.items-kept len pack packing mem w m (z .4 .holds) before ∙ z .4 .items ∙ sym same)
-            (SlotsLaws.holds-kept len pack packing mem w m (z .4 .holds) before) (rw same q)
+            adding-more m new t (z .1) kept (SlotsLaws.items-kept w len pack packing mem new m (z .4 .holds) before ∙ z .4 .items ∙ sym same)
+            (SlotsLaws.holds-kept w len pack packing mem new m (z .4 .holds) before) (rw same q)
 
         module _ (e : t ≡ m) where
           is-new : isIn sameSet (f s a) (grownTo a) ≡ false
-          is-new = rw (← z .4 .items) (SlotsLaws.place-new len pack packing mem w m (z .4 .holds) before (f s a) long behind t first e)
+          is-new = rw (← z .4 .items) (SlotsLaws.place-new w len pack packing mem new m (z .4 .holds) before (f s a) long behind t first e)
 
           new-items : grownTo (a + 1) ≡ grownTo a ++ (f s a ∷ [])
           new-items = to-more a ∙ add-new sameSet (grownTo a) (f s a) is-new
 
           -- it is new
-          pub adding-new : (m ≡ limit → ⊥) → Adding limit count size (a + 1) (m + 1) w (set row a t)
+          pub adding-new : (m ≡ limit → ⊥) → Adding limit count size (a + 1) (m + 1) new (set row a t)
           adding-new ne =
               let q = index-last sameSet (f s a) (grownTo a) (sameSet-says (f s a) (f s a) .1 refl) is-new in
-              adding-more (m + 1) w t (omega (arith, z .1, ne)) kept
-              (SlotsLaws.items-more len pack packing mem w m (z .4 .holds) before (f s a) long behind ∙ ap (λ ys. ys ++ (f s a ∷ [])) (z .4 .items) ∙
-              sym new-items)
-              (SlotsLaws.holds-more len pack packing mem w m (z .4 .holds) before (f s a) long behind)
+              adding-more (m + 1) new t (omega (arith, z .1, ne)) kept
+              (SlotsLaws.items-more w len pack packing mem new m (z .4 .holds) before (f s a) long behind
+              ∙ ap (λ ys. ys ++ (f s a ∷ [])) (z .4 .items) ∙ sym new-items)
+              (SlotsLaws.holds-more w len pack packing mem new m (z .4 .holds) before (f s a) long behind)
               (rw new-items (q .0 ∙ reading-count a m mem row (z .4) ∙ sym e, q .1))
 
           -- it is new, and no place is left for it

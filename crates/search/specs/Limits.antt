@@ -18,3 +18,7 @@ setSize = 2 ^ suc operatorLimit / 8
 -- entries of a letter's map: one for each pattern of the operators alone
 abbrev pub mapSize : ℕ
 mapSize = 2 ^ operatorLimit
+
+-- bytes of places that are compared at a time
+abbrev pub runSize : ℕ
+runSize = 8

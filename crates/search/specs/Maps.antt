@@ -3,15 +3,14 @@
 -- Assumes nothing.
 use Prim.Native.Nat.{ℕ, suc, _+_, _-_, _*_, _%_, _^_, _≤_, _<_}
 use mathlib.Core.Path.{_≡_}
-use mathlib.Core.Bool.{cond}
 use mathlib.Core.List.{List}
-use lib.Dec.{ltb}
 use lib.ListN.{getD}
+use Rattle.basics.specs.Limits.{wordBits, wordSize}
 use Rattle.search.specs.Limits.{mapSize}
 
--- how many planes, of 64 patterns each, d operators take
+-- how many planes, of a word of patterns each, d operators take
 unfoldable pub planesOf : ℕ → ℕ
-planesOf d = cond (ltb d 7) 1 (2 ^ (d - 6))
+planesOf d = 2 ^ (d - wordBits)
 
 -- what letter a carries pattern p back to; the bit of the whole formula, bit d, is not read
 unfoldable pub mapIn : List ℕ → List ℕ → ℕ → ℕ → ℕ → ℕ
@@ -22,4 +21,4 @@ pub record Maps (d n : ℕ) (maps firsts : List ℕ) : Type 0 where
   pub before : (a : ℕ) → a < n → getD firsts a 0 ≤ a
   pub first : (a : ℕ) → a < n → getD firsts (getD firsts a 0) 0 ≡ getD firsts a 0
   pub fits : (a p : ℕ) → a < n → mapIn maps firsts d a p < 2 ^ suc d
-  pub entry : (a p : ℕ) → a < n → p < planesOf d * 64 → getD maps (getD firsts a 0 * mapSize + p) 0 ≡ mapIn maps firsts d a p
+  pub entry : (a p : ℕ) → a < n → p < planesOf d * wordSize → getD maps (getD firsts a 0 * mapSize + p) 0 ≡ mapIn maps firsts d a p

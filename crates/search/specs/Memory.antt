@@ -1,9 +1,8 @@
 -- Sets of patterns in memory, and what the search for all states leaves there.
 -- Assumes nothing.
 use Prim.Native.Nat.{ℕ, suc, _+_, _-_, _*_, _/_, _%_, _^_, _<_}
-use mathlib.Core.Bool.{cond}
 use mathlib.Core.List.{List}
-use lib.Dec.{eqb, ltb}
+use lib.Dec.{eqb}
 use lib.ListN.{length, getD}
 use Rattle.basics.specs.Bits.{bit, digit, fromBits}
 use Rattle.basics.specs.Lists.{tabulate}
@@ -17,9 +16,9 @@ use Rattle.search.specs.Slots.{bitBytes, itemIn, itemsIn, HoldsItems, co
 
 -- ---- one set
 
--- a set's table, repeated to fill its bytes
-unfoldable pub packed : PatternSet → List ℕ
-packed s = bitBytes (λ p. member s (p % length s))
+-- a set's table, repeated to fill w bytes
+unfoldable pub packed : ℕ → PatternSet → List ℕ
+packed w s = bitBytes w (λ p. member s (p % length s))
 
 -- byte i of the start set: the patterns with bit d
 unfoldable pub startByte : ℕ → ℕ → ℕ
@@ -27,11 +26,11 @@ startByte d i = fromBits (tabulate 8 (λ j. bit (i * 8 + j) d))
 
 -- the bits of some bytes, one number each
 unfoldable pub spread : List ℕ → List ℕ
-spread bytes = tabulate (setSize * 8) (λ p. digit (bit (getD bytes (p / 8) 0) (p % 8)))
+spread bytes = tabulate (length bytes * 8) (λ p. digit (bit (getD bytes (p / 8) 0) (p % 8)))
 
--- every entry is a bit
-pub record Binary (xs : List ℕ) : Type 0 where
-  pub small : (p : ℕ) → getD xs p 0 < 2
+-- the first k entries are below n
+pub record EachBelow (k n : ℕ) (xs : List ℕ) : Type 0 where
+  pub small : (i : ℕ) → i < k → getD xs i 0 < n
 
 -- byte b of the next set, from the bits of the present one and a letter's map
 unfoldable pub nextByte : List ℕ → List ℕ → ℕ → ℕ
@@ -39,28 +38,32 @@ nextByte present entries b = fromBits (tabulate 8 (λ j. eqb (getD present (getD
 
 -- the first h bytes again and again
 unfoldable pub repeated : ℕ → List ℕ → List ℕ
-repeated h bytes = tabulate setSize (λ b. getD bytes (b % h) 0)
+repeated h bytes = tabulate (length bytes) (λ b. getD bytes (b % h) 0)
 
--- the bytes of the next set, of which the first h differ: the whole formula's bit is not read
-unfoldable pub nextBytes : List ℕ → List ℕ → ℕ → List ℕ
-nextBytes present entries h = tabulate setSize (λ b. nextByte present entries (b % h))
+-- the w bytes of the next set, of which the first h differ: the whole formula's bit is not read
+unfoldable pub nextBytes : ℕ → List ℕ → List ℕ → ℕ → List ℕ
+nextBytes w present entries h = tabulate w (λ b. nextByte present entries (b % h))
 
--- how many bytes of a set over d operators differ once a letter was read
+-- how many bytes of a set over d operators differ once a letter was read, one at least
 unfoldable pub halfOf : ℕ → ℕ
-halfOf d = cond (ltb d 3) 1 (2 ^ (d - 3))
+halfOf d = 2 ^ (d - 3)
 
 -- ---- sets as items of memory
 
+-- a set's bytes in its place
+abbrev pub setBytes : PatternSet → List ℕ
+setBytes = packed setSize
+
 -- set i of some memory
 abbrev pub setIn : ℕ → List ℕ → ℕ → PatternSet
-setIn d = itemIn (2 ^ suc d)
+setIn d = itemIn setSize (2 ^ suc d)
 
 abbrev pub setsIn : ℕ → List ℕ → ℕ → List PatternSet
-setsIn d = itemsIn (2 ^ suc d)
+setsIn d = itemsIn setSize (2 ^ suc d)
 
 -- the memory begins with n sets
 abbrev pub Holds : ℕ → List ℕ → ℕ → Type 0
-Holds d = HoldsItems (2 ^ suc d) packed
+Holds d = HoldsItems setSize (2 ^ suc d) setBytes
 
 -- ---- reading every letter in one state
 
@@ -76,16 +79,16 @@ abbrev pub countOf : List PatternSet → Explored
 countOf = countUpTo stateLimit
 
 abbrev pub Expanded : ℕ → List PatternSet → List ℕ → List ℕ → List ℕ → Type 0
-Expanded d = ExpandedItems (2 ^ suc d) packed stateLimit
+Expanded d = ExpandedItems setSize (2 ^ suc d) setBytes stateLimit
 
 -- ---- what the search leaves
 
 abbrev pub setsOf : Listing PatternSet → List ℕ
-setsOf = itemsOf packed
+setsOf = itemsOf setBytes
 
 -- a row for each set, of as many entries as there can be letters
 abbrev pub successorsOf : ℕ → (ℕ → ℕ → ℕ) → List ℕ → Listing PatternSet → List ℕ
 successorsOf d back letters = rowsOver sameSet (next d back) letters letterLimit
 
 abbrev pub Ran : ℕ → (ℕ → ℕ → ℕ) → List ℕ → Listing PatternSet → List ℕ → List ℕ → Type 0
-Ran d back letters = RanItems packed (next d back) letters letterLimit
+Ran d back letters = RanItems setSize setBytes (next d back) letters letterLimit

@@ -7,7 +7,6 @@ mod sizes;
 pub use searching::Explored;
 pub use searching::search;
 pub use sets::find;
-pub use sets::put_spread;
 pub use sets::same_slot;
 pub use sizes::LETTER_LIMIT;
 pub use sizes::MAP;

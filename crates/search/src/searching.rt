@@ -3,13 +3,15 @@
 ghost use mathlib.Core.Path.{_≡_};
 ghost use Prim.Native.Nat.{_+_, _*_, _≤_, _<_};
 ghost use lib.ListN.{length, replicate};
+ghost use Rattle.basics.specs.Limits.{operatorLimit};
 ghost use Rattle.search.specs.Limits.{stateLimit, letterLimit, setSize, mapSize};
 ghost use Rattle.basics.specs.Bounded.{firstThat};
 ghost use Rattle.basics.specs.Lists.{below, padded};
 ghost use Rattle.search.specs.ReachableSets.{reachableSets};
 ghost use Rattle.search.specs.Maps.{mapIn, Maps};
-ghost use Rattle.search.specs.Slots.{withSet, sameSlot, exploredOf};
-ghost use Rattle.search.specs.Memory.{halfOf, Binary, nextBytes, setIn, setsIn, Holds, grown, rowOf, countOf, Expanded, Ran, setsOf, successorsOf};
+ghost use Rattle.search.specs.Slots.{withItem, sameSlot, exploredOf};
+ghost use Rattle.search.specs.Memory.{halfOf, EachBelow, nextBytes, setIn, setsIn, Holds};
+ghost use Rattle.search.specs.Memory.{grown, rowOf, countOf, Expanded, Ran, setsOf, successorsOf};
 use crate::sets::find;
 use crate::sets::put_next;
 use crate::sets::put_spread;
@@ -28,7 +30,7 @@ pub enum Explored {
 
 // How many bytes of a set differ once a letter was read.
 fn half_of(d: usize) -> usize
-    requires { ⌜ d < 8 ⌝ }
+    requires { ⌜ d ≤ operatorLimit ⌝ }
     ensures { λ r. ⌜ r ≡ halfOf d ⌝ }
 {
     if d < 3 { 1 } else { 1 << (d - 3) }
@@ -36,19 +38,20 @@ fn half_of(d: usize) -> usize
 
 // Writes the next set into place m, and answers the first place with the same bytes.
 fn put_set(present: &[u8], entries: &[u8], h: usize, m: usize, mem: &mut [u8]) -> usize
-    requires { ⌜ length (now present) ≡ setSize * 8 ⌝ }
-    requires { ⌜ Binary (now present) ⌝ }
-    requires { ⌜ length (now entries) ≡ mapSize ⌝ }
+    requires { ⌜ EachBelow (length (now present)) 2 (now present) ⌝ }
+    requires { ⌜ h * 8 ≤ length (now entries) ⌝ }
+    requires { ⌜ EachBelow (h * 8) (length (now present)) (now entries) ⌝ }
     requires { ⌜ 0 < h ⌝ }
-    requires { ⌜ h * 8 ≤ mapSize ⌝ }
+    requires { ⌜ h ≤ setSize ⌝ }
     requires { ⌜ m ≤ stateLimit ⌝ }
     requires { ⌜ length (now mem) ≡ (stateLimit + 1) * setSize ⌝ }
-    ensures { λ r. ⌜ r ≡ firstThat (sameSlot (withSet (now (mem .entry)) m (nextBytes (now (present .entry)) (now (entries .entry)) h)) m) m ⌝ }
-    ensures { λ _. ⌜ now (mem .exit) ≡ withSet (now (mem .entry)) m (nextBytes (now (present .entry)) (now (entries .entry)) h) ⌝ }
+    ensures { λ r. ⌜ r ≡ firstThat (sameSlot setSize (withItem setSize (now (mem .entry)) m
+        (nextBytes setSize (now (present .entry)) (now (entries .entry)) h)) m) m ⌝ }
+    ensures { λ _. ⌜ now (mem .exit) ≡ withItem setSize (now (mem .entry)) m (nextBytes setSize (now (present .entry)) (now (entries .entry)) h) ⌝ }
 {
     let at = m * SET;
     put_next(present, entries, h, &mut mem[at..at + SET]);
-    find(mem, m)
+    find(mem, SET, m)
 }
 
 // Reads every letter in set i, of n. Writes the sets that are new behind the others, and for each letter the number of the set
@@ -62,7 +65,7 @@ fn expand(
     mem: &mut [u8],
     row: &mut [u8],
 ) -> Explored
-    requires { ⌜ d < 8 ⌝ }
+    requires { ⌜ d ≤ operatorLimit ⌝ }
     requires { ⌜ length (now maps) ≡ letterLimit * mapSize ⌝ }
     requires { ⌜ length (now firsts) ≡ letterLimit ⌝ }
     requires { ⌜ length (now row) ≤ letterLimit ⌝ }
@@ -81,7 +84,7 @@ fn expand(
         (setIn d (now (mem .entry)) i))
         (now (mem .exit)) (now (row .exit)) ⌝ }
 {
-    let mut present = [0u8; 256];
+    let mut present = [0u8; SET * 8];
     let place = i * SET;
     put_spread(&mem[place..place + SET], &mut present);
     let h = half_of(d);
@@ -117,7 +120,7 @@ fn run(
     mem: &mut [u8],
     successors: &mut [u8],
 ) -> Explored
-    requires { ⌜ d < 8 ⌝ }
+    requires { ⌜ d ≤ operatorLimit ⌝ }
     requires { ⌜ length (now maps) ≡ letterLimit * mapSize ⌝ }
     requires { ⌜ length (now firsts) ≡ letterLimit ⌝ }
     requires { ⌜ count ≤ letterLimit ⌝ }
@@ -157,7 +160,7 @@ pub fn search(
     mem: &mut [u8],
     successors: &mut [u8],
 ) -> Explored
-    requires { ⌜ d < 8 ⌝ }
+    requires { ⌜ d ≤ operatorLimit ⌝ }
     requires { ⌜ length (now maps) ≡ letterLimit * mapSize ⌝ }
     requires { ⌜ length (now firsts) ≡ letterLimit ⌝ }
     requires { ⌜ count ≤ letterLimit ⌝ }

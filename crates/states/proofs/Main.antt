@@ -10,6 +10,7 @@ use Rattle.basics.specs.Limits.{kindLimit}
 use Rattle.formula.specs.declared.parts.Part.{Part}
 use Rattle.formula.specs.Parts.{lastOf, partsOf}
 use Rattle.formula.specs.Semantics.{Trace, Sat}
+use Rattle.formula.specs.Values.{valueOn}
 use Rattle.formula.specs.Letter.{Counts, isLetter}
 use Rattle.basics.specs.Member.{_∈_, Distinct}
 use Rattle.search.specs.PatternSet.{PatternSet, member, accepts}
@@ -26,6 +27,10 @@ use Rattle.obligations.proofs.LettersLaws
 -- the states accept exactly the traces that satisfy the formula
 pub acceptance : (φ : Formula) (π : Trace) → 0 < length π → (accepts (stateAfter (partsOf φ) π) ≡ true) ↔ Sat π 0 φ
 acceptance = Acceptance.accepts-iff-Sat
+
+-- they accept exactly the traces on which the last part is true, for any parts
+pub acceptance-of-parts : (ps : List Part) (a : ℕ) (π : Trace) → accepts (stateAfter ps (a ∷ π)) ≡ valueOn ps (a ∷ π) (lastOf ps)
+acceptance-of-parts = Acceptance.accepts-value
 
 -- the start does not accept
 pub start-rejects : (ps : List Part) → accepts (startState ps) ≡ false

@@ -13,8 +13,8 @@ use borrow.Rule.Slice.PartMut.{putMid}
 use Rattle.formula.specs.declared.parts.Part.{Part}
 use Rattle.basics.proofs.ListsLaws.{length-tabulate, getD-tabulate, tabulate-append}
 use Rattle.obligations.specs.Words.{backLanes}
-use Rattle.obligations.specs.Values.{blockSize}
-use Rattle.states.specs.Planes.{slotSize, planeSize, plane, planesTo}
+use Rattle.states.specs.Limits.{slotSize, planeSize}
+use Rattle.states.specs.Planes.{slotAt, plane, planesTo}
 use Rattle.basics.proofs.Stores.{getD-sets-other, getD-sets-same}
 use Rattle.basics.proofs.Filling.{table-more, table-all}
 use Rattle.basics.proofs.LentPart.{part-at, mid-sets}
@@ -49,54 +49,53 @@ module _ (ps : List Part) (letters : List ℕ) (w : ℕ) where
   unfolding plane
   plane-append a n more e = tabulate-append a n wordAt (λ y. backLanes ps (getD more (y / slotSize) 0) w (y % slotSize)) e
 
-  -- the letters of a block
-  block-word : (b y : ℕ) → y < blockSize * slotSize
-      → backLanes ps (getD (take (b * 16 + 16 - b * 16) (drop (b * 16) letters)) (y / slotSize) 0) w (y % slotSize) ≡ wordAt (b * 16 * 8 + y)
-  block-word b y h =
-      let low : y / 8 < 16 = omega arith in
-      let place : b * 16 + y / 8 ≡ (b * 16 * 8 + y) / 8 = omega arith in
-      let slot : y % 8 ≡ (b * 16 * 8 + y) % 8 = omega arith in
-      ap₂ (λ a k. backLanes ps a w k)
-      (part-at (b * 16) 16 letters (y / 8) low ∙ ap (λ i. getD letters i 0) place) slot
+  -- s letters from letter n on
+  word-from : (n s y : ℕ) → y < s * slotSize
+      → backLanes ps (getD (take (n + s - n) (drop n letters)) (y / slotSize) 0) w (y % slotSize) ≡ wordAt (n * slotSize + y)
+  word-from n s y h =
+      let low : y / slotSize < s = omega arith in
+      let place : n + y / slotSize ≡ (n * slotSize + y) / slotSize = omega arith in
+      let slot : y % slotSize ≡ (n * slotSize + y) % slotSize = omega arith in
+      ap₂ (λ a k. backLanes ps a w k) (part-at n s letters (y / slotSize) low ∙ ap (λ i. getD letters i 0) place) slot
 
-  -- one block more, lent as a part of the memory
-  pub plane-block : (b : ℕ) (d t l : List ℕ) → t ≡ plane ps letters w (b * 16 * 8) ++ drop (b * 16 * 8) d
-      → l ≡ plane ps (take (b * 16 + 16 - b * 16) (drop (b * 16) letters)) w (blockSize * slotSize)
-      → putMid (b * 16 * 8) (b * 16 * 8 + 128 - b * 16 * 8) t l ≡ plane ps letters w ((b + 1) * 16 * 8) ++ drop ((b + 1) * 16 * 8) d
-  plane-block b d t l e f =
+  -- their words, lent as a part of the memory
+  pub plane-block : (n s m : ℕ) (d t l : List ℕ) → n + s ≡ m → t ≡ plane ps letters w (n * slotSize) ++ drop (n * slotSize) d
+      → l ≡ plane ps (take (n + s - n) (drop n letters)) w (s * slotSize)
+      → putMid (n * slotSize) (n * slotSize + s * slotSize - n * slotSize) t l ≡ plane ps letters w (m * slotSize) ++ drop (m * slotSize) d
+  plane-block n s m d t l sum e f =
       ap (putMid at size t) f
       ∙ ap₂ (λ x y. x ++ (new ++ drop size y)) (ap (take at) e ∙ take-at old (drop at d) at (length-plane at))
       (ap (drop at) e ∙ drop-at old (drop at d) at (length-plane at))
       ∙ sym (append-assoc old new (drop size (drop at d)))
-      ∙ ap₂ (λ x y. x ++ y) (plane-append at 128 more (block-word b) ∙ ap (plane ps letters w) next)
-      (drop-drop size at d ∙ ap (λ n. drop n d) (ap (λ n. at + n) exact ∙ next))
+      ∙ ap₂ (λ x y. x ++ y) (plane-append at (s * slotSize) more (word-from n s) ∙ ap (plane ps letters w) next)
+      (drop-drop size at d ∙ ap (λ k. drop k d) (ap (λ k. at + k) exact ∙ next))
     where
       at : ℕ
-      at = b * 16 * 8
+      at = n * slotSize
 
       size : ℕ
-      size = b * 16 * 8 + 128 - b * 16 * 8
+      size = at + s * slotSize - at
 
       more : List ℕ
-      more = take (b * 16 + 16 - b * 16) (drop (b * 16) letters)
+      more = take (n + s - n) (drop n letters)
 
       old : List ℕ
       old = plane ps letters w at
 
       new : List ℕ
-      new = plane ps more w 128
+      new = plane ps more w (s * slotSize)
 
-      exact : size ≡ 128
+      exact : size ≡ s * slotSize
       exact = omega arith
 
-      next : at + 128 ≡ (b + 1) * 16 * 8
+      next : at + s * slotSize ≡ m * slotSize
       next = omega arith
 
 -- ---- planes, one behind another
 
 -- the first m planes have the words of the first n letters
 pub record Carried (ps : List Part) (letters : List ℕ) (m n : ℕ) (words : List ℕ) : Type 0 where
-  pub word : (w a k : ℕ) → w < m → a < n → k < slotSize → getD words (w * planeSize + a * slotSize + k) 0 ≡ backLanes ps (getD letters a 0) w k
+  pub word : (w a k : ℕ) → w < m → a < n → k < slotSize → getD words (slotAt w a + k) 0 ≡ backLanes ps (getD letters a 0) w k
 
 module _ (ps : List Part) (letters : List ℕ) (n : ℕ) (d : List ℕ) where
   pub planes-none : d ≡ planesTo ps letters n 0 d
@@ -104,21 +103,22 @@ module _ (ps : List Part) (letters : List ℕ) (n : ℕ) (d : List ℕ) where
   planes-none = refl
 
   -- one plane more, lent as a part of the memory
-  pub planes-more : (w : ℕ) (t l : List ℕ) → t ≡ planesTo ps letters n w d → w * 4096 + 4096 ≤ length t → n * 8 ≤ 4096
-      → l ≡ plane ps letters w (n * 8) ++ drop (n * 8) (take (w * 4096 + 4096 - w * 4096) (drop (w * 4096) t))
-      → putMid (w * 4096) (w * 4096 + 4096 - w * 4096) t l ≡ planesTo ps letters n (w + 1) d
+  pub planes-more : (w : ℕ) (t l : List ℕ) → t ≡ planesTo ps letters n w d → w * planeSize + planeSize ≤ length t → n * slotSize ≤ planeSize
+      → l ≡ plane ps letters w (n * slotSize) ++ drop (n * slotSize) (take (w * planeSize + planeSize - w * planeSize) (drop (w * planeSize) t))
+      → putMid (w * planeSize) (w * planeSize + planeSize - w * planeSize) t l ≡ planesTo ps letters n (w + 1) d
   unfolding planesTo
   planes-more w t l e room few f =
-      let new : List ℕ = plane ps letters w (n * 8) in
-      mid-sets t (w * 4096) (w * 4096 + 4096 - w * 4096) (n * 8) new l (omega arith) (length-plane ps letters w (n * 8)) (omega arith) f
-      ∙ ap (λ u. sets u (w * 4096) new) e ∙ sym (ap (λ k. planesTo ps letters n k d) (add-one w))
+      let new : List ℕ = plane ps letters w (n * slotSize) in
+      let long = length-plane ps letters w (n * slotSize) in
+      mid-sets t (w * planeSize) (w * planeSize + planeSize - w * planeSize) (n * slotSize) new l (omega arith) long (omega arith) f
+      ∙ ap (λ u. sets u (w * planeSize) new) e ∙ sym (ap (λ k. planesTo ps letters n k d) (add-one w))
 
   length-planes : (m : ℕ) → length (planesTo ps letters n m d) ≡ length d
   unfolding planesTo
   length-planes zero = refl
-  length-planes (suc w) = length-sets (planesTo ps letters n w d) (w * 4096) (plane ps letters w (n * 8)) ∙ length-planes w
+  length-planes (suc w) = length-sets (planesTo ps letters n w d) (w * planeSize) (plane ps letters w (n * slotSize)) ∙ length-planes w
 
-  carried-more : (w : ℕ) → suc w * 4096 ≤ length d → n * 8 ≤ 4096 → Carried ps letters w n (planesTo ps letters n w d)
+  carried-more : (w : ℕ) → suc w * planeSize ≤ length d → n * slotSize ≤ planeSize → Carried ps letters w n (planesTo ps letters n w d)
       → Carried ps letters (suc w) n (planesTo ps letters n (suc w) d)
   unfolding planesTo plane
   carried-more w room few c = record { word = λ v a k hv ha hk. at v a k ha hk (eq-or-lt-of-le (le-of-suc-le-suc hv)) }
@@ -127,28 +127,29 @@ module _ (ps : List Part) (letters : List ℕ) (n : ℕ) (d : List ℕ) where
       old = planesTo ps letters n w d
 
       new : List ℕ
-      new = plane ps letters w (n * 8)
+      new = plane ps letters w (n * slotSize)
 
-      here : (a k : ℕ) → a < n → k < slotSize → getD (sets old (w * 4096) new) (w * 4096 + a * 8 + k) 0 ≡ backLanes ps (getD letters a 0) w k
+      here : (a k : ℕ) → a < n → k < slotSize → getD (sets old (w * planeSize) new) (slotAt w a + k) 0 ≡ backLanes ps (getD letters a 0) w k
       here a k ha hk =
-          let long : length new ≡ n * 8 = length-plane ps letters w (n * 8) in
-          let place : w * 4096 + a * 8 + k ≡ w * 4096 + (a * 8 + k) = omega arith in
-          let letter : (a * 8 + k) / 8 ≡ a = omega arith in
-          let slot : (a * 8 + k) % 8 ≡ k = omega arith in
-          ap (λ j. getD (sets old (w * 4096) new) j 0) place
-          ∙ getD-sets-same old (w * 4096) new (a * 8 + k) 0 (omega arith) (omega (arith, length-planes w))
-          ∙ getD-tabulate (n * 8) (wordAt ps letters w) (a * 8 + k) 0 (omega arith)
+          let long : length new ≡ n * slotSize = length-plane ps letters w (n * slotSize) in
+          let place : slotAt w a + k ≡ w * planeSize + (a * slotSize + k) = omega arith in
+          let letter : (a * slotSize + k) / slotSize ≡ a = omega arith in
+          let slot : (a * slotSize + k) % slotSize ≡ k = omega arith in
+          ap (λ j. getD (sets old (w * planeSize) new) j 0) place
+          ∙ getD-sets-same old (w * planeSize) new (a * slotSize + k) 0 (omega arith) (omega (arith, length-planes w))
+          ∙ getD-tabulate (n * slotSize) (wordAt ps letters w) (a * slotSize + k) 0 (omega arith)
           ∙ ap₂ (λ i j. backLanes ps (getD letters i 0) w j) letter slot
 
       at : (v a k : ℕ) → a < n → k < slotSize → (v ≡ w) ⊎ (v < w)
-          → getD (sets old (w * 4096) new) (v * planeSize + a * slotSize + k) 0 ≡ backLanes ps (getD letters a 0) v k
+          → getD (sets old (w * planeSize) new) (slotAt v a + k) 0 ≡ backLanes ps (getD letters a 0) v k
       at v a k ha hk (inl q) = rw q (here a k ha hk)
       at v a k ha hk (inr h) =
-          getD-sets-other old (w * 4096) new (v * 4096 + a * 8 + k) 0 (λ j b e. omega arith) ∙ c .word v a k h ha hk
+          getD-sets-other old (w * planeSize) new (slotAt v a + k) 0 (λ j b e. omega arith) ∙ c .word v a k h ha hk
 
-  carried-to : (m : ℕ) → m * 4096 ≤ length d → n * 8 ≤ 4096 → Carried ps letters m n (planesTo ps letters n m d)
+  carried-to : (m : ℕ) → m * planeSize ≤ length d → n * slotSize ≤ planeSize → Carried ps letters m n (planesTo ps letters n m d)
   carried-to zero h few = record { word = λ v a k hv. absurd (omega arith) }
   carried-to (suc w) h few = carried-more w h few (carried-to w (omega arith) few)
 
-  pub planes-carried : (m : ℕ) (t : List ℕ) → m * 4096 ≤ length d → n * 8 ≤ 4096 → t ≡ planesTo ps letters n m d → Carried ps letters m n t
+  pub planes-carried : (m : ℕ) (t : List ℕ) → m * planeSize ≤ length d → n * slotSize ≤ planeSize → t ≡ planesTo ps letters n m d
+      → Carried ps letters m n t
   planes-carried m t h few e = subst (Carried ps letters m n) (sym e) (carried-to m h few)

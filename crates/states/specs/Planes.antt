@@ -1,5 +1,5 @@
--- What code keeps of a problem's letters: for each the words of the patterns that it carries back, in planes of 64 patterns, and
--- for letters that differ in them the map itself.
+-- What code keeps of a problem's letters: for each the words of the patterns that it carries back, in planes of `wordSize` patterns,
+-- and for letters that differ in them the map itself.
 -- Assumes nothing.
 use Prim.Native.Nat.{ℕ, zero, suc, _+_, _*_, _/_, _%_, _≤_, _<_}
 use mathlib.Core.Path.{_≡_}
@@ -11,16 +11,17 @@ use lib.Seq.{sets}
 use Rattle.lines.specs.declared.problem.Sizes.{Sizes}
 use Rattle.basics.specs.Bits.{bit, fromBits}
 use Rattle.formula.specs.Codes.{partsIn}
-use Rattle.basics.specs.Limits.{kindLimit, signalLimit, operatorLimit}
+use Rattle.basics.specs.Limits.{kindLimit, signalLimit, wordSize}
 use Rattle.basics.specs.Lists.{tabulate}
 use Rattle.formula.specs.declared.parts.Part.{Part}
 use Rattle.formula.specs.Parts.{partAt, lastOf}
 use Rattle.basics.specs.Bounded.{agree, firstThat}
-use Rattle.search.specs.Limits.{letterLimit, mapSize}
+use Rattle.search.specs.Limits.{mapSize}
 use Rattle.obligations.specs.Obligation.{operatorsOf, back}
 use Rattle.obligations.specs.Words.{owedLanes, backLanes}
 use Rattle.obligations.specs.Values.{blockSize}
 use Rattle.search.specs.Maps.{mapIn, Maps}
+use Rattle.states.specs.Limits.{slotSize, planeSize, planeCount}
 
 -- the sizes of the problem that some parts come from
 pub record Sized (codes : List ℕ) (s : Sizes) : Type 0 where
@@ -30,15 +31,11 @@ pub record Sized (codes : List ℕ) (s : Sizes) : Type 0 where
   pub hidden-few : s .hidden ≤ kindLimit
   pub signals-few : s .outputs + s .observed + s .hidden ≤ signalLimit
 
--- ---- the words of letters: entry a * 8 + k of a plane is bit k of the patterns that letter a carries back
+-- ---- the words of letters: entry a * slotSize + k of a plane is bit k of the patterns that letter a carries back
 
--- words of a letter in a plane: one for each bit of a pattern
-abbrev pub slotSize : ℕ
-slotSize = suc operatorLimit
-
--- words of a plane: those of all letters
-abbrev pub planeSize : ℕ
-planeSize = letterLimit * slotSize
+-- where the words of letter a begin in plane w
+abbrev pub slotAt : ℕ → ℕ → ℕ
+slotAt w a = w * planeSize + a * slotSize
 
 -- word k of the block's letter x, from the values of all parts: an operator's obligation, then the whole formula's, then none
 unfoldable pub carriedLane : List Part → List ℕ → ℕ → List ℕ → ℕ → ℕ → ℕ
@@ -59,21 +56,21 @@ planesTo ps letters n (suc w) words = sets (planesTo ps letters n w words) (w * 
 
 -- ---- maps
 
--- the number whose bits are the bits j of eight words
+-- the number whose bits are the bits j of a letter's words in a plane
 unfoldable pub laneOf : List ℕ → ℕ → ℕ → ℕ
 laneOf words at j = fromBits (tabulate slotSize (λ k. bit (getD words (at + k) 0) j))
 
--- the first n entries of letter a's map: entry p is read from plane p / 64
+-- the first n entries of letter a's map: entry p is read from plane p / wordSize
 unfoldable pub mapOf : List ℕ → ℕ → ℕ → List ℕ
-mapOf words a n = tabulate n (λ p. laneOf words (p / 64 * planeSize + a * slotSize) (p % 64))
+mapOf words a n = tabulate n (λ p. laneOf words (slotAt (p / wordSize) a) (p % wordSize))
 
--- where word y of a letter stands, the first plane's and then the second's
+-- where word y of a letter stands, plane after plane
 abbrev pub placeOf : ℕ → ℕ → ℕ
-placeOf a y = y / slotSize * planeSize + a * slotSize + y % slotSize
+placeOf a y = slotAt (y / slotSize) a + y % slotSize
 
 -- two letters have the same words
 unfoldable pub sameWords : List ℕ → ℕ → ℕ → Bool
-sameWords words a b = agree (λ y. getD words (placeOf a y) 0) (λ y. getD words (placeOf b y) 0) (2 * slotSize)
+sameWords words a b = agree (λ y. getD words (placeOf a y) 0) (λ y. getD words (placeOf b y) 0) (planeCount * slotSize)
 
 -- the first letter with the words of letter a
 unfoldable pub firstOf : List ℕ → ℕ → ℕ
@@ -84,7 +81,7 @@ unfoldable pub mapsTo : List ℕ → ℕ → ℕ → List ℕ → List ℕ
 mapsTo words m zero maps = maps
 mapsTo words m (suc a) maps =
     let t = mapsTo words m a maps in
-    cond (eqb (firstOf words a) a) (sets t (a * mapSize) (mapOf words a (m * 64))) t
+    cond (eqb (firstOf words a) a) (sets t (a * mapSize) (mapOf words a (m * wordSize))) t
 
 -- ---- the maps of a problem's letters
 

@@ -8,6 +8,7 @@ ghost use Rattle.search.specs.Limits.{stateLimit, letterLimit, setSize, mapSize
 ghost use Rattle.basics.specs.Lists.{padded};
 ghost use Rattle.obligations.specs.Letters.{counts, letterCount, lettersOf};
 ghost use Rattle.obligations.specs.Obligation.{operatorsOf, back};
+ghost use Rattle.basics.specs.Limits.{kindLimit, operatorLimit};
 ghost use Rattle.states.specs.States.{statesOf};
 ghost use Rattle.obligations.specs.Values.{Stored};
 ghost use Rattle.search.specs.Maps.{planesOf};
@@ -16,18 +17,27 @@ ghost use Rattle.search.specs.Slots.{exploredOf};
 ghost use Rattle.search.specs.Memory.{setsOf, successorsOf};
 use crate::blocks::put_planes;
 use crate::maps::classify;
+use crate::sizes::PLANE;
+use crate::sizes::PLANES;
+use basics::WORD_BITS;
 use lines::Sizes;
 use obligations::BLOCK;
 use obligations::list_letters;
 use search::Explored;
+use search::LETTER_LIMIT;
+use search::MAP;
 use search::search;
 
-// How many planes of 64 patterns d operators take.
+// How many planes d operators take.
 fn planes_of(d: usize) -> usize
-    requires { ⌜ d < 8 ⌝ }
+    requires { ⌜ d ≤ operatorLimit ⌝ }
     ensures { λ r. ⌜ r ≡ planesOf d ⌝ }
 {
-    if d < 7 { 1 } else { 1 << (d - 6) }
+    if d < WORD_BITS {
+        1
+    } else {
+        1 << (d - WORD_BITS)
+    }
 }
 
 // Writes the maps of all letters, and answers how many letters there are.
@@ -42,9 +52,9 @@ fn prepare(
 ) -> usize
     requires { ⌜ Stored (now parts) ⌝ }
     requires { ⌜ d ≡ operatorsOf (partsIn (now parts)) ⌝ }
-    requires { ⌜ outputs ≤ 4 ⌝ }
-    requires { ⌜ observed ≤ 4 ⌝ }
-    requires { ⌜ hidden ≤ 4 ⌝ }
+    requires { ⌜ outputs ≤ kindLimit ⌝ }
+    requires { ⌜ observed ≤ kindLimit ⌝ }
+    requires { ⌜ hidden ≤ kindLimit ⌝ }
     requires { ⌜ letterCount (counts outputs observed hidden) ≤ letterLimit ⌝ }
     requires { ⌜ length (now maps) ≡ letterLimit * mapSize ⌝ }
     requires { ⌜ length (now firsts) ≡ letterLimit ⌝ }
@@ -52,8 +62,8 @@ fn prepare(
     ensures { λ r. ⌜ MapsOf (partsIn (now (parts .entry))) (lettersOf (counts outputs observed hidden)) d r
         (now (maps .exit)) (now (firsts .exit)) ⌝ }
 {
-    let mut letters = [0u16; 512];
-    let mut words = [0u64; 8192];
+    let mut letters = [0u16; LETTER_LIMIT];
+    let mut words = [0u64; PLANES * PLANE];
     let n = list_letters(outputs, observed, hidden, &mut letters);
     let m = planes_of(d);
     put_planes(parts, d, &letters, (n + (BLOCK - 1)) / BLOCK, m, &mut words);
@@ -75,8 +85,8 @@ pub fn explore(parts: &[u32], sizes: Sizes, mem: &mut [u8], successors: &mut [u8
         (successorsOf (sizes .operators) (back (partsIn (now (parts .entry)))) (lettersOf (countsOf sizes))
         (statesOf (partsIn (now (parts .entry))) (lettersOf (countsOf sizes)) stateLimit)) ⌝ }
 {
-    let mut maps = [0u8; 65536];
-    let mut firsts = [0u16; 512];
+    let mut maps = [0u8; LETTER_LIMIT * MAP];
+    let mut firsts = [0u16; LETTER_LIMIT];
     let outputs = sizes.outputs;
     let observed = sizes.observed;
     let hidden = sizes.hidden;

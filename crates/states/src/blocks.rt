@@ -1,34 +1,32 @@
-// The patterns that letters carry back, as words: bit by bit, 64 patterns at a time.
+// The patterns that letters carry back, as words: bit by bit, a word of patterns at a time.
 ghost use mathlib.Core.Path.{_≡_};
 ghost use mathlib.Core.List.{_++_};
 ghost use Prim.Native.Nat.{_<_, _≤_, _*_};
 ghost use lib.ListN.{length, take, drop};
 ghost use Rattle.formula.specs.Codes.{partsIn};
+ghost use Rattle.basics.specs.Limits.{indexLimit};
 ghost use Rattle.search.specs.Limits.{letterLimit};
 ghost use Rattle.obligations.specs.Obligation.{operatorsOf, spots as spotsOf};
 ghost use Rattle.obligations.specs.Values.{Stored, numbersOf, blockSize, valuesTo};
-ghost use Rattle.states.specs.Planes.{slotSize, planeSize, carriedLane, plane, planesTo};
-use basics::OPERATOR_LIMIT;
+ghost use Rattle.states.specs.Limits.{slotSize, planeSize, planeCount};
+ghost use Rattle.states.specs.Planes.{carriedLane, plane, planesTo};
+use crate::sizes::PLANE;
+use crate::sizes::SLOT;
+use basics::INDEX_LIMIT;
 use formula::part_at;
+use lines::PART_LIMIT;
 use obligations::BLOCK;
 use obligations::number_parts;
 use obligations::owed_lanes;
 use obligations::put_values;
-use search::LETTER_LIMIT;
-
-// Words of a letter in a plane.
-pub(crate) const SLOT: usize = OPERATOR_LIMIT + 1;
-
-// Words of a plane.
-pub(crate) const PLANE: usize = LETTER_LIMIT * SLOT;
 
 // Word k of the block's letter x: an operator's obligation, then the whole formula's, then none.
 fn carried_lane(parts: &[u32], spots: &[u8], d: usize, v: &[u64], x: usize, k: usize) -> u64
     requires { ⌜ 0 < length (now parts) ⌝ }
-    requires { ⌜ length (now parts) ≤ 256 ⌝ }
+    requires { ⌜ length (now parts) ≤ indexLimit ⌝ }
     requires { ⌜ d ≡ operatorsOf (partsIn (now parts)) ⌝ }
     requires { ⌜ take d (now spots) ≡ spotsOf (partsIn (now parts)) ⌝ }
-    requires { ⌜ length (now v) ≡ 256 * blockSize ⌝ }
+    requires { ⌜ length (now v) ≡ indexLimit * blockSize ⌝ }
     requires { ⌜ x < blockSize ⌝ }
     ensures { λ r. ⌜ r ≡ carriedLane (partsIn (now (parts .entry))) (now (spots .entry)) d (now (v .entry)) x k ⌝ }
 {
@@ -61,7 +59,7 @@ fn put_block(
     requires { ⌜ take (length (now parts)) (now numbers) ≡ numbersOf (partsIn (now parts)) ⌝ }
     requires { ⌜ take d (now spots) ≡ spotsOf (partsIn (now parts)) ⌝ }
     requires { ⌜ length (now letters) ≡ blockSize ⌝ }
-    requires { ⌜ length (now v) ≡ 256 * blockSize ⌝ }
+    requires { ⌜ length (now v) ≡ indexLimit * blockSize ⌝ }
     requires { ⌜ length (now words) ≡ blockSize * slotSize ⌝ }
     ensures { λ _. ⌜ now (words .exit) ≡ plane (partsIn (now (parts .entry))) (now (letters .entry)) w (blockSize * slotSize) ⌝ }
     ensures { λ _. ⌜ now (v .exit) ≡ valuesTo (partsIn (now (parts .entry))) (now (letters .entry)) w (length (now (parts .entry))) (now (v .entry)) ⌝ }
@@ -95,7 +93,7 @@ fn put_plane(
     ensures { λ _. ⌜ now (words .exit) ≡ plane (partsIn (now (parts .entry))) (now (letters .entry)) w (blocks * blockSize * slotSize)
         ++ drop (blocks * blockSize * slotSize) (now (words .entry)) ⌝ }
 {
-    let mut v = [0u64; 4096];
+    let mut v = [0u64; INDEX_LIMIT * BLOCK];
     let mut b = 0;
     while b < blocks {
         let from = b * BLOCK;
@@ -127,12 +125,12 @@ pub(crate) fn put_planes(
     requires { ⌜ d ≡ operatorsOf (partsIn (now parts)) ⌝ }
     requires { ⌜ length (now letters) ≡ letterLimit ⌝ }
     requires { ⌜ blocks * blockSize ≤ letterLimit ⌝ }
-    requires { ⌜ m ≤ 2 ⌝ }
-    requires { ⌜ length (now words) ≡ 2 * planeSize ⌝ }
+    requires { ⌜ m ≤ planeCount ⌝ }
+    requires { ⌜ length (now words) ≡ planeCount * planeSize ⌝ }
     ensures { λ _. ⌜ now (words .exit) ≡ planesTo (partsIn (now (parts .entry))) (now (letters .entry)) (blocks * blockSize) m (now (words .entry)) ⌝ }
 {
-    let mut numbers = [0u8; 96];
-    let mut spots = [0u8; 8];
+    let mut numbers = [0u8; PART_LIMIT];
+    let mut spots = [0u8; SLOT];
     number_parts(parts, &mut numbers, &mut spots);
     let mut w = 0;
     while w < m {

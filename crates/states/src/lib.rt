@@ -3,6 +3,7 @@
 mod automaton;
 mod blocks;
 mod maps;
+mod sizes;
 
 pub use automaton::explore;
 pub use search::Explored;

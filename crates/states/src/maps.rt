@@ -6,20 +6,24 @@ ghost use mathlib.Core.List.{_++_};
 ghost use lib.ListN.{length, drop};
 ghost use Rattle.search.specs.Limits.{mapSize, letterLimit};
 ghost use Rattle.basics.specs.Lists.{tabulate};
-ghost use Rattle.states.specs.Planes.{slotSize, planeSize, laneOf, mapOf, sameWords, firstOf, mapsTo};
-use crate::blocks::PLANE;
-use crate::blocks::SLOT;
+ghost use Rattle.basics.specs.Limits.{wordSize};
+ghost use Rattle.states.specs.Limits.{slotSize, planeSize, planeCount};
+ghost use Rattle.states.specs.Planes.{laneOf, mapOf, sameWords, firstOf, mapsTo};
+use crate::sizes::PLANE;
+use crate::sizes::PLANES;
+use crate::sizes::SLOT;
+use basics::WORD;
 use search::MAP;
 
 // Whether letters a and b have the same words.
 fn same_words(words: &[u64], a: usize, b: usize) -> bool
-    requires { ⌜ length (now words) ≡ 2 * planeSize ⌝ }
+    requires { ⌜ length (now words) ≡ planeCount * planeSize ⌝ }
     requires { ⌜ a < letterLimit ⌝ }
     requires { ⌜ b < letterLimit ⌝ }
     ensures { λ r. ⌜ r ≡ sameWords (now (words .entry)) a b ⌝ }
 {
     let mut y = 0;
-    while y < 2 * SLOT {
+    while y < PLANES * SLOT {
         let at = y / SLOT * PLANE + y % SLOT;
         if words[at + a * SLOT] != words[at + b * SLOT] {
             return false;
@@ -31,7 +35,7 @@ fn same_words(words: &[u64], a: usize, b: usize) -> bool
 
 // The first letter with the words of letter a.
 fn first_same(words: &[u64], a: usize) -> usize
-    requires { ⌜ length (now words) ≡ 2 * planeSize ⌝ }
+    requires { ⌜ length (now words) ≡ planeCount * planeSize ⌝ }
     requires { ⌜ a < letterLimit ⌝ }
     ensures { λ r. ⌜ r ≡ firstOf (now (words .entry)) a ⌝ }
 {
@@ -45,11 +49,11 @@ fn first_same(words: &[u64], a: usize) -> usize
     a
 }
 
-// The number whose bits are the bits j of the eight words from `at` on.
+// The number whose bits are the bits j of a letter's words in a plane, from `at` on.
 fn lane_of(words: &[u64], at: usize, j: usize) -> u8
     requires { ⌜ at + slotSize ≤ length (now words) ⌝ }
-    requires { ⌜ length (now words) ≡ 2 * planeSize ⌝ }
-    requires { ⌜ j < 64 ⌝ }
+    requires { ⌜ length (now words) ≡ planeCount * planeSize ⌝ }
+    requires { ⌜ j < wordSize ⌝ }
     ensures { λ r. ⌜ r ≡ laneOf (now (words .entry)) at j ⌝ }
 {
     let mut n: u8 = 0;
@@ -63,24 +67,24 @@ fn lane_of(words: &[u64], at: usize, j: usize) -> u8
 
 // Writes the map of letter a, from m planes.
 fn put_map(words: &[u64], a: usize, m: usize, map: &mut [u8])
-    requires { ⌜ length (now words) ≡ 2 * planeSize ⌝ }
+    requires { ⌜ length (now words) ≡ planeCount * planeSize ⌝ }
     requires { ⌜ a < letterLimit ⌝ }
-    requires { ⌜ m ≤ 2 ⌝ }
+    requires { ⌜ m ≤ planeCount ⌝ }
     requires { ⌜ length (now map) ≡ mapSize ⌝ }
-    ensures { λ _. ⌜ now (map .exit) ≡ mapOf (now (words .entry)) a (m * 64) ++ drop (m * 64) (now (map .entry)) ⌝ }
+    ensures { λ _. ⌜ now (map .exit) ≡ mapOf (now (words .entry)) a (m * wordSize) ++ drop (m * wordSize) (now (map .entry)) ⌝ }
 {
     let mut p = 0;
-    while p < m * 64 {
-        map[p] = lane_of(words, p / 64 * PLANE + a * SLOT, p % 64);
+    while p < m * WORD {
+        map[p] = lane_of(words, p / WORD * PLANE + a * SLOT, p % WORD);
         p += 1;
     }
 }
 
 // Writes for each of n letters the first with the same words, and the maps of those that are first.
 pub(crate) fn classify(words: &[u64], n: usize, m: usize, maps: &mut [u8], firsts: &mut [u16])
-    requires { ⌜ length (now words) ≡ 2 * planeSize ⌝ }
+    requires { ⌜ length (now words) ≡ planeCount * planeSize ⌝ }
     requires { ⌜ n ≤ letterLimit ⌝ }
-    requires { ⌜ m ≤ 2 ⌝ }
+    requires { ⌜ m ≤ planeCount ⌝ }
     requires { ⌜ length (now maps) ≡ letterLimit * mapSize ⌝ }
     requires { ⌜ length (now firsts) ≡ letterLimit ⌝ }
     ensures { λ _. ⌜ now (maps .exit) ≡ mapsTo (now (words .entry)) m n (now (maps .entry)) ⌝ }

@@ -1,4 +1,3 @@
 -- What the proofs of the functions for ranks use.
-pub mod Entries
 pub mod ChoiceLoop
 pub mod RoundLoop

@@ -1,9 +1,9 @@
 -- Positions, ranks and rows in memory. Positions are numbers below n. Entry i * pairLimit + s * choices + c of `moves` is where choice c and
 -- observation s lead from position i; entry i of `finals` is 1 where position i is final.
 -- Assumes nothing.
-use Prim.Native.Nat.{ℕ, suc, pred, _+_, _*_, _≤_, _<_}
+use Prim.Native.Nat.{ℕ, suc, _+_, _*_, _≤_, _<_}
 use mathlib.Core.Path.{_≡_}
-use mathlib.Core.Bool.{Bool, false, cond}
+use mathlib.Core.Bool.{Bool, cond}
 use mathlib.Core.List.{List}
 use lib.Dec.{eqb, ltb}
 use lib.ListN.{length, getD}
@@ -11,8 +11,8 @@ use Rattle.basics.specs.Lists.{tabulate}
 use Rattle.basics.specs.Reach.{indexIn, addAll}
 use Rattle.play.specs.Limits.{beliefLimit, sideLimit, pairLimit}
 use Rattle.basics.specs.Bounded.{all}
-use Rattle.play.specs.Rank.{Arena, setFirst, rankBelow, choiceWithin, bestChoice}
-use Rattle.play.specs.Table.{choiceRow}
+use Rattle.play.specs.Rank.{Arena, setFirst, rankBelow}
+use Rattle.play.specs.Cells.{choiceRow}
 
 abbrev pub arenaIn : ℕ → List ℕ → List ℕ → Arena
 arenaIn choices moves finals =
@@ -49,28 +49,17 @@ firstRank finals k = cond (eqb (getD finals k 0) 1) 0 noRank
 unfoldable pub works : List ℕ → List ℕ → ℕ → ℕ → ℕ → ℕ → ℕ → Bool
 works moves ranks choices observations r k c = all observations (λ s. ltb (getD ranks (getD moves (k * pairLimit + s * choices + c) 0) 0) r)
 
--- the rank of k if it is at most r
-abbrev pub rankAfter : (A : Arena) (choices observations r : ℕ) → A .K → ℕ
-rankAfter A choices observations r k =
-    let q = rankBelow A (setFirst choices observations) (suc r) k in cond (ltb q (suc r)) q noRank
+-- the rank of k if it is below r, `noRank` if not
+abbrev pub rankIfBelow : (A : Arena) (choices observations r : ℕ) → A .K → ℕ
+rankIfBelow A choices observations r k = let q = rankBelow A (setFirst choices observations) r k in cond (ltb q r) q noRank
 
--- the ranks of n positions up to r, and for those that have one and are not final the smallest choice that leads below it
-pub record Ranked (n choices observations r : ℕ) (moves finals ranks picks : List ℕ) : Type 0 where
-  pub rank : (k : ℕ) → k < n → getD ranks k 0 ≡ rankAfter (arenaIn choices moves finals) choices observations r k
-  pub pick : (k : ℕ) → k < n → arenaIn choices moves finals .final k ≡ false → getD ranks k 0 ≤ r
-      → getD picks k 0 ≡ choiceWithin (arenaIn choices moves finals) choices observations (pred (getD ranks k 0)) k
+-- so for each of n positions: what r rounds find
+unfoldable pub ranksBelow : (n choices observations r : ℕ) (moves finals : List ℕ) → List ℕ
+ranksBelow n choices observations r moves finals = tabulate n (rankIfBelow (arenaIn choices moves finals) choices observations r)
 
--- no position has a rank of just r
-abbrev pub NoneAt : ℕ → ℕ → ℕ → ℕ → List ℕ → List ℕ → Type 0
-NoneAt n choices observations r moves finals =
-    (k : ℕ) → k < n → rankAfter (arenaIn choices moves finals) choices observations r k
-    ≡ rankAfter (arenaIn choices moves finals) choices observations (pred r) k
-
--- every position that has a rank below n and is not final takes its smallest choice that leads below it
-pub record Picked (n choices observations : ℕ) (moves finals picks : List ℕ) : Type 0 where
-  pub best : (k : ℕ) → k < n → arenaIn choices moves finals .final k ≡ false
-      → rankBelow (arenaIn choices moves finals) (setFirst choices observations) n k < n
-      → getD picks k 0 ≡ bestChoice (arenaIn choices moves finals) choices observations n k
+-- position k has rank r
+unfoldable pub hasRank : (choices observations r : ℕ) (moves finals : List ℕ) → ℕ → Bool
+hasRank choices observations r moves finals k = eqb (rankBelow (arenaIn choices moves finals) (setFirst choices observations) (suc r) k) r
 
 -- ---- rows of the table, as they are written one after another
 

@@ -3,7 +3,7 @@ ghost use mathlib.Core.Path.{_≡_};
 ghost use Prim.Native.Nat.{_≤_};
 ghost use lib.Dec.{eqb};
 ghost use lib.ListN.{length};
-ghost use Rattle.play.specs.Limits.{tableSize};
+ghost use Rattle.play.specs.Cells.{tableSize};
 ghost use Rattle.basics.specs.Lists.{written};
 ghost use Rattle.play.specs.Answer.{verdictOf, cellsOf};
 ghost use Rattle.tables.specs.Outcome.{outcomeOf};
@@ -35,21 +35,12 @@ pub fn answer(
         (now (table .entry)) ⌝ }
 {
     let mut ranks = [0u16; BELIEF_LIMIT];
-    let mut picks = [0u8; BELIEF_LIMIT];
-    rank_all(
-        moves,
-        finals,
-        n,
-        choices,
-        observations,
-        &mut ranks,
-        &mut picks,
-    );
+    rank_all(moves, finals, n, choices, observations, &mut ranks);
     let r = ranks[0];
     if r == NO_RANK {
         return Outcome::Unrealizable;
     }
-    let rows = put_table(moves, finals, &picks, n, choices, observations, table);
+    let rows = put_table(moves, finals, &ranks, n, choices, observations, table);
     Outcome::Table {
         rows,
         worst_case: r as usize,

@@ -1,12 +1,18 @@
 // From the moves between numbered positions to the table of the best strategy: ranks, choices and rows. Every function here is proved,
-// and the crate assumes nothing. `answer` serves the crate `game`, which shows that it meets what is asked.
+// and the crate assumes nothing. `answer` serves the crate `game`, which shows that it meets what is asked; `Shape`, `first_cell` and
+// `next_cell` serve whoever reads a table.
 mod answering;
+mod cells;
 mod ranking;
+mod shape;
 mod sizes;
 mod writing;
 
 pub use answering::Outcome;
 pub use answering::answer;
+pub use cells::first_cell;
+pub use cells::next_cell;
+pub use shape::Shape;
 pub use sizes::BELIEF_LIMIT;
 pub use sizes::PAIR_LIMIT;
 pub use sizes::ROW;

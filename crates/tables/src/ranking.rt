@@ -1,18 +1,17 @@
 // Ranks, round by round: a position gets rank r where a choice leads below r whatever is observed.
 ghost use mathlib.Core.Path.{_≡_};
-ghost use mathlib.Core.Bool.{false};
-ghost use Prim.Native.Nat.{_*_, _≤_, _<_, pred};
+ghost use Prim.Native.Nat.{suc, _*_, _≤_, _<_};
 ghost use mathlib.Core.List.{_++_};
-ghost use lib.ListN.{length, drop};
+ghost use lib.ListN.{length, take, drop};
 ghost use Rattle.basics.specs.Lists.{tabulate};
 ghost use Rattle.play.specs.Limits.{beliefLimit, sideLimit, pairLimit};
-ghost use Rattle.basics.specs.Bounded.{firstThat};
-ghost use Rattle.tables.specs.PositionMemory.{works, firstRank, Positions, Ranked, NoneAt, noRank};
+ghost use Rattle.basics.specs.Bounded.{any, firstThat};
+ghost use Rattle.tables.specs.PositionMemory.{works, firstRank, Positions, ranksBelow, hasRank, noRank};
 use crate::sizes::NO_RANK;
 use crate::sizes::PAIR_LIMIT;
 
 // The smallest choice after which every observation leads to a rank below r; `choices` if there is none.
-fn smallest_choice(
+pub(crate) fn smallest_choice(
     moves: &[u8],
     ranks: &[u16],
     choices: usize,
@@ -57,7 +56,7 @@ fn rank_finals(finals: &[u8], n: usize, ranks: &mut [u16])
     }
 }
 
-// Gives rank r to every position that has a choice which leads below r; answers whether there was one.
+// Gives rank r to every position without a rank that has a choice which leads below r; answers whether there was one.
 fn rank_round(
     moves: &[u8],
     finals: &[u8],
@@ -66,16 +65,15 @@ fn rank_round(
     observations: usize,
     r: u16,
     ranks: &mut [u16],
-    picks: &mut [u8],
 ) -> bool
     requires { ⌜ Positions n choices observations (now moves) (now finals) ⌝ }
     requires { ⌜ 0 < r ⌝ }
     requires { ⌜ r < noRank ⌝ }
     requires { ⌜ length (now ranks) ≡ beliefLimit ⌝ }
-    requires { ⌜ length (now picks) ≡ beliefLimit ⌝ }
-    requires { ⌜ Ranked n choices observations (pred r) (now moves) (now finals) (now ranks) (now picks) ⌝ }
-    ensures { λ _. ⌜ Ranked n choices observations r (now (moves .entry)) (now (finals .entry)) (now (ranks .exit)) (now (picks .exit)) ⌝ }
-    ensures { λ more. ⌜ (more ≡ false → NoneAt n choices observations r (now (moves .entry)) (now (finals .entry))) ⌝ }
+    requires { ⌜ take n (now ranks) ≡ ranksBelow n choices observations r (now moves) (now finals) ⌝ }
+    ensures { λ _. ⌜ now (ranks .exit) ≡ ranksBelow n choices observations (suc r) (now (moves .entry)) (now (finals .entry))
+        ++ drop n (now (ranks .entry)) ⌝ }
+    ensures { λ more. ⌜ more ≡ any n (hasRank choices observations r (now (moves .entry)) (now (finals .entry))) ⌝ }
 {
     let mut more = false;
     let mut k = 0;
@@ -84,7 +82,6 @@ fn rank_round(
             let c = smallest_choice(moves, ranks, choices, observations, r, k);
             if c < choices {
                 ranks[k] = r;
-                picks[k] = c as u8;
                 more = true;
             }
         }
@@ -93,7 +90,7 @@ fn rank_round(
     more
 }
 
-// The ranks of all n positions, and the choices that they take.
+// The ranks of all n positions.
 pub(crate) fn rank_all(
     moves: &[u8],
     finals: &[u8],
@@ -101,17 +98,16 @@ pub(crate) fn rank_all(
     choices: usize,
     observations: usize,
     ranks: &mut [u16],
-    picks: &mut [u8],
 )
     requires { ⌜ Positions n choices observations (now moves) (now finals) ⌝ }
     requires { ⌜ length (now ranks) ≡ beliefLimit ⌝ }
-    requires { ⌜ length (now picks) ≡ beliefLimit ⌝ }
-    ensures { λ _. ⌜ Ranked n choices observations (pred n) (now (moves .entry)) (now (finals .entry)) (now (ranks .exit)) (now (picks .exit)) ⌝ }
+    ensures { λ _. ⌜ now (ranks .exit) ≡ ranksBelow n choices observations n (now (moves .entry)) (now (finals .entry))
+        ++ drop n (now (ranks .entry)) ⌝ }
 {
     rank_finals(finals, n, ranks);
     let mut r: u16 = 1;
     while (r as usize) < n {
-        if !rank_round(moves, finals, n, choices, observations, r, ranks, picks) {
+        if !rank_round(moves, finals, n, choices, observations, r, ranks) {
             return;
         }
         r += 1;

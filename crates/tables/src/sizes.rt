@@ -10,8 +10,13 @@ pub const SIDE_LIMIT: usize = 1 << KIND_LIMIT;
 // The most pairs of a choice and an observation.
 pub const PAIR_LIMIT: usize = SIDE_LIMIT * SIDE_LIMIT;
 
+// Where the cells of a row stand: its choice, then the next row for each observation.
+pub(crate) const CHOICE_AT: usize = 0;
+
+pub(crate) const NEXT_AT: usize = 1;
+
 // Cells of a row, and the first cell of one where the table stops.
-pub const ROW: usize = SIDE_LIMIT + 1;
+pub const ROW: usize = NEXT_AT + SIDE_LIMIT;
 
 pub const STOP: u16 = 65535;
 

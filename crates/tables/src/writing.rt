@@ -4,12 +4,16 @@ ghost use Prim.Native.Nat.{_*_, _≤_, _<_};
 ghost use lib.Dec.{eqb};
 ghost use lib.ListN.{length, take};
 ghost use Rattle.basics.specs.Reach.{indexIn};
-ghost use Rattle.play.specs.Limits.{beliefLimit, sideLimit, pairLimit, rowSize, tableSize};
-ghost use Rattle.play.specs.Table.{stopRow, rows, tableCells};
+ghost use Rattle.play.specs.Limits.{beliefLimit, sideLimit, pairLimit};
+ghost use Rattle.play.specs.Cells.{rowSize, tableSize, stopRow};
+ghost use Rattle.play.specs.Table.{rows, tableCells};
 ghost use Rattle.basics.specs.Lists.{written};
 ghost use Rattle.play.specs.Answer.{startRank};
-ghost use Rattle.tables.specs.PositionMemory.{arenaIn, Positions, Picked, rowsWith, rowWith};
+ghost use Rattle.tables.specs.PositionMemory.{arenaIn, Positions, ranksBelow, rowsWith, rowWith};
+use crate::ranking::smallest_choice;
 use crate::sizes::BELIEF_LIMIT;
+use crate::sizes::CHOICE_AT;
+use crate::sizes::NEXT_AT;
 use crate::sizes::PAIR_LIMIT;
 use crate::sizes::ROW;
 use crate::sizes::SIDE_LIMIT;
@@ -35,10 +39,10 @@ fn put_stop(cells: &mut [u16])
     requires { ⌜ length (now cells) ≡ rowSize ⌝ }
     ensures { λ _. ⌜ now (cells .exit) ≡ stopRow ⌝ }
 {
-    cells[0] = STOP;
-    let mut s = 1;
-    while s < ROW {
-        cells[s] = 0;
+    cells[CHOICE_AT] = STOP;
+    let mut s = 0;
+    while s < SIDE_LIMIT {
+        cells[NEXT_AT + s] = 0;
         s += 1;
     }
 }
@@ -50,7 +54,7 @@ fn put_row(
     choices: usize,
     observations: usize,
     k: usize,
-    c: u8,
+    c: usize,
     m: usize,
     rows: &mut [u8],
     cells: &mut [u16],
@@ -69,8 +73,8 @@ fn put_row(
     ensures { λ _. ⌜ now (cells .exit) ≡ rowWith (now (moves .entry)) choices observations k c
         (rowsWith (now (moves .entry)) choices observations k c (take m (now (rows .entry)))) ⌝ }
 {
-    cells[0] = c as u16;
-    let from = k * PAIR_LIMIT + c as usize;
+    cells[CHOICE_AT] = c as u16;
+    let from = k * PAIR_LIMIT + c;
     let mut n = m;
     let mut s = 0;
     while s < SIDE_LIMIT {
@@ -81,9 +85,9 @@ fn put_row(
                 rows[n] = t;
                 n += 1;
             }
-            cells[1 + s] = j as u16;
+            cells[NEXT_AT + s] = j as u16;
         } else {
-            cells[1 + s] = 0;
+            cells[NEXT_AT + s] = 0;
         }
         s += 1;
     }
@@ -94,15 +98,15 @@ fn put_row(
 pub(crate) fn put_table(
     moves: &[u8],
     finals: &[u8],
-    picks: &[u8],
+    ranks: &[u16],
     n: usize,
     choices: usize,
     observations: usize,
     table: &mut [u16],
 ) -> usize
     requires { ⌜ Positions n choices observations (now moves) (now finals) ⌝ }
-    requires { ⌜ length (now picks) ≡ beliefLimit ⌝ }
-    requires { ⌜ Picked n choices observations (now moves) (now finals) (now picks) ⌝ }
+    requires { ⌜ length (now ranks) ≡ beliefLimit ⌝ }
+    requires { ⌜ take n (now ranks) ≡ ranksBelow n choices observations n (now moves) (now finals) ⌝ }
     requires { ⌜ startRank (arenaIn choices (now moves) (now finals)) eqb choices observations n < n ⌝ }
     requires { ⌜ tableSize ≤ length (now table) ⌝ }
     ensures { λ r. ⌜ r ≡ length (rows (arenaIn choices (now (moves .entry)) (now (finals .entry))) eqb choices observations n) ⌝ }
@@ -118,12 +122,13 @@ pub(crate) fn put_table(
         if finals[k] == 1 {
             put_stop(&mut table[at..at + ROW]);
         } else {
+            let c = smallest_choice(moves, ranks, choices, observations, ranks[k], k);
             m = put_row(
                 moves,
                 choices,
                 observations,
                 k,
-                picks[k],
+                c,
                 m,
                 &mut rows,
                 &mut table[at..at + ROW],

@@ -1,84 +1,98 @@
--- The members of a belief in memory: the states that are present, one after another.
+-- The members of a belief in memory: its states, one after another.
 -- Assumes nothing.
-use Prim.Native.Nat.{ℕ, zero, suc, _+_, _*_, _≤_, _<_}
+use Prim.Native.Nat.{ℕ, zero, suc, _+_, _*_, _/_, _%_, _^_, _≤_, _<_}
 use native.Mathlib.Numerals.{add-one}
-use native.Mathlib.Decide.{decLt}
 use native.Mathlib.Omega.{arith}
 use mathlib.Core.Path.{_≡_, refl, sym, ap, ap₂, _∙_, subst}
-use mathlib.Core.Logic.{inl, inr}
-use mathlib.Core.Bool.{Bool, true, false, _&&_, _||_, or-comm}
-use mathlib.Core.List.{List, [], _∷_, _++_}
+use mathlib.Core.Logic.{_⊎_, inl, inr}
+use mathlib.Core.Bool.{Bool, true, false, not, _&&_, _||_, or-comm}
+use mathlib.Core.List.{List}
+use lib.Bits.{bitAnd, and-mask}
 use lib.Dec.{eqb}
-use lib.ListN.{length, getD, set, drop, replicate, length-append}
-use lib.Seq.{append-snoc, getD-append-seam}
+use lib.ListN.{length, getD, set, replicate, length-set}
+use lib.Seq.{getD-set-same, getD-set-other}
 use borrow.Author.Tests.{eqb-true, eq-eqb, ne-eqb}
+use Rattle.basics.specs.Bits.{bit}
+use Rattle.basics.specs.Bounded.{all, any}
 use Rattle.basics.specs.Lists.{tabulate}
+use Rattle.basics.proofs.BitsLaws.{bit-test, bit-low, low-lt}
+use Rattle.basics.proofs.Booleans.{test, clash, and-left, and-right, and-true, or-intro-left, or-intro-right}
+use Rattle.basics.proofs.BoundedLaws.{last-or-before, all-at, all-of, all-more, all-fails, all-not, any-suc, any-at, any-of, any-ext}
+use Rattle.basics.proofs.ListsLaws.{getD-tabulate, tabulate-ext}
 use Rattle.search.specs.Limits.{stateLimit, setSize}
-use Rattle.search.specs.Memory.{spread}
-use Rattle.basics.proofs.Filling.{put-next, front-length}
-use Rattle.basics.specs.Bounded.{any}
-use Rattle.play.specs.Belief.{Belief, has}
-use Rattle.beliefs.specs.BeliefMemory.{packBelief, successorIn, beliefAfter, withHidden, membersOf, afterMembers, Members, Successors}
-use Rattle.basics.proofs.BoundedLaws.{any-suc, any-at}
-use Rattle.basics.proofs.Booleans.{test, and-right}
-use Rattle.beliefs.proofs.BeliefMemoryLaws.{Bits, bits-same, bits-unique, bits-none, bits-hidden, belief-bits, present-belief, has-table, leadsTo, letter-lt}
+use Rattle.search.specs.Slots.{itemIn}
+use Rattle.play.specs.Belief.{has, every}
+use Rattle.beliefs.specs.BeliefMemory.{beliefSize, packBelief, beliefIn, successorIn, Successors, beliefAfter, acceptsIn}
+use Rattle.beliefs.specs.BeliefMemory.{Members, Leads, isMember, beliefOf, allAccept, withHidden, afterMembers}
+use Rattle.beliefs.proofs.LimitsLaws.{state-bits}
+use Rattle.beliefs.proofs.BeliefMemoryLaws.{Bits, bits-same, bits-unique, bits-none, bits-hidden, belief-bits, has-table, leadsTo, letter-lt}
 
--- ---- one state more
+-- ---- members and the belief that has them
 
-length-snoc : (l : List ℕ) (a : ℕ) → length (l ++ (a ∷ [])) ≡ suc (length l)
-length-snoc l a = length-append l (a ∷ []) ∙ add-one (length l)
+pub member-is : (members : List ℕ) (count i : ℕ) → i < count → isMember members count (getD members i 0) ≡ true
+unfolding isMember
+member-is members count i h = any-of count _ i h (eq-eqb (getD members i 0) (getD members i 0) refl)
 
-members-none : (present : List ℕ) → membersOf present 0 ≡ []
-unfolding membersOf
-members-none present = refl
+pub member-at : (members : List ℕ) (count s : ℕ) → isMember members count s ≡ true → (i : ℕ) × (i < count) × (getD members i 0 ≡ s)
+unfolding isMember
+member-at members count s t = let (i, h, e) = any-at count _ t in (i, h, eqb-true (getD members i 0) s e)
 
-members-with : (present : List ℕ) (s : ℕ) → eqb (getD present s 0) 1 ≡ true → membersOf present (suc s) ≡ membersOf present s ++ (s ∷ [])
-unfolding membersOf
-members-with present s t = rw t refl
+member-more : (members : List ℕ) (c s : ℕ) → isMember members (suc c) s ≡ (eqb (getD members c 0) s || isMember members c s)
+unfolding isMember
+member-more members c s = any-suc c (λ i. eqb (getD members i 0) s)
 
-members-without : (present : List ℕ) (s : ℕ) → eqb (getD present s 0) 1 ≡ false → membersOf present (suc s) ≡ membersOf present s
-unfolding membersOf
-members-without present s f = rw f refl
+member-ext : (v w : List ℕ) (c s : ℕ) → ((i : ℕ) → i < c → getD v i 0 ≡ getD w i 0) → isMember v c s ≡ isMember w c s
+unfolding isMember
+member-ext v w c s e = any-ext c _ _ (λ i l. ap (λ x. eqb x s) (e i l))
 
-count-with : (present : List ℕ) (s : ℕ) → eqb (getD present s 0) 1 ≡ true → length (membersOf present (suc s)) ≡ suc (length (membersOf present s))
-count-with present s t = ap length (members-with present s t) ∙ length-snoc (membersOf present s) s
+has-member : (n : ℕ) (members : List ℕ) (count s : ℕ) → s < n → has (beliefOf n members count) s ≡ isMember members count s
+unfolding beliefOf
+has-member n members count s h = getD-tabulate n (isMember members count) s false h
 
--- the new member stands behind the others
-list-with : (present : List ℕ) (s : ℕ) (rest : List ℕ) → eqb (getD present s 0) 1 ≡ true → membersOf present (suc s) ++ rest ≡ membersOf present s ++ s ∷ rest
-list-with present s rest t = ap (λ l. l ++ rest) (members-with present s t) ∙ append-snoc (membersOf present s) s rest
+pub members-fewer : (n m : ℕ) (members : List ℕ) (count : ℕ) → n ≤ m → Members n members count → Members m members count
+members-fewer n m members count h g = record { fits = g .fits; small = λ i l. omega (arith, g .small i l) }
 
--- ---- what the members are
+module _ (n : ℕ) (members : List ℕ) (count : ℕ) (g : Members n members count) where
+  -- some member passes a test, if some state of the belief does
+  any-member : (ok : ℕ → Bool) → any count (λ i. ok (getD members i 0)) ≡ any n (λ s. has (beliefOf n members count) s && ok s)
+  any-member ok = elim (test (any n (λ s. has (beliefOf n members count) s && ok s))) [
+    | inl t ↦
+        let (s, h, e) = any-at n _ t in
+        let there = sym (has-member n members count s h) ∙ and-left (has (beliefOf n members count) s) (ok s) e in
+        let (i, l, q) = member-at members count s there in
+        any-of count _ i l (ap ok q ∙ and-right (has (beliefOf n members count) s) (ok s) e) ∙ sym t
+    | inr f ↦ elim (test (any count (λ i. ok (getD members i 0)))) [
+      | inr e ↦ e ∙ sym f
+      | inl t ↦
+          let (i, l, e) = any-at count _ t in
+          let there = has-member n members count (getD members i 0) (g .small i l) ∙ member-is members count i l in
+          clash (any-of n _ (getD members i 0) (g .small i l) (and-true there e)) f
+    ]
+  ]
 
--- there are no more of them than states
-pub members-few : (present : List ℕ) (n : ℕ) → length (membersOf present n) ≤ n
-members-few present zero = let e : length (membersOf present 0) ≡ 0 = ap length (members-none present) in omega arith
-members-few present (suc s) = elim (test (eqb (getD present s 0) 1)) [
-  | inl t ↦ omega (arith, members-few present s, count-with present s t)
-  | inr f ↦ omega (arith, members-few present s, ap length (members-without present s f))
-]
-
--- and they are states
-pub members-small : (present : List ℕ) (n : ℕ) (rest : List ℕ) (i : ℕ) → i < length (membersOf present n) → getD (membersOf present n ++ rest) i 0 < n
-members-small present zero rest i h = absurd (omega (arith, h, ap length (members-none present)))
-members-small present (suc s) rest i h = elim (test (eqb (getD present s 0) 1)) [
-  | inl t ↦
-      subst (λ l. getD l i 0 < suc s) (sym (list-with present s rest t)) (elim (decLt i (length (membersOf present s))) [
-        | yes l ↦ omega (arith, members-small present s (s ∷ rest) i l)
-        | no g ↦
-            let e : i ≡ length (membersOf present s) = omega (arith, h, g, count-with present s t) in
-            omega (arith, ap (λ k. getD (membersOf present s ++ s ∷ rest) k 0) e ∙ getD-append-seam (membersOf present s) s rest 0)
-      ])
-  | inr f ↦
-      let e : membersOf present (suc s) ≡ membersOf present s = members-without present s f in
-      subst (λ l. getD (l ++ rest) i 0 < suc s) (sym e) (omega (arith, members-small present s rest i (subst (λ l. i < length l) e h)))
-]
-
-pub members-are : (present : List ℕ) (n : ℕ) (rest : List ℕ) → n ≤ stateLimit → Members (membersOf present n ++ rest) (length (membersOf present n))
-members-are present n rest h = record { small = λ i l. omega (arith, members-small present n rest i l) }
+  -- each member accepts, if each state of the belief does
+  pub final-belief : (sets : List ℕ) → allAccept sets members count ≡ every n (acceptsIn sets) (beliefOf n members count)
+  unfolding allAccept
+  final-belief sets = elim (test (all count (λ i. acceptsIn sets (getD members i 0)))) [
+    | inl t ↦ t ∙ sym (all-of n _ (λ s h. passes t s h (test (isMember members count s))))
+    | inr f ↦
+        let (i, l, e) = all-not count _ f in
+        let s = getD members i 0 in
+        let there = has-member n members count s (g .small i l) ∙ member-is members count i l in
+        f ∙ sym (all-fails n _ s (g .small i l) (ap₂ (λ b c. not b || c) there e))
+  ]
+    where
+      passes : all count (λ i. acceptsIn sets (getD members i 0)) ≡ true → (s : ℕ) → s < n
+          → (isMember members count s ≡ true) ⊎ (isMember members count s ≡ false)
+          → (not (has (beliefOf n members count) s) || acceptsIn sets s) ≡ true
+      passes t s h (inl m) =
+          let (i, l, q) = member-at members count s m in
+          or-intro-right (not (has (beliefOf n members count) s)) (ap (acceptsIn sets) (sym q) ∙ all-at count _ t i l)
+      passes t s h (inr m) = or-intro-left (acceptsIn sets s) (ap not (has-member n members count s h ∙ m))
 
 -- ---- the belief after a pair
 
-after-start : (successors members : List ℕ) (q pairs hiddens : ℕ) → afterMembers successors members q pairs hiddens 0 ≡ replicate setSize 0
+after-start : (successors members : List ℕ) (q pairs hiddens : ℕ) → afterMembers successors members q pairs hiddens 0 ≡ replicate beliefSize 0
 unfolding afterMembers
 after-start successors members q pairs hiddens = refl
 
@@ -88,143 +102,155 @@ after-next : (successors members : List ℕ) (q pairs hiddens c : ℕ)
 unfolding afterMembers
 after-next successors members q pairs hiddens c = refl
 
-after-no-member : (successors present : List ℕ) (q pairs hiddens : ℕ) (rest : List ℕ)
-    → afterMembers successors (membersOf present 0 ++ rest) q pairs hiddens (length (membersOf present 0)) ≡ replicate setSize 0
-after-no-member successors present q pairs hiddens rest =
-    ap (λ c. afterMembers successors (membersOf present 0 ++ rest) q pairs hiddens c) (ap length (members-none present))
-    ∙ after-start successors (membersOf present 0 ++ rest) q pairs hiddens
+module _ (successors members : List ℕ) (n count pairs hiddens q : ℕ) (few : n ≤ stateLimit) (right : Successors successors n pairs hiddens)
+    (g : Members n members count) (q-lt : q < pairs) where
+  -- letters of all pairs lead to states
+  pub members-lead : Leads successors pairs hiddens members count
+  members-lead = record { small = λ i a h l. omega (arith, right .inside (getD members i 0) a (g .small i h) l) }
 
-after-member : (successors present : List ℕ) (q pairs hiddens s : ℕ) (rest : List ℕ) → eqb (getD present s 0) 1 ≡ true
-    → afterMembers successors (membersOf present (suc s) ++ rest) q pairs hiddens (length (membersOf present (suc s)))
-    ≡ withHidden successors s q pairs hiddens (afterMembers successors (membersOf present s ++ s ∷ rest) q pairs hiddens (length (membersOf present s)))
-after-member successors present q pairs hiddens s rest t =
-    ap₂ (λ l c. afterMembers successors l q pairs hiddens c) (list-with present s rest t) (count-with present s t)
-    ∙ after-next successors (membersOf present s ++ s ∷ rest) q pairs hiddens (length (membersOf present s))
-    ∙ ap (λ k. withHidden successors k q pairs hiddens (afterMembers successors (membersOf present s ++ s ∷ rest) q pairs hiddens
-    (length (membersOf present s))))
-    (getD-append-seam (membersOf present s) s rest 0)
+  -- some of the first c members leads to p
+  abbrev reaches : ℕ → ℕ → Bool
+  reaches c p = any c (λ i. leadsTo successors q pairs hiddens (getD members i 0) p)
 
--- some of the first m states of the belief leads to p
-unfoldable reaches : List ℕ → ℕ → ℕ → ℕ → Belief → ℕ → ℕ → Bool
-reaches successors pairs hiddens q b m p = any m (λ s. has b s && leadsTo successors q pairs hiddens s p)
-
-reaches-none : (successors : List ℕ) (pairs hiddens q : ℕ) (b : Belief) (p : ℕ) → reaches successors pairs hiddens q b 0 p ≡ false
-unfolding reaches
-reaches-none successors pairs hiddens q b p = refl
-
-reaches-more : (successors : List ℕ) (pairs hiddens q : ℕ) (b : Belief) (m p : ℕ)
-    → reaches successors pairs hiddens q b (suc m) p ≡ (has b m && leadsTo successors q pairs hiddens m p || reaches successors pairs hiddens q b m p)
-unfolding reaches
-reaches-more successors pairs hiddens q b m p = any-suc m (λ s. has b s && leadsTo successors q pairs hiddens s p)
-
-after-is : (successors : List ℕ) (n pairs hiddens q : ℕ) (b : Belief)
-    → beliefAfter successors n pairs hiddens b q ≡ tabulate n (reaches successors pairs hiddens q b n)
-unfolding beliefAfter reaches leadsTo
-after-is successors n pairs hiddens q b = refl
-
-module _ (successors : List ℕ) (n pairs hiddens q : ℕ) (b : Belief) (n-le : n ≤ stateLimit) (closes : Successors successors n pairs hiddens)
-    (q-lt : q < pairs) where
-  leads-inside : (s k : ℕ) → s < n → k < hiddens → successorIn successors s (q + k * pairs) < n
-  leads-inside s k h l = closes .inside s (q + k * pairs) h (letter-lt q pairs k hiddens q-lt l)
-
-  -- what the members among the first m states lead to
-  after : ℕ → List ℕ → List ℕ
-  after m rest = afterMembers successors (membersOf (spread (packBelief b)) m ++ rest) q pairs hiddens (length (membersOf (spread (packBelief b)) m))
-
-  -- its bits
-  after-bits : (m : ℕ) → m ≤ n → (rest : List ℕ) → Bits (after m rest) (reaches successors pairs hiddens q b m)
-  unfolding after
-  after-bits zero h rest =
-      subst (λ l. Bits l (reaches successors pairs hiddens q b 0)) (sym (after-no-member successors (spread (packBelief b)) q pairs hiddens rest))
-      (bits-same _ bits-none (λ p l. sym (reaches-none successors pairs hiddens q b p)))
-  after-bits (suc m) h rest = elim (test (eqb (getD (spread (packBelief b)) m 0) 1)) [
-    | inl t ↦
-        subst (λ l. Bits l (reaches successors pairs hiddens q b (suc m))) (sym (after-member successors (spread (packBelief b)) q pairs hiddens m rest t))
-        (bits-same _ (bits-hidden (after-bits m (omega arith) (m ∷ rest)) successors m q pairs hiddens
-        (λ k l. omega (arith, leads-inside m k (omega arith) l)))
-        (λ p l. or-comm (reaches successors pairs hiddens q b m p) (leadsTo successors q pairs hiddens m p) ∙ more m h p t))
-    | inr f ↦
-        subst (λ l. Bits l (reaches successors pairs hiddens q b (suc m)))
-        (sym (ap (λ v. afterMembers successors (v ++ rest) q pairs hiddens (length v)) (members-without (spread (packBelief b)) m f)))
-        (bits-same _ (after-bits m (omega arith) rest) (λ p l. more m h p f))
-  ]
-    where
-      more : (m : ℕ) → suc m ≤ n → (p : ℕ) {c : Bool} → eqb (getD (spread (packBelief b)) m 0) 1 ≡ c
-          → (c && leadsTo successors q pairs hiddens m p || reaches successors pairs hiddens q b m p) ≡ reaches successors pairs hiddens q b (suc m) p
-      more m h p e =
-          ap (λ c. c && leadsTo successors q pairs hiddens m p || reaches successors pairs hiddens q b m p) (sym e ∙ present-belief b m (omega arith))
-          ∙ sym (reaches-more successors pairs hiddens q b m p)
+  after-bits : (c : ℕ) → c ≤ count → Bits (afterMembers successors members q pairs hiddens c) (reaches c)
+  after-bits zero h = subst (λ l. Bits l (reaches 0)) (sym (after-start successors members q pairs hiddens)) (bits-same _ bits-none (λ p l. refl))
+  after-bits (suc c) h =
+      subst (λ l. Bits l (reaches (suc c))) (sym (after-next successors members q pairs hiddens c))
+      (bits-same _ (bits-hidden (after-bits c (omega arith)) successors (getD members c 0) q pairs hiddens
+      (λ k l. omega (arith, state-bits, members-lead .small c (q + k * pairs) h (letter-lt q pairs k hiddens q-lt l))))
+      (λ p l. or-comm (reaches c p) (leadsTo successors q pairs hiddens (getD members c 0) p)
+      ∙ sym (any-suc c (λ i. leadsTo successors q pairs hiddens (getD members i 0) p))))
 
   -- nothing leads out of the n states
-  reaches-inside : (p : ℕ) → n ≤ p → reaches successors pairs hiddens q b n p ≡ false
-  unfolding reaches leadsTo
-  reaches-inside p h = elim (test (reaches successors pairs hiddens q b n p)) [
+  reaches-inside : (p : ℕ) → n ≤ p → reaches count p ≡ false
+  unfolding leadsTo
+  reaches-inside p h = elim (test (reaches count p)) [
     | inr e ↦ e
     | inl t ↦
-        let (s, sb, y) = any-at n (λ s. has b s && leadsTo successors q pairs hiddens s p) t in
-        let (k, kb, e) = any-at hiddens (λ k. eqb (successorIn successors s (q + k * pairs)) p)
-        (and-right (has b s) (leadsTo successors q pairs hiddens s p) y) in
-        absurd (omega (arith, leads-inside s k sb kb, eqb-true (successorIn successors s (q + k * pairs)) p e))
+        let (i, l, y) = any-at count _ t in
+        let (k, kb, e) = any-at hiddens _ y in
+        absurd (omega (
+          arith,
+          right .inside (getD members i 0) (q + k * pairs) (g .small i l) (letter-lt q pairs k hiddens q-lt kb),
+          eqb-true (successorIn successors (getD members i 0) (q + k * pairs)) p e,
+        ))
   ]
 
-  -- what the members of a belief lead to is the belief after the pair
-  pub after-belief : (rest : List ℕ)
-      → afterMembers successors (membersOf (spread (packBelief b)) n ++ rest) q pairs hiddens (length (membersOf (spread (packBelief b)) n))
-      ≡ packBelief (beliefAfter successors n pairs hiddens b q)
-  unfolding after
-  after-belief rest =
-      bits-unique (after-bits n (omega arith) rest) (belief-bits (tabulate n (reaches successors pairs hiddens q b n)))
-      (λ p l. sym (has-table n (reaches successors pairs hiddens q b n) p (reaches-inside p)))
-      ∙ ap packBelief (sym (after-is successors n pairs hiddens q b))
+  after-is : beliefAfter successors n pairs hiddens (beliefOf n members count) q ≡ tabulate n (reaches count)
+  unfolding beliefAfter leadsTo
+  after-is = tabulate-ext n _ _ (λ p h. sym (any-member n members count g (λ s. leadsTo successors q pairs hiddens s p)))
+
+  -- what the members lead to is the belief after the pair
+  pub after-belief : afterMembers successors members q pairs hiddens count
+      ≡ packBelief (beliefAfter successors n pairs hiddens (beliefOf n members count) q)
+  after-belief =
+      bits-unique (after-bits count (omega arith)) (belief-bits (tabulate n (reaches count)))
+      (λ p l. sym (has-table n (reaches count) p (reaches-inside p)))
+      ∙ ap packBelief (sym after-is)
 
 -- ---- what the functions do
 
--- `put_members`: c of the first s states are written over the front of d
-pub record Gathered (present d : List ℕ) (s c : ℕ) (w : List ℕ) : Type 0 where
-  pub count : c ≡ length (membersOf present s)
-  pub written : w ≡ membersOf present s ++ drop c d
+-- `put_members`: of the first s states, those that pass a test are listed
+pub record Gathered (ok : ℕ → Bool) (s c : ℕ) (members : List ℕ) : Type 0 where
+  pub size : length members ≡ stateLimit
+  pub few : c ≤ s
+  pub small : (i : ℕ) → i < c → getD members i 0 < s
+  pub holds : (p : ℕ) → p < s → isMember members c p ≡ ok p
 
-pub gathered-few : {present d : List ℕ} {s c : ℕ} {w : List ℕ} → Gathered present d s c w → c ≤ s
-gathered-few {present} {d} {s} g = omega (arith, g .count, members-few present s)
+pub gathered-none : (ok : ℕ → Bool) (members : List ℕ) → length members ≡ stateLimit → Gathered ok 0 0 members
+gathered-none ok members e = record { size = e; few = omega arith; small = λ i h. absurd (omega arith); holds = λ p h. absurd (omega arith) }
 
-pub gathered-length : {present d : List ℕ} {s c : ℕ} {w : List ℕ} → Gathered present d s c w → s ≤ length d → length w ≡ length d
-gathered-length {present} {d} {s} {c} {w} g h = front-length (membersOf present s) d w c (sym (g .count)) (omega (arith, gathered-few g)) (g .written)
+module _ {ok : ℕ → Bool} {s c : ℕ} {w : List ℕ} (g : Gathered ok s c w) where
+  pub gathered-there : s < stateLimit → ok s ≡ true → (v : List ℕ) (k : ℕ) → v ≡ set w c s → k ≡ c + 1 → Gathered ok (s + 1) k v
+  gathered-there h t v k e r =
+      rw (e, r) (record {
+        size = length-set w c s ∙ g .size;
+        few = omega (arith, g .few);
+        small = λ i l. small-at i (last-or-before c i l);
+        holds = λ p l. holds-at p (last-or-before s p l);
+      })
+    where
+      new : getD (set w c s) c 0 ≡ s
+      new = getD-set-same w c s 0 (omega (arith, g .few, g .size))
 
-pub gathered-none : (present d : List ℕ) → Gathered present d 0 0 d
-unfolding membersOf
-gathered-none present d = record { count = refl; written = refl }
+      old : (i : ℕ) → i < c → getD (set w c s) i 0 ≡ getD w i 0
+      old i l = getD-set-other w c i s 0 (λ q. omega arith)
 
-pub gathered-there : {present d : List ℕ} {s c : ℕ} {w : List ℕ} → Gathered present d s c w → s < length d → getD present s 0 ≡ 1
-    → (v : List ℕ) (k : ℕ) → v ≡ set w c s → k ≡ c + 1 → Gathered present d (s + 1) k v
-gathered-there {present} {d} {s} {c} {w} g h e v k q r =
-    let t : eqb (getD present s 0) 1 ≡ true = eq-eqb (getD present s 0) 1 e in
-    let l : c < length d = omega (arith, gathered-few g) in
-    record {
-      count = r ∙ add-one c ∙ ap suc (g .count) ∙ sym (count-with present s t) ∙ ap (λ j. length (membersOf present j)) (sym (add-one s));
-      written =
-          q ∙ ap (λ u. set u c s) (g .written) ∙ put-next (membersOf present s) d c s (sym (g .count)) l
-          ∙ ap₂ (λ u j. u ++ drop j d) (sym (members-with present s t) ∙ ap (membersOf present) (sym (add-one s))) (sym r);
-    }
+      small-at : (i : ℕ) → (i ≡ c) ⊎ (i < c) → getD (set w c s) i 0 < s + 1
+      small-at i (inl q) = omega (arith, ap (λ j. getD (set w c s) j 0) q ∙ new)
+      small-at i (inr l) = omega (arith, old i l, g .small i l)
 
-pub gathered-not : {present d : List ℕ} {s c : ℕ} {w : List ℕ} → Gathered present d s c w → (getD present s 0 ≡ 1 → ⊥)
-    → (v : List ℕ) (k : ℕ) → v ≡ w → k ≡ c → Gathered present d (s + 1) k v
-gathered-not {present} {d} {s} {c} {w} g n v k q r =
-    let e : membersOf present s ≡ membersOf present (s + 1) = sym (members-without present s (ne-eqb (getD present s 0) 1 n))
-    ∙ ap (membersOf present) (sym (add-one s)) in
-    record {
-      count = r ∙ g .count ∙ ap length e;
-      written = q ∙ g .written ∙ ap₂ (λ u j. u ++ drop j d) e (sym r);
-    }
+      more : (p : ℕ) → isMember (set w c s) (c + 1) p ≡ (eqb s p || isMember w c p)
+      more p =
+          ap (λ j. isMember (set w c s) j p) (add-one c) ∙ member-more (set w c s) c p
+          ∙ ap₂ (λ x b. eqb x p || b) new (member-ext (set w c s) w c p old)
 
-pub gathered-all : {present d : List ℕ} {s c : ℕ} {w : List ℕ} (n : ℕ) → Gathered present d s c w → s ≡ n
-    → (c ≡ length (membersOf present n)) × (w ≡ membersOf present n ++ drop (length (membersOf present n)) d)
-gathered-all {present} {d} {s} {c} {w} n g e = (
-  g .count ∙ ap (λ k. length (membersOf present k)) e,
-  g .written ∙ ap₂ (λ v k. v ++ drop k d) (ap (membersOf present) e) (g .count ∙ ap (λ k. length (membersOf present k)) e),
+      holds-at : (p : ℕ) → (p ≡ s) ⊎ (p < s) → isMember (set w c s) (c + 1) p ≡ ok p
+      holds-at p (inl q) = more p ∙ or-intro-left (isMember w c p) (eq-eqb s p (sym q)) ∙ sym (ap ok q ∙ t)
+      holds-at p (inr l) = more p ∙ ap (λ b. b || isMember w c p) (ne-eqb s p (λ q. omega arith)) ∙ g .holds p l
+
+  pub gathered-not : ok s ≡ false → (v : List ℕ) (k : ℕ) → v ≡ w → k ≡ c → Gathered ok (s + 1) k v
+  gathered-not f v k e r =
+      rw (e, r) (record {
+        size = g .size;
+        few = omega (arith, g .few);
+        small = λ i l. omega (arith, g .small i l);
+        holds = λ p l. holds-at p (last-or-before s p l);
+      })
+    where
+      none : isMember w c s ≡ false
+      none = elim (test (isMember w c s)) [
+        | inl t ↦ let (i, l, q) = member-at w c s t in absurd (omega (arith, g .small i l, q))
+        | inr q ↦ q
+      ]
+
+      holds-at : (p : ℕ) → (p ≡ s) ⊎ (p < s) → isMember w c p ≡ ok p
+      holds-at p (inl q) = ap (isMember w c) q ∙ none ∙ sym (ap ok q ∙ f)
+      holds-at p (inr l) = g .holds p l
+
+-- bit s of belief i
+unfoldable pub inBelief : List ℕ → ℕ → ℕ → Bool
+inBelief mem i s = bit (getD mem (i * beliefSize + s / 8) 0) (s % 8)
+
+pub present-true : (mem : List ℕ) (i s : ℕ) → bitAnd (getD mem (i * beliefSize + s / 8) 0 / 2 ^ (s % 8)) 1 ≡ 1 → inBelief mem i s ≡ true
+unfolding inBelief
+present-true mem i s e = sym (bit-test (getD mem (i * beliefSize + s / 8) 0) (s % 8)) ∙ eq-eqb _ 1 e
+
+pub present-false : (mem : List ℕ) (i s : ℕ) → (bitAnd (getD mem (i * beliefSize + s / 8) 0 / 2 ^ (s % 8)) 1 ≡ 1 → ⊥) → inBelief mem i s ≡ false
+unfolding inBelief
+present-false mem i s ne = sym (bit-test (getD mem (i * beliefSize + s / 8) 0) (s % 8)) ∙ ne-eqb _ 1 ne
+
+pub gathered-all : (mem : List ℕ) (i n : ℕ) {s c : ℕ} {w : List ℕ} → Gathered (inBelief mem i) s c w → s ≡ n → n ≤ stateLimit
+    → Members n w c × (beliefOf n w c ≡ beliefIn n mem i)
+unfolding beliefOf itemIn inBelief
+gathered-all mem i n {s} {c} {w} g e h = (
+  record { fits = omega (arith, g .few, g .size); small = λ j l. omega (arith, g .small j l) },
+  tabulate-ext n _ _ (λ p l. g .holds p (omega arith)),
 )
 
+-- `is_final`
+low-bit : (x : ℕ) → bit x 0 ≡ eqb (bitAnd x 1) 1
+low-bit x = bit-low x ∙ ap (λ y. eqb y 1) (sym (and-mask x 1))
+
+module _ (sets members : List ℕ) where
+  pub accept-none : allAccept sets members 0 ≡ true
+  unfolding allAccept
+  accept-none = refl
+
+  pub accept-more : (i : ℕ) → allAccept sets members i ≡ true → (bitAnd (getD sets (getD members i 0 * setSize) 0) 1 ≡ 0 → ⊥)
+      → allAccept sets members (i + 1) ≡ true
+  unfolding allAccept
+  accept-more i a ne =
+      let x = getD sets (getD members i 0 * setSize) 0 in
+      all-more i _ a (low-bit x ∙ eq-eqb (bitAnd x 1) 1 (omega (arith, low-lt x, ne)))
+
+  pub accept-fails : (count i : ℕ) → i < count → bitAnd (getD sets (getD members i 0 * setSize) 0) 1 ≡ 0 → allAccept sets members count ≡ false
+  unfolding allAccept
+  accept-fails count i h e =
+      all-fails count _ i h (low-bit (getD sets (getD members i 0 * setSize) 0) ∙ ap (λ y. eqb y 1) e)
+
 -- `put_after`
-pub after-none : (successors members : List ℕ) (q pairs hiddens : ℕ) (w : List ℕ) (m : ℕ) → m ≡ setSize → w ≡ replicate m 0
+pub after-none : (successors members : List ℕ) (q pairs hiddens : ℕ) (w : List ℕ) (m : ℕ) → m ≡ beliefSize → w ≡ replicate m 0
     → w ≡ afterMembers successors members q pairs hiddens 0
 after-none successors members q pairs hiddens w m e r = r ∙ ap (λ k. replicate k 0) e ∙ sym (after-start successors members q pairs hiddens)
 

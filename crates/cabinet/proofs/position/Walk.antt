@@ -1,4 +1,4 @@
--- The machine values of positions and answers, for the walks of `start` and `step`.
+-- The machine values of shapes, positions and answers, for the walks of `start` and `step`.
 -- Assumes nothing.
 use mathlib.Core.List.{[], _∷_}
 use mir.Val.{Val}
@@ -6,15 +6,21 @@ use denote.RattleType.{RattleType}
 use denote.Laws.{Is}
 use denote.Struct.Laws as LL
 use denote.Enum.Laws as EL
+use Rattle.tables.specs.declared.shape.Shape.{Shape}
 use Rattle.cabinet.specs.declared.position.Position.{Position}
 use Rattle.cabinet.specs.declared.position.Answer.{Answer}
 use Rattle.cabinet.specs.declared.position.Moved.{Moved}
+use Rattle.tables.proofs.shape.Shape as P
+use Rattle.tables.proofs.shape.Shape.Laws as P′
 use Rattle.cabinet.proofs.position.Position as T
 use Rattle.cabinet.proofs.position.Position.Laws as T′
 use Rattle.cabinet.proofs.position.Answer as E
 use Rattle.cabinet.proofs.position.Answer.Laws as E′
 use Rattle.cabinet.proofs.position.Moved as S
 use Rattle.cabinet.proofs.position.Moved.Laws as S′
+
+abbrev pub RP : RattleType
+RP = P.the-row
 
 abbrev pub R : RattleType
 R = T.the-row
@@ -24,6 +30,9 @@ RS = S.the-row
 
 abbrev pub RE : RattleType
 RE = E.the-row
+
+abbrev pub shapeVal : Shape → Val
+shapeVal p = LL.tuple-val P.the-type P′.the-laws (P.the-type .to p)
 
 abbrev pub mach : Position → Val
 mach p = LL.tuple-val T.the-type T′.the-laws (T.the-type .to p)

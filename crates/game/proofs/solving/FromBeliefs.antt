@@ -1,19 +1,17 @@
--- From the beliefs that were explored to the answer: their rows and marks are the game over the beliefs' numbers.
+-- From the beliefs that were explored to the answer: their rows and marks are the beliefs by their numbers.
 -- Assumes nothing.
 use Prim.Native.Nat.{ℕ, suc, _+_, _*_, _≤_, _<_}
-use native.Mathlib.Nat.{add-assoc, mul-comm, mul-le-mul}
+use native.Mathlib.Nat.{add-assoc, mul-le-mul}
 use mathlib.Core.Path.{_≡_, refl, sym, ap, ap₂, _∙_, subst}
-use mathlib.Core.Bool.{cond, not, _||_}
+use mathlib.Core.Bool.{cond}
 use mathlib.Core.List.{List, _++_}
-use lib.Arith.{digits-div, digits-mod, digits-lt}
 use lib.Dec.{eqb}
 use lib.ListN.{length, getD, length-map, List·getD-append}
 use Rattle.lines.specs.declared.refusal.Refusal.the-variants as refusal
-use Rattle.basics.specs.Bits.{bit}
 use Rattle.basics.proofs.ListsLaws.{length-tabulate, getD-tabulate, getD-map-in}
 use Rattle.search.specs.declared.searching.Explored.the-variants.{Found, TooMany}
-use Rattle.search.specs.Limits.{setSize}
 use Rattle.basics.specs.Lists.{below, padded, written}
+use Rattle.basics.specs.Member.{_∈_}
 use Rattle.basics.specs.Reach.{Listing, closed, indexIn}
 use Rattle.search.specs.ReachableSets.{sameSet}
 use Rattle.search.specs.Slots.{exploredOf}
@@ -23,32 +21,26 @@ use Rattle.tables.specs.declared.answering.Outcome.{Outcome}
 use Rattle.game.specs.declared.solving.Solved.{Solved}
 use Rattle.game.specs.declared.solving.Solved.the-variants.{Refused}
 use Rattle.play.specs.Limits.{beliefLimit, pairLimit}
-use Rattle.play.specs.Game.{Game}
 use Rattle.play.specs.Rank.{Arena}
-use Rattle.play.specs.Belief.{Automaton, Belief, has, nextBelief, finalBelief, beliefs}
+use Rattle.play.specs.Belief.{Belief}
 use Rattle.play.specs.Table.{listOf}
-use Rattle.play.specs.Answer.{moves, positions, verdictOf, numbered, cellsOf as verdictCells}
+use Rattle.play.specs.Answer.{moves, positions, verdictOf, cellsOf as verdictCells}
 use Rattle.tables.specs.Outcome.{outcomeOf}
-use Rattle.game.specs.Solution.{tooManyBeliefs, verdict, solutionOf, beliefSolution}
+use Rattle.game.specs.Solution.{Solution, tooManyBeliefs, verdict, solutionOf}
 use Rattle.game.specs.Claim.{solvedAs, solvedOf, cellsOf}
 use Rattle.beliefs.specs.BeliefMemory.{beliefAfter, countedBeliefs, finalsOf, movesOf}
-use Rattle.game.specs.StateMemory.{Tables, Widths}
+use Rattle.game.specs.StateMemory.{Widths, memorySolution}
 use Rattle.tables.specs.PositionMemory.{arenaIn, Positions}
-use Rattle.play.proofs.AnswerLaws.{start-number, move-number}
-use Rattle.basics.proofs.ReachLaws.{closed-begins}
-use Rattle.basics.proofs.BoundedLaws.{all-ext}
-use Rattle.play.proofs.SameArena.{arena}
-use Rattle.play.proofs.SameVerdict.{verdict-same}
+use Rattle.play.proofs.AnswerLaws.{start-counted, move-counted}
+use Rattle.play.proofs.SameAnswer.{Renaming, verdict-image}
+use Rattle.basics.proofs.ReachLaws.{closed-begins, index-right, index-one}
 use Rattle.beliefs.proofs.NumberedRows.{rows-entry}
 use Rattle.beliefs.proofs.ListedBeliefs.{counted-some, counted-over, beliefs-few, beliefs-some, beliefs-inside}
-use Rattle.game.proofs.SameBeliefs.{Follows, belief-same, beliefs-same}
+use Rattle.game.proofs.LetterNumbers.{pair-lt}
+use Rattle.game.proofs.SameBeliefs.{beliefsIn, pair-move, counted-same}
 
 pub widths-pairs : (choices observations hiddens : ℕ) → Widths choices observations hiddens → choices * observations ≤ pairLimit
 widths-pairs choices observations hiddens w = mul-le-mul (w .few-choices) (w .few-observations)
-
--- a pair's number, from its choice and its observation
-pair-lt : (choices observations c s : ℕ) → c < choices → s < observations → s * choices + c < choices * observations
-pair-lt choices observations c s cb sb = subst (λ m. s * choices + c < m) (mul-comm observations choices) (digits-lt sb cb)
 
 -- ---- the rows are positions, closed under moves
 
@@ -84,119 +76,79 @@ module _ (successors : List ℕ) (n choices observations hiddens : ℕ) (w : Wid
 
 -- ---- the verdict from them is that from the beliefs
 
-module _ (G : Game) (M : Automaton) (successors : List ℕ) (f : Follows G M successors) (first : M .initial ≡ 0)
-    (few-pairs : G .choices * G .observations ≤ pairLimit)
-    (limit : ℕ) (bs : List Belief) (tried : countedBeliefs successors (M .states) (G .choices * G .observations) (G .hiddens) limit ≡ closed bs) where
+module _ (sets successors : List ℕ) (n choices observations hiddens : ℕ) (few-pairs : choices * observations ≤ pairLimit)
+    (limit : ℕ) (bs : List Belief) (tried : countedBeliefs successors n (choices * observations) hiddens limit ≡ closed bs) where
   abbrev A : Arena
-  A = beliefs G M
+  A = beliefsIn sets successors n choices observations hiddens
 
   abbrev pairs : ℕ
-  pairs = G .choices * G .observations
+  pairs = choices * observations
 
-  abbrev n : ℕ
-  n = M .states
+  -- a belief's number, and a number's belief
+  abbrev number : Belief → ℕ
+  number b = indexIn sameSet b bs
 
   abbrev at : ℕ → Belief
   at i = getD bs i (A .start)
 
-  abbrev counted : positions (beliefs G M) sameSet (G .choices) (G .observations) limit ≡ closed bs
-  counted = sym (beliefs-same G M successors f limit first) ∙ tried
+  abbrev counted : positions A sameSet choices observations limit ≡ closed bs
+  counted = sym (counted-same sets successors n choices observations hiddens limit) ∙ tried
 
-  start-zero : indexIn sameSet (A .start) bs ≡ 0
+  start-zero : number (A .start) ≡ 0
   unfolding indexIn
   start-zero =
-      let (ys, e) = closed-begins sameSet sameSet-says (moves A sameSet (G .choices) (G .observations)) (A .start) limit bs counted in
+      let (ys, e) = closed-begins sameSet sameSet-says (moves A sameSet choices observations) (A .start) limit bs counted in
       ap (indexIn sameSet (A .start)) e ∙ ap (λ b. cond b 0 (suc (indexIn sameSet (A .start) ys))) (sameSet-says (A .start) (A .start) .1 refl)
 
-  module _ (sets finals rest : List ℕ) (accepting : (s : ℕ) → s < n → bit (getD sets (s * setSize) 0) 0 ≡ M .accepts s)
-      (marked : finals ≡ finalsOf sets n bs ++ rest)
-      (size : ℕ) (rows : List ℕ) (rows-are : rows ≡ padded size (movesOf successors n pairs (G .hiddens) (closed bs))) where
+  module _ (finals rest : List ℕ) (marked : finals ≡ finalsOf sets n bs ++ rest)
+      (size : ℕ) (rows : List ℕ) (rows-are : rows ≡ padded size (movesOf successors n pairs hiddens (closed bs))) where
     -- which are final
-    final-at : (i : ℕ) → i < length bs → eqb (getD finals i 0) 1 ≡ finalBelief G M (at i)
+    final-at : (i : ℕ) → i < length bs → eqb (getD finals i 0) 1 ≡ A .final (at i)
     unfolding finalsOf
     final-at i h =
         ap (λ t. eqb (getD t i 0) 1) marked
         ∙ ap (λ y. eqb y 1) (List·getD-append (finalsOf sets n bs) rest 0 i (subst (λ m. i < m) (sym (length-map bs _)) h) ∙ getD-map-in _ bs i (A .start) 0 h)
-        ∙ digit-is _ ∙ all-ext n _ _ (λ s l. ap (λ v. not (has (at i) s) || v) (accepting s l))
+        ∙ digit-is _
 
     -- where pairs lead
-    move-at : (i c s : ℕ) → i < length bs → c < G .choices → s < G .observations
-        → getD rows (i * pairLimit + s * G .choices + c) 0 ≡ indexIn sameSet (nextBelief G M (at i) c s) bs
+    move-at : (i c s : ℕ) → i < length bs → c < choices → s < observations
+        → getD rows (i * pairLimit + s * choices + c) 0 ≡ number (A .move (at i) c s)
     move-at i c s h cb sb =
-        let l : s * G .choices + c < pairs = pair-lt (G .choices) (G .observations) c s cb sb in
+        let l : s * choices + c < pairs = pair-lt choices observations c s cb sb in
         let count = length-tabulate pairs (λ k. k) in
-        ap₂ (λ t k. getD t k 0) rows-are (add-assoc (i * pairLimit) (s * G .choices) c)
-        ∙ rows-entry sameSet (beliefAfter successors n pairs (G .hiddens)) (below pairs) pairLimit (subst (λ m. m ≤ pairLimit) (sym count) few-pairs)
-        bs (A .start) size i (s * G .choices + c) h (subst (λ m. s * G .choices + c < m) (sym count) l)
-        ∙ ap (λ b. indexIn sameSet b bs)
-        (ap (beliefAfter successors n pairs (G .hiddens) (at i)) (getD-tabulate pairs (λ k. k) (s * G .choices + c) 0 l)
-        ∙ belief-same G M successors f (at i) (s * G .choices + c) l ∙ ap₂ (nextBelief G M (at i)) (digits-mod s cb) (digits-div s cb))
+        ap₂ (λ t k. getD t k 0) rows-are (add-assoc (i * pairLimit) (s * choices) c)
+        ∙ rows-entry sameSet (beliefAfter successors n pairs hiddens) (below pairs) pairLimit (subst (λ m. m ≤ pairLimit) (sym count) few-pairs)
+        bs (A .start) size i (s * choices + c) h (subst (λ m. s * choices + c < m) (sym count) l)
+        ∙ ap number (ap (beliefAfter successors n pairs hiddens (at i)) (getD-tabulate pairs (λ k. k) (s * choices + c) 0 l)
+        ∙ sym (pair-move sets successors n choices observations hiddens (at i) c s))
 
-    abbrev N : Arena
-    N = numbered A sameSet bs
+    -- the beliefs by their numbers
+    renaming : Renaming A (arenaIn choices rows finals) sameSet eqb choices observations number (λ b. b ∈ bs)
+    renaming =
+        record {
+          met-start = start-counted A sameSet sameSet-says choices observations limit bs counted;
+          met-next = λ b m f. move-counted A sameSet sameSet-says choices observations limit bs counted b m;
+          named-start = start-zero;
+          named-final = λ b m. let (h, e) = index-right sameSet sameSet-says b bs (A .start) m in final-at (number b) h ∙ ap (A .final) e;
+          named-move = λ b m f c cb s sb.
+              let (h, e) = index-right sameSet sameSet-says b bs (A .start) m in
+              move-at (number b) c s h cb sb ∙ ap (λ k. number (A .move k c s)) e;
+          one = λ a b m k. index-one sameSet sameSet-says a b bs m k;
+        }
 
-    abbrev K : Arena
-    K = arenaIn (G .choices) rows finals
+    verdict-kept : verdict (verdictOf (arenaIn choices rows finals) eqb choices observations (length bs))
+        ≡ solutionOf A sameSet choices observations (positions A sameSet choices observations limit)
+    verdict-kept = ap verdict (sym (verdict-image renaming (length bs))) ∙ ap (solutionOf A sameSet choices observations) (sym counted)
 
-    verdict-kept : 0 < G .observations → verdict (verdictOf K eqb (G .choices) (G .observations) (length bs))
-        ≡ solutionOf A sameSet (G .choices) (G .observations) (positions A sameSet (G .choices) (G .observations) limit)
-    verdict-kept some =
-        let inside : (i c s : ℕ) → i < length bs → c < G .choices → s < G .observations → K .move i c s < length bs =
-        λ i c s h cb sb. subst (λ k. k < length bs) (sym (move-at i c s h cb sb))
-        (move-number A sameSet sameSet-says (G .choices) (G .observations) limit bs counted i c s h cb sb .0) in
-        ap verdict (verdict-same (length bs) (G .choices) (G .observations) 0
-        (subst (λ k. k < length bs) start-zero (start-number A sameSet sameSet-says (G .choices) (G .observations) limit bs counted .0)) some
-        (K .move) (N .move) (K .final) (N .final) move-at final-at inside
-        ∙ ap (λ k. verdictOf (arena k (N .move) (N .final)) eqb (G .choices) (G .observations) (length bs)) (sym start-zero))
-        ∙ ap (solutionOf A sameSet (G .choices) (G .observations)) (sym counted)
+-- ---- what `solve_states` answers and writes
 
--- for every game and automaton that the tables are those of, the answer from memory is theirs
-module _ (G : Game) (M : Automaton) (sets successors : List ℕ) where
-  abbrev Some : ℕ → ℕ → ℕ → ℕ → Type 0
-  Some n choices observations hiddens =
-      let l = countedBeliefs successors n (choices * observations) hiddens beliefLimit in
-      choices * observations ≤ pairLimit → 0 < observations → (k : ℕ) → Found k ≡ exploredOf l
-      → (rows : List ℕ) → rows ≡ padded (beliefLimit * pairLimit) (movesOf successors n (choices * observations) hiddens l)
-      → (finals room : List ℕ) → finals ≡ written (finalsOf sets n (listOf l)) room
-      → verdict (verdictOf (arenaIn choices rows finals) eqb choices observations k) ≡ beliefSolution G M
+-- a solution is answered, for so many observed signals, and written to the table
+abbrev pub Answered : ℕ → Solution → Solved → List ℕ → List ℕ → Type 0
+Answered observed x r table table′ = (r ≡ solvedOf observed x) × (table′ ≡ written (cellsOf x) table)
 
-  abbrev Many : ℕ → ℕ → ℕ → ℕ → Type 0
-  Many n choices observations hiddens =
-      TooMany ≡ exploredOf (countedBeliefs successors n (choices * observations) hiddens beliefLimit) → beliefSolution G M ≡ tooManyBeliefs
-
-  module _ (n choices observations hiddens : ℕ) (t : Tables G M sets successors n choices observations hiddens) where
-    -- what holds of the sizes of the game and the automaton holds of those given
-    sized : (P : ℕ → ℕ → ℕ → ℕ → Type 0) → P (M .states) (G .choices) (G .observations) (G .hiddens) → P n choices observations hiddens
-    sized P p =
-        subst (λ h. P n choices observations h) (t .hiddens-are) (subst (λ o. P n choices o (G .hiddens)) (t .observations-are)
-        (subst (λ c. P n c (G .observations) (G .hiddens)) (t .choices-are) (subst (λ m. P m (G .choices) (G .observations) (G .hiddens)) (t .states-are) p)))
-
-    abbrev f : Follows G M successors
-    f = record { follows = t .follows }
-
-    verdict-some : Some (M .states) (G .choices) (G .observations) (G .hiddens)
-    verdict-some few-pairs some k got rows rows-are finals room marked =
-        let l = countedBeliefs successors (M .states) (G .choices * G .observations) (G .hiddens) beliefLimit in
-        let (bs, e, c) = counted-some l k got in
-        ap (λ m. verdict (verdictOf (arenaIn (G .choices) rows finals) eqb (G .choices) (G .observations) m)) (sym c)
-        ∙ verdict-kept G M successors f (t .first) few-pairs beliefLimit bs e sets finals _ (t .accepting)
-        (marked ∙ ap (λ r. written (finalsOf sets (M .states) (listOf r)) room) e) (beliefLimit * pairLimit) rows
-        (rows-are ∙ ap (λ r. padded (beliefLimit * pairLimit) (movesOf successors (M .states) (G .choices * G .observations) (G .hiddens) r)) e) some
-
-    counted-verdict : Some n choices observations hiddens
-    counted-verdict = sized Some verdict-some
-
-    counted-too-many : Many n choices observations hiddens
-    counted-too-many =
-        sized Many (λ e. ap (solutionOf (beliefs G M) sameSet (G .choices) (G .observations))
-        (sym (beliefs-same G M successors f beliefLimit (t .first)) ∙ counted-over _ e))
-
--- what `solve_states` answers is right for all of them
-module _ (sets successors : List ℕ) (n choices observations hiddens : ℕ) where
-  abbrev Answers : Solved → List ℕ → List ℕ → Type 0
-  Answers r table table′ =
-      ((G : Game) (M : Automaton) → Tables G M sets successors n choices observations hiddens → r ≡ solvedOf (beliefSolution G M))
-      × ((G : Game) (M : Automaton) → Tables G M sets successors n choices observations hiddens → table′ ≡ written (cellsOf (beliefSolution G M)) table)
+module _ (sets successors : List ℕ) (n choices observations hiddens observed : ℕ) where
+  abbrev solution : Solution
+  solution = memorySolution sets successors n choices observations hiddens
 
   abbrev counts : Listing Belief
   counts = countedBeliefs successors n (choices * observations) hiddens beliefLimit
@@ -205,20 +157,25 @@ module _ (sets successors : List ℕ) (n choices observations hiddens : ℕ) whe
       → (rows : List ℕ) → rows ≡ padded (beliefLimit * pairLimit) (movesOf successors n (choices * observations) hiddens counts)
       → (finals room : List ℕ) → finals ≡ written (finalsOf sets n (listOf counts)) room
       → (o : Outcome) (table table′ : List ℕ) → o ≡ outcomeOf (verdictOf (arenaIn choices rows finals) eqb choices observations k)
-      → table′ ≡ written (verdictCells (verdictOf (arenaIn choices rows finals) eqb choices observations k)) table → Answers (solvedAs o) table table′
-  solved-verdict w k got rows rows-are finals room marked o table table′ e f = (
-    λ G M t. ap solvedAs e ∙ ap solvedOf (same G M t),
-    λ G M t. f ∙ ap (λ r. written (cellsOf r) table) (same G M t),
-  )
+      → table′ ≡ written (verdictCells (verdictOf (arenaIn choices rows finals) eqb choices observations k)) table
+      → Answered observed solution (solvedAs observed o) table table′
+  unfolding memorySolution
+  solved-verdict w k got rows rows-are finals room marked o table table′ e f =
+      (ap (solvedAs observed) e ∙ ap (solvedOf observed) same, f ∙ ap (λ r. written (cellsOf r) table) same)
     where
-      same : (G : Game) (M : Automaton) → Tables G M sets successors n choices observations hiddens
-          → verdict (verdictOf (arenaIn choices rows finals) eqb choices observations k) ≡ beliefSolution G M
-      same G M t =
-          counted-verdict G M sets successors n choices observations hiddens t (widths-pairs choices observations hiddens w) (w .some-observation)
-          k got rows rows-are finals room marked
+      same : verdict (verdictOf (arenaIn choices rows finals) eqb choices observations k) ≡ solution
+      same =
+          let (bs, tried, count) = counted-some counts k got in
+          ap (λ m. verdict (verdictOf (arenaIn choices rows finals) eqb choices observations m)) (sym count)
+          ∙ verdict-kept sets successors n choices observations hiddens (widths-pairs choices observations hiddens w) beliefLimit bs tried finals _
+          (marked ∙ ap (λ r. written (finalsOf sets n (listOf r)) room) tried) (beliefLimit * pairLimit) rows
+          (rows-are ∙ ap (λ r. padded (beliefLimit * pairLimit) (movesOf successors n (choices * observations) hiddens r)) tried)
 
-  pub solved-many : TooMany ≡ exploredOf counts → (table : List ℕ) → Answers (Refused refusal.TooManyBeliefs) table table
-  solved-many many table = (λ G M t. sym (ap solvedOf (same G M t)), λ G M t. sym (ap (λ r. written (cellsOf r) table) (same G M t)))
+  pub solved-many : TooMany ≡ exploredOf counts → (table : List ℕ) → Answered observed solution (Refused refusal.TooManyBeliefs) table table
+  unfolding memorySolution
+  solved-many many table = (ap (solvedOf observed) same, ap (λ r. written (cellsOf r) table) same)
     where
-      same : (G : Game) (M : Automaton) → Tables G M sets successors n choices observations hiddens → beliefSolution G M ≡ tooManyBeliefs
-      same G M t = counted-too-many G M sets successors n choices observations hiddens t many
+      same : tooManyBeliefs ≡ solution
+      same =
+          sym (ap (solutionOf (beliefsIn sets successors n choices observations hiddens) sameSet choices observations)
+          (sym (counted-same sets successors n choices observations hiddens beliefLimit) ∙ counted-over counts many))

@@ -2,7 +2,7 @@
 -- Assumes nothing.
 use Prim.Native.Nat.{ℕ, _≤_, _<_}
 use native.Mathlib.Omega.{arith}
-use mathlib.Core.Path.{_≡_, refl, sym, ap, _∙_, subst}
+use mathlib.Core.Path.{_≡_, refl, sym, ap, ap₂, _∙_, subst}
 use mathlib.Core.List.{List}
 use lib.ListN.{length, take}
 use Rattle.lines.specs.declared.refusal.Refusal.{Refusal}
@@ -12,22 +12,22 @@ use Rattle.lines.specs.declared.problem.Reading.the-variants as reading
 use Rattle.formula.specs.Formula.{operators}
 use Rattle.basics.specs.Limits.{operatorLimit}
 use Rattle.rules.specs.Judge.{countsIn}
-use Rattle.rules.specs.Reading.{readingOf}
+use Rattle.rules.specs.Reading.{readingOf, sizesOf}
 use Rattle.formula.specs.Codes.{partsIn}
-use Rattle.formula.specs.Parts.{partsOf, Earlier}
-use Rattle.rules.specs.Problem.{Problem, Outcome, accepted, refused}
+use Rattle.formula.specs.Parts.{partAt, arity}
+use Rattle.rules.specs.Problem.{Outcome, problemParts, accepted, refused}
 use Rattle.rules.specs.Trace.{countsOf}
 use Rattle.formula.proofs.CodesLaws.{length-in}
-use Rattle.rules.proofs.JudgeLaws.{Taken, taken-length, taken-parts, some-parts, few-parts, few-signals}
-use Rattle.formula.proofs.PartsLaws.{WellFormed, parts-formed}
+use Rattle.rules.proofs.JudgeLaws.{Taken, taken-length, taken-parts, some-parts, few-parts, few-signals, taken-ready}
+use Rattle.rules.proofs.ProblemLaws.{inside, temporals-are}
 use Rattle.obligations.specs.Obligation.{operatorsOf}
 use Rattle.obligations.specs.Values.{Stored}
 use Rattle.rules.proofs.ReadingLaws.{not-refused, same-refusal}
 use Rattle.states.specs.Planes.{Sized}
-use Rattle.obligations.proofs.OperatorSpots.{operators-from}
+use Rattle.obligations.proofs.OperatorSpots.{operators-are}
 use Rattle.game.specs.declared.solving.Solved.{Solved}
 use Rattle.game.specs.declared.solving.Solved.the-variants.{Refused}
-use Rattle.game.specs.Solution.{solution}
+use Rattle.game.specs.Solution.{partsSolution, solution}
 use Rattle.basics.specs.Lists.{written}
 use Rattle.game.specs.Claim.{solvedOf, solvedFrom, cellsOf, cellsFrom}
 
@@ -45,19 +45,17 @@ module _ {o : Outcome} {s : Sizes} {codes : List ℕ} (t : Taken o s codes) wher
   signals-taken : countsOf s ≡ countsIn (t .problem .signals)
   signals-taken = ap (λ (z : Sizes). countsOf z) (t .sizes)
 
-  operators-taken : operatorsOf (partsIn front) ≡ operators (t .problem .formula)
-  operators-taken = ap operatorsOf (taken-parts t) ∙ operators-from (t .problem .formula)
+  operators-taken : operatorsOf (partsIn front) ≡ sizesOf (t .problem) .operators
+  operators-taken = ap operatorsOf (taken-parts t) ∙ operators-are (problemParts (t .problem)) ∙ temporals-are (t .problem)
 
-  formed-taken : (i : ℕ) → i < length front → Earlier (partsIn front) i
-  unfolding WellFormed
-  formed-taken i h =
-      subst (λ q. Earlier q i) (sym (taken-parts t))
-      (parts-formed (t .problem .formula) i (subst (λ m. i < m) (sym (length-in front) ∙ ap length (taken-parts t)) h))
+  inside-taken : (i : ℕ) → i < length front → 1 ≤ arity (partAt (partsIn front) i .kind) → partAt (partsIn front) i .left < length front
+  inside-taken i h = rw (← length-in front, taken-parts t) (inside (t .problem) i (rw (← taken-parts t, length-in front) h))
 
   pub stored-taken : Stored front
   stored-taken =
       record {
-        formed = formed-taken;
+        ready = taken-ready t;
+        inside = inside-taken;
         some = some-parts t;
         few = omega (arith, taken-length t, few-parts t);
         operators = subst (λ m. m ≤ operatorLimit) (sym operators-taken) (t .within .operators);
@@ -73,9 +71,12 @@ module _ {o : Outcome} {s : Sizes} {codes : List ℕ} (t : Taken o s codes) wher
         signals-few = rw (t .sizes) (t .within .few .total);
       }
 
-  -- the answer for every problem with these parts is that for the text
-  pub source-right : (r : Solved) (table table′ : List ℕ)
-      → ((p : Problem) → partsIn front ≡ partsOf (p .formula) → countsOf s ≡ countsIn (p .signals) → r ≡ solvedOf (solution p))
-      → ((p : Problem) → partsIn front ≡ partsOf (p .formula) → countsOf s ≡ countsIn (p .signals) → table′ ≡ written (cellsOf (solution p)) table)
-      → (r ≡ solvedFrom o) × (table′ ≡ written (cellsFrom o) table)
-  source-right r table table′ f g = rw (t .is) (f (t .problem) (taken-parts t) signals-taken, g (t .problem) (taken-parts t) signals-taken)
+  -- the answer for these parts and signals is that for the text
+  pub source-right : (r : Solved) (table table′ : List ℕ) → r ≡ solvedOf (s .observed) (partsSolution (partsIn front) (countsOf s))
+      → table′ ≡ written (cellsOf (partsSolution (partsIn front) (countsOf s))) table → (r ≡ solvedFrom o) × (table′ ≡ written (cellsFrom o) table)
+  source-right r table table′ f g =
+      let same : partsSolution (partsIn front) (countsOf s) ≡ solution (t .problem) = ap₂ partsSolution (taken-parts t) signals-taken in
+      rw (t .is) (
+        f ∙ ap₂ (λ (z : Sizes) x. solvedOf (z .observed) x) (t .sizes) same,
+        g ∙ ap (λ x. written (cellsOf x) table) same,
+      )

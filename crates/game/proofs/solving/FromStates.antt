@@ -3,24 +3,21 @@
 use Prim.Native.Nat.{ℕ, _*_, _%_, _^_, _≤_, _<_}
 use native.Mathlib.Nat.{pow-le-pow-right}
 use native.Mathlib.Omega.{arith}
-use mathlib.Core.Path.{_≡_, refl, sym, ap, ap₂, _∙_, subst, subst₂}
+use mathlib.Core.Path.{_≡_, sym, ap, ap₂, _∙_, subst}
 use mathlib.Core.List.{List}
 use lib.Dec.{lit<}
 use lib.Pow.{pow-pos}
 use lib.ListN.{length}
 use Rattle.lines.specs.declared.problem.Sizes.{Sizes}
-use Rattle.rules.specs.Judge.{countsIn}
+use Rattle.lines.specs.declared.refusal.Refusal.the-variants as refusal
 use Rattle.formula.specs.declared.parts.Part.{Part}
 use Rattle.formula.specs.Codes.{partsIn}
-use Rattle.formula.specs.Parts.{partsOf}
-use Rattle.rules.specs.Problem.{Problem}
-use Rattle.formula.specs.Semantics.{holds}
 use Rattle.rules.specs.Trace.{countsOf}
-use Rattle.formula.specs.Letter.{Counts}
+use Rattle.formula.specs.Letter.{Counts, letterFrom}
 use Rattle.search.specs.declared.searching.Explored.the-variants.{Found, TooMany}
 use Rattle.search.specs.Limits.{stateLimit, letterLimit}
 use Rattle.obligations.specs.Letters.{lettersOf}
-use Rattle.basics.specs.Lists.{padded}
+use Rattle.basics.specs.Lists.{padded, written}
 use Rattle.states.specs.Planes.{Sized}
 use Rattle.search.specs.Memory.{setsOf, successorsOf}
 use Rattle.obligations.specs.Obligation.{operatorsOf, back}
@@ -34,16 +31,18 @@ use Rattle.search.proofs.ReachableSetsLaws.{sameSet-says, sets-reachable}
 use Rattle.states.proofs.ExploredStates.{letters-few}
 use Rattle.basics.proofs.BitsLaws.{shl-one}
 use Rattle.states.proofs.StatesLaws.{states-closed}
-use Rattle.play.specs.Game.{Game}
-use Rattle.play.specs.Belief.{Automaton}
-use Rattle.game.specs.Solution.{gameOf, automatonOf, problemStates, beliefSolution, Solution, tooManyStates, solutionFrom, solution}
+use Rattle.game.specs.Solution.{automatonOf, solutionFrom, partsSolution}
+use Rattle.game.specs.declared.solving.Solved.{Solved}
+use Rattle.game.specs.declared.solving.Solved.the-variants.{Refused}
+use Rattle.game.specs.Claim.{solvedOf, cellsOf}
 use Rattle.beliefs.specs.BeliefMemory.{Successors}
-use Rattle.game.specs.StateMemory.{Tables, Widths}
+use Rattle.game.specs.StateMemory.{Widths, memorySolution}
 use Rattle.game.proofs.LetterNumbers.{letter-count}
 use Rattle.basics.proofs.ReachLaws.{closed-begins}
-use Rattle.game.proofs.SameBeliefs.{Follows}
+use Rattle.game.proofs.SameBeliefs.{memory-same}
 use Rattle.beliefs.proofs.ListedBeliefs.{counted-some, counted-over}
-use Rattle.game.proofs.ExploredAutomaton.{gameWith, explored-successors, explored-follows, explored-accepts}
+use Rattle.game.proofs.solving.FromBeliefs.{Answered}
+use Rattle.game.proofs.ExploredAutomaton.{explored-successors, explored-tables}
 
 module _ (codes : List ℕ) (s : Sizes) where
   abbrev ps : List Part
@@ -55,13 +54,9 @@ module _ (codes : List ℕ) (s : Sizes) where
   abbrev l : Listing PatternSet
   l = statesOf ps (lettersOf c) stateLimit
 
-  -- what is listed for the parts is listed for every problem that has them
-  module _ (p : Problem) (parts : ps ≡ partsOf (p .formula)) (signals : c ≡ countsIn (p .signals)) where
-    listed-same : problemStates p ≡ l
-    listed-same = ap₂ (λ q d. statesOf q (lettersOf d) stateLimit) (sym parts) (sym signals)
-
-    pub solved-many : TooMany ≡ exploredOf l → solution p ≡ tooManyStates
-    solved-many e = ap (solutionFrom p) (listed-same ∙ counted-over l e)
+  pub solved-many : TooMany ≡ exploredOf l → (table : List ℕ) → Answered (s .observed) (partsSolution ps c) (Refused refusal.TooManyStates) table table
+  solved-many e table =
+      let same = ap (solutionFrom ps c) (sym (counted-over l e)) in (ap (solvedOf (s .observed)) same, ap (λ x. written (cellsOf x) table) same)
 
   -- how many choices, observations and hidden values there are, as the code shifts them
   abbrev choices : ℕ
@@ -110,20 +105,6 @@ module _ (codes : List ℕ) (s : Sizes) where
         rw (choices-are sized, observations-are sized, hiddens-are sized, sym (found .2))
         (explored-successors ps c (sized .signals-few) xs (found .1) b successors successors-of)
 
-    states-tables : (p : Problem) → ps ≡ partsOf (p .formula) → c ≡ countsIn (p .signals)
-        → Tables (gameOf p) (automatonOf (partsOf (p .formula)) xs) sets successors n choices observations hiddens
-    states-tables p parts signals =
-        record {
-          choices-are = ap (λ (d : Counts). 2 ^ (d .outputs)) (sym signals) ∙ sym (choices-are sized);
-          observations-are = ap (λ (d : Counts). 2 ^ (d .observed)) (sym signals) ∙ sym (observations-are sized);
-          hiddens-are = ap (λ (d : Counts). 2 ^ (d .hidden)) (sym signals) ∙ sym (hiddens-are sized);
-          states-are = found .2;
-          first = refl;
-          follows = subst₂ (λ q d. Follows (gameWith d (holds (p .formula))) (automatonOf q xs) successors) parts signals
-              (explored-follows ps c (sized .signals-few) xs (found .1) b successors successors-of (holds (p .formula))) .follows;
-          accepting = explored-accepts ps c (sized .signals-few) xs (found .1) a sets sets-are;
-        }
-
     pub states-few : n ≤ stateLimit
     states-few = subst (λ m. m ≤ stateLimit) (found .2) (states-closed ps (lettersOf c) stateLimit xs (found .1) .1)
 
@@ -135,9 +116,17 @@ module _ (codes : List ℕ) (s : Sizes) where
         in
         omega (arith, sym (found .2) ∙ ap length e)
 
-    -- what holds of the verdict for all that the tables are those of holds of the solution
-    pub solved-some : (p : Problem) → ps ≡ partsOf (p .formula) → c ≡ countsIn (p .signals) → (Q : Solution → Type 0)
-        → ((G : Game) (M : Automaton) → Tables G M sets successors n choices observations hiddens → Q (beliefSolution G M)) → Q (solution p)
-    solved-some p parts signals Q q =
-        subst (λ r. Q (solutionFrom p r)) (sym (listed-same p parts signals ∙ found .1))
-        (q (gameOf p) (automatonOf (partsOf (p .formula)) xs) (states-tables p parts signals))
+    -- what is answered from memory is what is answered from the parts
+    states-solution : memorySolution sets successors n choices observations hiddens ≡ partsSolution ps c
+    states-solution =
+        ap (λ m. memorySolution sets successors m choices observations hiddens) (sym (found .2))
+        ∙ ap₂ (λ x y. memorySolution sets successors (length xs) x y hiddens) (choices-are sized) (observations-are sized)
+        ∙ ap (memorySolution sets successors (length xs) (2 ^ (s .outputs)) (2 ^ (s .observed))) (hiddens-are sized)
+        ∙ memory-same (automatonOf ps xs) (2 ^ (s .outputs)) (2 ^ (s .observed)) (2 ^ (s .hidden)) letterFrom sets successors
+        (explored-tables ps c (sized .signals-few) xs (found .1) a sets sets-are b successors successors-of) (pow-pos (s .outputs))
+        ∙ ap (solutionFrom ps c) (sym (found .1))
+
+    pub solved-some : (r : Solved) (table table′ : List ℕ)
+        → Answered (s .observed) (memorySolution sets successors n choices observations hiddens) r table table′
+        → Answered (s .observed) (partsSolution ps c) r table table′
+    solved-some r table table′ = subst (λ x. Answered (s .observed) x r table table′) states-solution

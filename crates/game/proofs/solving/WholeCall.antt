@@ -18,7 +18,7 @@ use Rattle.basics.proofs.Booleans.{or-left, or-right}
 use Rattle.rules.proofs.ReadingNumbers.{reading-number}
 use Rattle.game.specs.declared.solving.Solved.{Solved}
 use Rattle.game.specs.declared.solving.Solved.the-variants.{Refused}
-use Rattle.play.specs.Limits.{tableSize}
+use Rattle.play.specs.Cells.{tableSize}
 use Rattle.basics.specs.Lists.{written}
 use Rattle.game.specs.Claim.{isShort, solvedFrom, solvedBy, cellsFrom, tableAfter, workAfter, NoProblem, Claim}
 use Rattle.game.proofs.ClaimLaws.{claim-right}

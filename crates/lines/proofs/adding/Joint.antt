@@ -6,7 +6,6 @@ use native.Mathlib.Omega.{arith}
 use mathlib.Core.Path.{_≡_, refl, sym}
 use mathlib.Core.List.{List}
 use lib.ListN.{set}
-use Rattle.formula.specs.declared.formula.Op.the-variants as op
 use Rattle.lines.specs.Effect.{joint}
 use Rattle.lines.specs.Memory.{joinPart, storedFrom}
 

@@ -11,10 +11,12 @@ use lib.ListN.{length, getD, take}
 use borrow.Author.Tests.{ltb-true, ltb-false, eqb-true, eqb-false, lt-ltb, le-ltb, eq-eqb, ne-eqb}
 use Rattle.formula.specs.declared.formula.Op.{Op}
 use Rattle.basics.specs.Bits.{bit}
+use Rattle.basics.specs.Limits.{wordSize}
 use Rattle.formula.specs.Codes.{partsIn}
+use Rattle.basics.specs.Limits.{indexLimit}
 use Rattle.formula.specs.declared.parts.Part.{Part}
 use Rattle.formula.specs.Parts.{partAt, lastOf}
-use Rattle.formula.specs.Entries.{owed}
+use Rattle.formula.specs.Values.{owed}
 use Rattle.formula.proofs.CodesLaws.{length-in}
 use Rattle.obligations.specs.Obligation.{isOperator, operatorsOf, spots, valueAt, owedAt, back}
 use Rattle.obligations.specs.Words.{lanes, owedLanes, valueLanes, backLanes}
@@ -23,7 +25,7 @@ use Rattle.states.specs.Planes.{carriedLane}
 use Rattle.obligations.proofs.OperatorSpots.{listed-is, listed-spot}
 use Rattle.obligations.proofs.CarriedBack.{pattern-low, pattern-whole, pattern-above}
 use Rattle.obligations.proofs.WordsLaws.{bit-lanes, lanes-ext, carried, none}
-use Rattle.obligations.proofs.StoredParts.{left-before}
+use Rattle.obligations.proofs.StoredParts.{left-inside}
 use Rattle.obligations.proofs.ValuesLaws.{Evaluated, evaluated}
 
 -- ---- words
@@ -107,8 +109,8 @@ module _ (codes : List ℕ) (s : Stored codes) (letters v : List ℕ) (w : ℕ) 
   carried-low h =
       lane-low codes listed v d x k h
       ∙ ap₂ (owedLanes (q .kind)) (ev .value (q .left) x below xs) (ev .value i x inside xs)
-      ∙ owed-values (q .kind) (λ j. valueAt parts letter (w * 64 + j) (q .left)) (λ j. valueAt parts letter (w * 64 + j) i)
-      ∙ lanes-ext _ (λ j. bit (back parts letter (w * 64 + j)) k) (λ j l. sym (bit-low (w * 64 + j) h))
+      ∙ owed-values (q .kind) (λ j. valueAt parts letter (w * wordSize + j) (q .left)) (λ j. valueAt parts letter (w * wordSize + j) i)
+      ∙ lanes-ext _ (λ j. bit (back parts letter (w * wordSize + j)) k) (λ j l. sym (bit-low (w * wordSize + j) h))
     where
       i : ℕ
       i = getD listed k 0
@@ -123,7 +125,7 @@ module _ (codes : List ℕ) (s : Stored codes) (letters v : List ℕ) (w : ℕ) 
       inside = omega (arith, there .0, length-in codes)
 
       below : q .left < length codes
-      below = omega (arith, left-before codes s i inside (there .1), inside)
+      below = left-inside codes s i inside (there .1)
 
   -- the whole formula's
   carried-top : k ≡ d → carriedLane parts listed d v x k ≡ backLanes parts letter w k
@@ -131,15 +133,15 @@ module _ (codes : List ℕ) (s : Stored codes) (letters v : List ℕ) (w : ℕ) 
   carried-top e =
       let inside : lastOf parts < length codes = subst (λ n. pred n < length codes) (sym (length-in codes)) (last-lt (length codes) (s .some)) in
       lane-top codes listed v d x k e ∙ ev .value (lastOf parts) x inside xs
-      ∙ lanes-ext (λ j. valueAt parts letter (w * 64 + j) (lastOf parts)) (λ j. bit (back parts letter (w * 64 + j)) k)
-      (λ j l. sym (bit-top (w * 64 + j) e))
+      ∙ lanes-ext (λ j. valueAt parts letter (w * wordSize + j) (lastOf parts)) (λ j. bit (back parts letter (w * wordSize + j)) k)
+      (λ j l. sym (bit-top (w * wordSize + j) e))
 
   -- none
   carried-above : d < k → carriedLane parts listed d v x k ≡ backLanes parts letter w k
   unfolding backLanes
   carried-above h =
       lane-above codes listed v d x k h ∙ carried none
-      ∙ lanes-ext (λ j. false) (λ j. bit (back parts letter (w * 64 + j)) k) (λ j l. sym (bit-above (w * 64 + j) h))
+      ∙ lanes-ext (λ j. false) (λ j. bit (back parts letter (w * wordSize + j)) k) (λ j l. sym (bit-above (w * wordSize + j) h))
 
   -- what code reads is what the letter carries back
   carried-is : carriedLane parts listed d v x k ≡ backLanes parts letter w k
@@ -151,7 +153,7 @@ module _ (codes : List ℕ) (s : Stored codes) (letters v : List ℕ) (w : ℕ) 
       at false e false f = carried-above (omega (arith, ltb-false k d e, eqb-false k d f))
 
 -- a word that is read from the values as they are left
-pub carried-read : (codes : List ℕ) → Stored codes → (letters v u : List ℕ) (w : ℕ) → length v ≡ 256 * blockSize
+pub carried-read : (codes : List ℕ) → Stored codes → (letters v u : List ℕ) (w : ℕ) → length v ≡ indexLimit * blockSize
     → u ≡ valuesTo (partsIn codes) letters w (length codes) v → (listed : List ℕ) (d : ℕ) → d ≡ operatorsOf (partsIn codes)
     → take d listed ≡ spots (partsIn codes) → (x k : ℕ) → x < blockSize → (r : ℕ) → r ≡ carriedLane (partsIn codes) listed d u x k
     → r ≡ backLanes (partsIn codes) (getD letters x 0) w k

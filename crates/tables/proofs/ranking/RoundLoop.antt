@@ -1,28 +1,31 @@
 -- The rounds of ranking in the shape of their loops.
 -- Assumes nothing.
-use Prim.Native.Nat.{ℕ, zero, suc, pred, _+_, _≤_, _<_, zero-le}
-use native.Mathlib.Nat.{not-suc-le-zero, le-refl}
-use native.Mathlib.Decide.{ℕ-discrete, decLt}
+use Prim.Native.Nat.{ℕ, zero, suc, _+_, _≤_, _<_, zero-le}
+use native.Mathlib.Numerals.{add-one}
+use native.Mathlib.Nat.{le-refl}
+use native.Mathlib.Decide.{decLt}
 use native.Mathlib.Omega.{arith}
-use mathlib.Core.Path.{_≡_, refl, sym, ap, _∙_, subst}
+use mathlib.Core.Path.{_≡_, refl, sym, ap, ap₂, _∙_, subst}
 use mathlib.Core.Logic.{inl, inr}
 use mathlib.Core.List.{List, _++_}
-use mathlib.Core.Bool.{Bool, true, false, cond, true≢false}
+use mathlib.Core.Bool.{Bool, true, false, cond, _||_}
 use lib.Dec.{ltb}
-use lib.ListN.{length, getD, set, drop}
-use lib.Seq.{getD-set-same, getD-set-other}
-use borrow.Author.Tests.{eq-eqb, ne-eqb}
+use lib.ListN.{length, getD, set, take, drop, length-set, take-append-drop}
+use lib.Seq.{set-getD, take-at, drop-at}
+use borrow.Author.Tests.{eq-eqb, ne-eqb, ltb-false, lt-ltb, le-ltb}
 use Rattle.basics.specs.Lists.{tabulate}
-use Rattle.basics.proofs.ListsLaws.{getD-table}
+use Rattle.basics.specs.Bounded.{any, firstThat}
+use Rattle.basics.proofs.Booleans.{test, clash, or-cases, or-intro-right}
+use Rattle.basics.proofs.BoundedLaws.{any-not, any-suc, any-first}
+use Rattle.basics.proofs.Filling.{table-more, front-behind}
+use Rattle.basics.proofs.ListsLaws.{length-tabulate, getD-table, tabulate-ext}
 use Rattle.play.specs.Limits.{beliefLimit}
-use Rattle.basics.specs.Bounded.{all, any, firstThat}
-use Rattle.play.specs.Rank.{Arena, choiceWithin}
-use Rattle.tables.specs.PositionMemory.{arenaIn, Positions, firstRank, works, rankAfter, Ranked, NoneAt, noRank}
-use Rattle.basics.proofs.BoundedLaws.{all-ext, first-ext, any-at, any-of, first-least, first-passes}
-use Rattle.basics.proofs.Booleans.{test, clash, or-false, or-intro-right}
-use Rattle.play.proofs.Order.{setOrder}
-use Rattle.play.proofs.RankLaws.{within-le, rank-suc}
-use Rattle.tables.proofs.ranking.Entries.{Within, entry-ranked, entry-none, entry-cases, entry-within, entry-stays, round-zero, no-more}
+use Rattle.play.specs.Rank.{Arena, setFirst, rankBelow}
+use Rattle.play.proofs.Order.{setOrder, can-of}
+use Rattle.play.proofs.RankLaws.{In}
+use Rattle.tables.specs.PositionMemory.{arenaIn, Positions, firstRank, works, rankIfBelow, ranksBelow, hasRank, noRank}
+use Rattle.tables.proofs.RanksBelow.{Below, leadsBelow, entry-none, entry-below, below-of, below-within, below-suc, below-more, rank-kept, rank-from}
+use Rattle.tables.proofs.PositionMemoryLaws.{ranks-taken, ranks-passed, rank-read, choice-read}
 
 -- ---- before any round
 
@@ -34,229 +37,201 @@ pub first-other : (finals : List ℕ) (k : ℕ) → (getD finals k 0 ≡ 1 → �
 unfolding firstRank
 first-other finals k e = sym (rw (ne-eqb (getD finals k 0) 1 e, cond))
 
-pub ranked-first : (n choices observations : ℕ) (moves finals d ranks picks : List ℕ)
-    → ranks ≡ tabulate n (firstRank finals) ++ drop n d → Ranked n choices observations 0 moves finals ranks picks
-unfolding firstRank
-ranked-first n choices observations moves finals d ranks picks e =
-    let at : (k : ℕ) → k < n → getD ranks k 0 ≡ firstRank finals k =
-    λ k h. ap (λ w. getD w k 0) e ∙ getD-table (firstRank finals) n k (drop n d) h in
-    record {
-      rank = λ k h. at k h ∙ sym (round-zero (arenaIn choices moves finals) choices observations k);
-      pick = λ k h f l.
-          let none : getD ranks k 0 ≡ noRank = at k h ∙ ap (λ (b : Bool). cond b 0 noRank) f in
-          absurd (not-suc-le-zero (subst (λ i. i ≤ 0) none l));
-    }
-
--- ---- within round r
-
--- round r has come to position k; `more` is false if it gave no rank yet
-pub record Halfway (n choices observations r k : ℕ) (moves finals ranks picks : List ℕ) (more : Bool) : Type 0 where
-  pub passed : (j : ℕ) → j < n → j < k → getD ranks j 0 ≡ rankAfter (arenaIn choices moves finals) choices observations r j
-  pub ahead : (j : ℕ) → j < n → k ≤ j → getD ranks j 0 ≡ rankAfter (arenaIn choices moves finals) choices observations (pred r) j
-  pub pick : (j : ℕ) → j < n → arenaIn choices moves finals .final j ≡ false → getD ranks j 0 ≤ r
-      → getD picks j 0 ≡ choiceWithin (arenaIn choices moves finals) choices observations (pred (getD ranks j 0)) j
-  pub same : more ≡ false → (j : ℕ) → j < n → j < k
-      → rankAfter (arenaIn choices moves finals) choices observations r j ≡ rankAfter (arenaIn choices moves finals) choices observations (pred r) j
-
--- what a turn leaves, laid down under other names
-pub turned : (n choices observations r k : ℕ) (moves finals ranks picks ranks′ picks′ : List ℕ) (more more′ : Bool)
-    → ranks′ ≡ ranks → picks′ ≡ picks → more′ ≡ more → k < n → length ranks ≡ beliefLimit → length picks ≡ beliefLimit
-    → Halfway n choices observations r (k + 1) moves finals ranks picks more
-    → (k + 1 ≤ n) × (length ranks′ ≡ beliefLimit) × (length picks′ ≡ beliefLimit) × Halfway n choices observations r (k + 1) moves finals ranks′ picks′ more′
-turned n choices observations r k moves finals ranks picks ranks′ picks′ more more′ e f g h lr lp H =
-    (omega arith, ap length e ∙ lr, ap length f ∙ lp, rw (e, f, g) H)
-
--- the round is through
-pub round-ranked : (n choices observations r k : ℕ) (moves finals ranks picks : List ℕ) (more : Bool) → k ≡ n
-    → Halfway n choices observations r k moves finals ranks picks more → Ranked n choices observations r moves finals ranks picks
-round-ranked n choices observations r k moves finals ranks picks more e H = record { rank = λ j h. H .passed j h (omega arith); pick = H .pick }
-
-pub round-none : (n choices observations r k : ℕ) (moves finals ranks picks : List ℕ) (more : Bool) → k ≡ n
-    → Halfway n choices observations r k moves finals ranks picks more → more ≡ false → NoneAt n choices observations r moves finals
-round-none n choices observations r k moves finals ranks picks more e H m j h = H .same m j h (omega arith)
-
--- the step of a positive number
-step : (r : ℕ) → 0 < r → suc (pred r) ≡ r
-step zero h = absurd (not-suc-le-zero h)
-step (suc q) h = refl
-
-module _ (n choices observations r : ℕ) (moves finals : List ℕ) (over : 0 < r) (small : r < noRank) where
+module _ (n choices observations : ℕ) (moves finals : List ℕ) where
   abbrev A : Arena
   A = arenaIn choices moves finals
 
-  abbrev In : ℕ → ℕ → Bool
-  In q k = Within A choices observations q k
+  -- the ranks below r
+  abbrev ranksTo : ℕ → List ℕ
+  ranksTo r = ranksBelow n choices observations r moves finals
 
-  -- the entry of a position after round q
+  abbrev rank : ℕ → ℕ → ℕ
+  rank r k = rankBelow A (setFirst choices observations) r k
+
   abbrev entry : ℕ → ℕ → ℕ
-  entry q k = rankAfter A choices observations q k
+  entry r k = rankIfBelow A choices observations r k
 
-  -- after choice c every observation leads from position k to a rank below r
-  abbrev good : ℕ → ℕ → Bool
-  good k c = all observations (λ s. In (pred r) (A .move k c s))
+  abbrev has : ℕ → ℕ → Bool
+  has r = hasRank choices observations r moves finals
 
-  pub round-start : (ranks picks : List ℕ) → Ranked n choices observations (pred r) moves finals ranks picks
-      → Halfway n choices observations r 0 moves finals ranks picks false
-  round-start ranks picks R =
-      record {
-        passed = λ j h l. absurd (not-suc-le-zero l);
-        ahead = λ j h l. R .rank j h;
-        pick = λ j h f l. R .pick j h f (elim (entry-cases A choices observations (pred r) j) [
-          | inl t ↦ subst (λ i. i ≤ pred r) (sym (R .rank j h)) (t .1)
-          | inr t ↦ let e : getD ranks j 0 ≡ noRank = R .rank j h ∙ t .1 in omega arith
-        ]);
-        same = λ e j h l. absurd (not-suc-le-zero l);
-      }
+  abbrev low : ℕ → ℕ → Bool
+  low r k = Below A choices observations r k
 
-  module _ (P : Positions n choices observations moves finals) (k : ℕ) (inside : k < n) (ranks picks : List ℕ) (more : Bool)
-      (H : Halfway n choices observations r k moves finals ranks picks more) where
-    -- what the round reads, its own entries included: an entry below r is a rank below r
-    reads-within : (j : ℕ) → j < n → ltb (getD ranks j 0) r ≡ In (pred r) j
-    reads-within j h =
-        subst (λ i. ltb (getD ranks j 0) i ≡ In (pred r) j) (step r over)
-        (elim (decLt j k) [
-          | yes l ↦ ap (λ i. ltb i (suc (pred r))) (H .passed j h l) ∙ entry-within A choices observations (pred r) r j (omega arith) small
-          | no l ↦
-              ap (λ i. ltb i (suc (pred r))) (H .ahead j h (omega arith))
-              ∙ entry-within A choices observations (pred r) (pred r) j (le-refl (pred r)) (omega arith)
-        ])
+  -- round r leaves a lower rank as it is ..
+  kept-on : (r k : ℕ) → low r k ≡ true → (has r k ≡ false) × (entry (suc r) k ≡ entry r k)
+  unfolding hasRank
+  kept-on r k t =
+      let (e, kept) = rank-kept A choices observations r (suc r) k (omega arith) t in
+      let b = below-within A choices observations r k t .0 in
+      (ne-eqb (rank (suc r) k) r (λ q. omega arith), kept)
 
-    -- the choice found is the smallest that leads below r
-    choice-is : firstThat (works moves ranks choices observations r k) choices ≡ choiceWithin A choices observations (pred r) k
-    unfolding works
-    choice-is =
-        first-ext choices (works moves ranks choices observations r k) (good k)
-        (λ c h. all-ext observations _ _ (λ s l. reads-within (A .move k c s) (P .inside k c s inside h l)))
+  -- .. and finds rank r where there is none
+  found-now : (r k : ℕ) → low r k ≡ false → (has r k ≡ low (suc r) k) × (entry (suc r) k ≡ cond (low (suc r) k) r noRank)
+  unfolding hasRank
+  found-now r k f =
+      elim (test (low (suc r) k)) [
+        | inl t ↦
+            let b = below-within A choices observations (suc r) k t .0 in
+            let e : rank (suc r) k ≡ r = omega (arith, rank-from A choices observations r (suc r) k f t) in
+            (eq-eqb (rank (suc r) k) r e ∙ sym t, ap (λ i. cond (low (suc r) k) i noRank) e)
+        | inr g ↦
+            let b = ltb-false (rank (suc r) k) (suc r) g in
+            let none = entry-none A choices observations (suc r) k g in
+            (ne-eqb (rank (suc r) k) r (λ q. omega arith) ∙ sym g, none ∙ sym (ap (λ (b : Bool). cond b r noRank) g))
+      ]
 
-    -- nothing new at k
-    stays : entry r k ≡ entry (pred r) k → Halfway n choices observations r (k + 1) moves finals ranks picks more
-    stays e =
-        record {
-          passed = λ j h l. elim (ℕ-discrete j k) [
-            | yes p ↦ subst (λ i. getD ranks i 0 ≡ entry r i) (sym p) (H .ahead k inside (le-refl k) ∙ sym e)
-            | no p ↦ H .passed j h (omega arith)
-          ];
-          ahead = λ j h l. H .ahead j h (omega arith);
-          pick = H .pick;
-          same = λ m j h l. elim (ℕ-discrete j k) [
-            | yes p ↦ subst (λ i. entry r i ≡ entry (pred r) i) (sym p) e
-            | no p ↦ H .same m j h (omega arith)
-          ];
-        }
+  -- round 0: the final positions
+  first-is : (k : ℕ) → firstRank finals k ≡ entry 1 k
+  unfolding firstRank
+  first-is k =
+      let (_, e) = found-now 0 k (le-ltb (rank 0 k) 0 zero-le) in
+      sym (e ∙ ap (λ (b : Bool). cond b 0 noRank) (below-suc A choices observations 0 k))
 
-    -- position k has a rank already
-    pub ranked-stays : (getD ranks k 0 ≡ noRank → ⊥) → Halfway n choices observations r (k + 1) moves finals ranks picks more
-    ranked-stays ne =
-        stays (elim (entry-cases A choices observations (pred r) k) [
-          | inl t ↦ entry-stays A choices observations (pred r) r k (omega arith) (t .0)
-          | inr t ↦ absurd (ne (H .ahead k inside (le-refl k) ∙ t .1))
-        ])
+  pub ranks-first : (ranks rest : List ℕ) → ranks ≡ tabulate n (firstRank finals) ++ rest → take n ranks ≡ ranksTo 1
+  unfolding ranksBelow
+  ranks-first ranks rest e =
+      ap (take n) e ∙ take-at (tabulate n (firstRank finals)) rest n (length-tabulate n (firstRank finals))
+      ∙ tabulate-ext n (firstRank finals) (entry 1) (λ k h. first-is k)
 
-    unranked : getD ranks k 0 ≡ noRank → In (pred r) k ≡ false
-    unranked e =
-        elim (entry-cases A choices observations (pred r) k) [
-          | inl t ↦
-              let b : getD ranks k 0 ≤ pred r = subst (λ i. i ≤ pred r) (sym (H .ahead k inside (le-refl k))) (t .1) in
-              absurd (omega arith)
-          | inr t ↦ t .0
+  -- ---- within round r
+
+  module _ (r : ℕ) (d : List ℕ) where
+    -- round r has come to position k: those passed have their ranks up to r, the others what they had
+    abbrev pub Halfway : ℕ → List ℕ → Bool → Type 0
+    Halfway k ranks more =
+        (k ≤ n) × (length ranks ≡ beliefLimit) × (ranks ≡ ranksBelow k choices observations (suc r) moves finals ++ drop k d)
+        × (more ≡ any k (hasRank choices observations r moves finals))
+
+    pub round-begin : length d ≡ beliefLimit → Halfway 0 d false
+    unfolding ranksBelow
+    round-begin long = (omega arith, long, refl, refl)
+
+    -- the round is through
+    pub round-end : (k : ℕ) (ranks : List ℕ) (more : Bool) → k ≡ n → Halfway k ranks more → (ranks ≡ ranksTo (suc r) ++ drop n d) × (more ≡ any n (has r))
+    round-end k ranks more e H =
+        subst (λ i. (ranks ≡ ranksBelow i choices observations (suc r) moves finals ++ drop i d) × (more ≡ any i (has r))) e (H .2, H .3)
+
+    module _ (P : Positions n choices observations moves finals) (over : 0 < r) (small : r < noRank) (long : length d ≡ beliefLimit)
+        (before : take n d ≡ ranksTo r) (k : ℕ) (inside : k < n) (ranks : List ℕ) (more : Bool) (H : Halfway k ranks more) where
+      -- what the round reads, its own entries included
+      read-passed : (j : ℕ) → j < k → getD ranks j 0 ≡ entry (suc r) j
+      unfolding ranksBelow
+      read-passed j h = ap (λ l. getD l j 0) (H .2) ∙ getD-table (entry (suc r)) k j (drop k d) h
+
+      read-ahead : (j : ℕ) → k ≤ j → j < n → getD ranks j 0 ≡ entry r j
+      unfolding ranksBelow
+      read-ahead j l h =
+          front-behind (tabulate k (entry (suc r))) d ranks k j (length-tabulate k (entry (suc r))) l (H .2)
+          ∙ rank-read n choices observations r moves finals d before j h
+
+      reads : (j : ℕ) → j < n → ltb (getD ranks j 0) r ≡ low r j
+      reads j h =
+          elim (decLt j k) [
+            | yes l ↦ ap (λ i. ltb i r) (read-passed j l) ∙ entry-below A choices observations r (suc r) j (omega arith) (omega arith)
+            | no l ↦ ap (λ i. ltb i r) (read-ahead j (omega arith) h) ∙ entry-below A choices observations r r j (le-refl r) (omega arith)
+          ]
+
+      -- one turn: entry k becomes v, and b says whether that is rank r
+      turned : (v : ℕ) (b : Bool) → v ≡ entry (suc r) k → has r k ≡ b
+          → (ranks′ : List ℕ) (more′ : Bool) → ranks′ ≡ set ranks k v → more′ ≡ (b || more) → Halfway (k + 1) ranks′ more′
+      unfolding ranksBelow
+      turned v b is-v is-b ranks′ more′ e f = (
+        omega arith,
+        ap length e ∙ length-set ranks k v ∙ H .1,
+        e ∙ table-more k (entry (suc r)) d ranks v (omega (arith, P .few)) (H .2) is-v,
+        f ∙ ap₂ _||_ (sym is-b) (H .3) ∙ sym (any-suc k (has r)) ∙ ap (λ i. any i (has r)) (sym (add-one k)),
+      )
+
+      stays : getD ranks k 0 ≡ entry (suc r) k → has r k ≡ false
+          → (ranks′ : List ℕ) (more′ : Bool) → ranks′ ≡ ranks → more′ ≡ more → Halfway (k + 1) ranks′ more′
+      stays e f ranks′ more′ p q = turned (getD ranks k 0) false e f ranks′ more′ (p ∙ sym (set-getD ranks k 0)) q
+
+      here : getD ranks k 0 ≡ entry r k
+      here = read-ahead k (le-refl k) inside
+
+      -- position k has a rank already
+      pub ranked-stays : (getD ranks k 0 ≡ noRank → ⊥) → (ranks′ : List ℕ) (more′ : Bool) → ranks′ ≡ ranks → more′ ≡ more → Halfway (k + 1) ranks′ more′
+      ranked-stays ne =
+          elim (test (low r k)) [
+            | inl t ↦ let (h, e) = kept-on r k t in stays (here ∙ sym e) h
+            | inr f ↦ absurd (ne (here ∙ entry-none A choices observations r k f))
+          ]
+
+      module _ (e : getD ranks k 0 ≡ noRank) (c : ℕ) (is : c ≡ firstThat (works moves ranks choices observations r k) choices) where
+        unranked : low r k ≡ false
+        unranked = sym (reads k inside) ∙ le-ltb (getD ranks k 0) r (omega arith)
+
+        unfinal : A .final k ≡ false
+        unfinal = elim (test (A .final k)) [ inl t ↦ clash (below-of A choices observations r 0 k over t) unranked | inr f ↦ f ]
+
+        -- it gets rank r if a choice leads from it below r
+        by-choice : (b : Bool) → ltb c choices ≡ b → (has r k ≡ b) × (entry (suc r) k ≡ cond b r noRank)
+        by-choice b t =
+            let (h, new) = found-now r k unranked in
+            let s : low (suc r) k ≡ b =
+            below-more A choices observations r k over ∙ ap (λ (x : Bool). x || any choices (leadsBelow A choices observations r k)) unfinal
+            ∙ any-first (leadsBelow A choices observations r k) choices
+            ∙ ap (λ i. ltb i choices) (sym (is ∙ choice-read n choices observations r moves finals P ranks k inside reads)) ∙ t in
+            (h ∙ s, new ∙ ap (λ (x : Bool). cond x r noRank) s)
+
+        pub none-stays : choices ≤ c → (ranks′ : List ℕ) (more′ : Bool) → ranks′ ≡ ranks → more′ ≡ more → Halfway (k + 1) ranks′ more′
+        none-stays l = let (h, new) = by-choice false (le-ltb c choices l) in stays (e ∙ sym new) h
+
+        pub gets-rank : c < choices → (ranks′ : List ℕ) (more′ : Bool) → ranks′ ≡ set ranks k r → more′ ≡ true → Halfway (k + 1) ranks′ more′
+        gets-rank l = let (h, new) = by-choice true (lt-ltb c choices l) in turned r true (sym new) h
+
+  -- ---- a round that finds no rank is the last
+
+  module _ (P : Positions n choices observations moves finals) (r : ℕ) (over : 0 < r) (before : r < n) (none : any n (has r) ≡ false) where
+    nothing : (k : ℕ) → k < n → low (suc r) k ≡ true → low r k ≡ true
+    nothing k h t =
+        elim (test (low r k)) [ inl u ↦ u | inr f ↦ clash (found-now r k f .0 ∙ t) (any-not n (has r) none k h) ]
+
+    no-more : (q k : ℕ) → k < n → In (setOrder choices observations) A q k ≡ true → low r k ≡ true
+    no-more zero k h t = below-of A choices observations r 0 k over t
+    no-more (suc q) k h t =
+        elim (or-cases (A .final k) _ t) [
+          | inl u ↦ below-of A choices observations r 0 k over u
+          | inr u ↦
+              let (g, al, right) = setOrder choices observations .answer (λ c s. In (setOrder choices observations) A q (A .move k c s)) u in
+              nothing k h (below-more A choices observations r k over ∙ or-intro-right (A .final k)
+              (can-of (setOrder choices observations) (λ c s. low r (A .move k c s)) g al
+              (λ s l. no-more q (A .move k (g s) s) (P .inside k (g s) s h (setOrder choices observations .below g al s l) l) (right s l))))
         ]
 
-    -- no choice leads from it below r
-    pub none-stays : getD ranks k 0 ≡ noRank → (c : ℕ) → c ≡ firstThat (works moves ranks choices observations r k) choices → choices ≤ c
-        → Halfway n choices observations r (k + 1) moves finals ranks picks more
-    none-stays e c is l =
-        let f = unranked e in
-        let found : c ≡ firstThat (good k) choices = is ∙ choice-is in
-        let cannot : any choices (good k) ≡ false =
-        elim (test (any choices (good k))) [
-          | inl t ↦ let (i, h, o) = any-at choices (good k) t in clash o (first-least (good k) choices i (subst (λ m. i < m) found (omega arith)))
-          | inr g ↦ g
-        ] in
-        let unfinal : A .final k ≡ false =
-        elim (test (A .final k)) [ inl t ↦ clash (within-le (setOrder choices observations) A 0 (pred r) k zero-le t) f | inr g ↦ g ] in
-        let not-in : In r k ≡ false = subst (λ i. In i k ≡ false) (step r over) (or-false unfinal cannot) in
-        stays (entry-none A choices observations r k not-in ∙ sym (entry-none A choices observations (pred r) k f))
-
-    -- choice c leads below r: position k gets rank r
-    pub gets-rank : getD ranks k 0 ≡ noRank → (c : ℕ) → c ≡ firstThat (works moves ranks choices observations r k) choices → c < choices
-        → k < length ranks → k < length picks
-        → Halfway n choices observations r (k + 1) moves finals (set ranks k r) (set picks k c) true
-    gets-rank e c is l hr hp =
-        let found : c ≡ firstThat (good k) choices = is ∙ choice-is in
-        let can : any choices (good k) ≡ true =
-        any-of choices (good k) c l
-        (subst (λ i. good k i ≡ true) (sym found) (first-passes (good k) choices (subst (λ i. i < choices) found l))) in
-        let new : entry r k ≡ r =
-        subst (λ i. entry i k ≡ i) (step r over)
-        (entry-ranked A choices observations (suc (pred r)) (suc (pred r)) k (le-refl (suc (pred r)))
-        (rank-suc (setOrder choices observations) A k (pred r) (unranked e) (or-intro-right (A .final k) can))) in
-        let here : getD (set ranks k r) k 0 ≡ r = getD-set-same ranks k r 0 hr in
-        record {
-          passed = λ j h l. elim (ℕ-discrete j k) [
-            | yes p ↦ subst (λ i. getD (set ranks k r) i 0 ≡ entry r i) (sym p) (here ∙ sym new)
-            | no p ↦ getD-set-other ranks k j r 0 p ∙ H .passed j h (omega arith)
-          ];
-          ahead = λ j h l. getD-set-other ranks k j r 0 (λ p. omega arith) ∙ H .ahead j h (omega arith);
-          pick = λ j h o b. elim (ℕ-discrete j k) [
-            | yes p ↦
-                subst (λ i. getD (set picks k c) i 0 ≡ choiceWithin A choices observations (pred (getD (set ranks k r) i 0)) i) (sym p)
-                (getD-set-same picks k c 0 hp ∙ found ∙ ap (λ i. choiceWithin A choices observations (pred i) k) (sym here))
-            | no p ↦
-                let other : getD (set ranks k r) j 0 ≡ getD ranks j 0 = getD-set-other ranks k j r 0 p in
-                getD-set-other picks k j c 0 p ∙ H .pick j h o (subst (λ i. i ≤ r) other b)
-                ∙ ap (λ i. choiceWithin A choices observations (pred i) j) (sym other)
-          ];
-          same = λ m. absurd (true≢false m);
-        }
-
-  -- ---- a round that gave no rank is the last
-
-  module _ (P : Positions n choices observations moves finals) (none : NoneAt n choices observations r moves finals) (before : r < n) where
-    nothing : (k : ℕ) → k < n → In (suc (pred r)) k ≡ true → In (pred r) k ≡ true
-    nothing k h t =
-        elim (entry-cases A choices observations (pred r) k) [
-          | inl u ↦ u .0
-          | inr u ↦
-              elim (entry-cases A choices observations r k) [
-                | inl v ↦ let b : noRank ≤ r = subst (λ i. i ≤ r) (none k h ∙ u .1) (v .1) in absurd (omega arith)
-                | inr v ↦ clash (subst (λ i. In i k ≡ true) (step r over) t) (v .0)
+    settled : (m k : ℕ) → k < n → r ≤ m → entry m k ≡ entry r k
+    settled m k h l =
+        elim (test (low r k)) [
+          | inl t ↦ rank-kept A choices observations r m k l t .1
+          | inr f ↦
+              elim (test (low m k)) [
+                | inl u ↦ clash (no-more (rank m k) k h (below-within A choices observations m k u .1)) f
+                | inr g ↦ entry-none A choices observations m k g ∙ sym (entry-none A choices observations r k f)
               ]
         ]
 
-    last : (k : ℕ) → k < n → entry r k ≡ entry (pred n) k
-    last k h =
-        elim (entry-cases A choices observations r k) [
-          | inl t ↦ sym (entry-stays A choices observations r (pred n) k (omega arith) (t .0))
-          | inr f ↦
-              let never : In (pred n) k ≡ false =
-              elim (test (In (pred n) k)) [
-                | inl u ↦
-                    clash (within-le (setOrder choices observations) A (pred r) r k (omega arith)
-                    (no-more A choices observations (λ i. i < n) (λ i m c hc s hs. P .inside i c s m hc hs) (pred r) nothing (pred n) k h u)) (f .0)
-                | inr g ↦ g
-              ] in
-              f .1 ∙ sym (entry-none A choices observations (pred n) k never)
-        ]
+    ranks-last : ranksTo (suc r) ≡ ranksTo n
+    unfolding ranksBelow
+    ranks-last = tabulate-ext n (entry (suc r)) (entry n) (λ k h. settled (suc r) k h (omega arith) ∙ sym (settled n k h (omega arith)))
 
-    pub round-last : (ranks picks : List ℕ) → Ranked n choices observations r moves finals ranks picks
-        → Ranked n choices observations (pred n) moves finals ranks picks
-    round-last ranks picks R =
-        record {
-          rank = λ k h. R .rank k h ∙ last k h;
-          pick = λ k h f l. R .pick k h f (elim (entry-cases A choices observations r k) [
-            | inl t ↦ subst (λ i. i ≤ r) (sym (R .rank k h)) (t .1)
-            | inr t ↦ let e : getD ranks k 0 ≡ noRank = R .rank k h ∙ t .1 in omega (arith, P .few)
-          ]);
-        }
+  -- ---- the rounds one after the other, from the first ranks on
 
--- ---- the rounds one after the other
+  module _ (first ranks : List ℕ) (rest : drop n ranks ≡ drop n first) where
+    pub rounds-on : (r : ℕ) (ranks′ : List ℕ) → ranks′ ≡ ranksTo (suc r) ++ drop n ranks → (take n ranks′ ≡ ranksTo (r + 1)) × (drop n ranks′ ≡ drop n first)
+    rounds-on r ranks′ e = (
+      ranks-taken n choices observations (suc r) moves finals ranks′ (drop n ranks) e ∙ ap ranksTo (sym (add-one r)),
+      ranks-passed n choices observations (suc r) moves finals ranks′ (drop n ranks) e ∙ rest,
+    )
 
-pub rounds-on : (n choices observations r : ℕ) (moves finals ranks picks : List ℕ) → Ranked n choices observations r moves finals ranks picks
-    → Ranked n choices observations (pred (r + 1)) moves finals ranks picks
-rounds-on n choices observations r moves finals ranks picks R =
-    let e : r ≡ pred (r + 1) = omega arith in subst (λ i. Ranked n choices observations i moves finals ranks picks) e R
+    module _ (d : List ℕ) (begun : first ≡ tabulate n (firstRank finals) ++ drop n d) where
+      behind : drop n ranks ≡ drop n d
+      behind = rest ∙ ap (drop n) begun ∙ drop-at (tabulate n (firstRank finals)) (drop n d) n (length-tabulate n (firstRank finals))
 
-pub rounds-done : (n choices observations r : ℕ) (moves finals ranks picks : List ℕ) → r ≡ n
-    → Ranked n choices observations (pred r) moves finals ranks picks → Ranked n choices observations (pred n) moves finals ranks picks
-rounds-done n choices observations r moves finals ranks picks e R =
-    subst (λ i. Ranked n choices observations (pred i) moves finals ranks picks) e R
+      -- all rounds are done
+      pub rounds-done : (r : ℕ) → r ≡ n → take n ranks ≡ ranksTo r → ranks ≡ ranksTo n ++ drop n d
+      rounds-done r e taken = sym (take-append-drop n ranks) ∙ ap₂ _++_ (taken ∙ ap ranksTo e) behind
+
+      -- or no further one is needed
+      pub round-last : Positions n choices observations moves finals → (r : ℕ) → 0 < r → r < n → (more : Bool) → more ≡ any n (has r) → more ≡ false
+          → (ranks′ : List ℕ) → ranks′ ≡ ranksTo (suc r) ++ drop n ranks → ranks′ ≡ ranksTo n ++ drop n d
+      round-last P r over before more is none ranks′ e = e ∙ ap₂ _++_ (ranks-last P r over before (sym is ∙ none)) behind

@@ -3,7 +3,7 @@
 use Prim.Native.Nat.{ℕ, suc, _+_, _-_, _≤_, _<_}
 use native.Mathlib.Numerals.{add-one}
 use native.Mathlib.Omega.{arith}
-use mathlib.Core.Path.{_≡_, refl, sym, ap, _∙_}
+use mathlib.Core.Path.{_≡_, refl, sym, ap, _∙_, subst}
 use mathlib.Core.Bool.{Bool, true, false, cond, _||_}
 use mathlib.Core.List.{List, [], _∷_, _++_}
 use lib.Dec.{eqb}
@@ -11,9 +11,9 @@ use lib.ListN.{length, getD, take, drop, set, length-set}
 use lib.Seq.{length-take-le, take-suc, take-suc-set, take-add, take-all, drop-cons}
 use borrow.Author.Tests.{eq-eqb, ne-eqb}
 use Rattle.basics.specs.Reach.{isIn, indexIn}
-use Rattle.play.specs.Limits.{rowSize, stopCell}
-use Rattle.play.specs.Table.{stopRow}
-use Rattle.play.proofs.TableLaws.{stop-length, stop-first, stop-at}
+use Rattle.play.specs.Limits.{sideLimit}
+use Rattle.play.specs.Cells.{choiceAt, nextAt, rowSize, stopCell, stopRow}
+use Rattle.play.proofs.CellsLaws.{stop-length, stop-first, stop-next}
 
 -- ---- where an entry stands
 
@@ -114,14 +114,21 @@ module _ (wanted : List ℕ) where
             ∙ sym (take-suc wanted n 0 h) ∙ ap (λ j. take j wanted) (sym (add-one n));
       }
 
+  -- the next rows one after another
+  pub written-next : (cells : List ℕ) (s v : ℕ) → nextAt s < length wanted → v ≡ getD wanted (nextAt s) 0 → Written wanted cells (nextAt s)
+      → Written wanted (set cells (nextAt s) v) (nextAt (s + 1))
+  written-next cells s v h e w =
+      let q : nextAt s + 1 ≡ nextAt (s + 1) = omega arith in
+      subst (Written wanted (set cells (nextAt s) v)) q (written-more cells (nextAt s) v h e w)
+
   pub written-all : (cells : List ℕ) (n : ℕ) → length wanted ≤ n → Written wanted cells n → cells ≡ wanted
   written-all cells n h w = sym (take-all n cells (omega (arith, w .long))) ∙ w .front ∙ take-all n wanted h
 
 -- ---- the row of a position where the table stops
 
-pub stop-begin : (cells : List ℕ) → length cells ≡ rowSize → Written stopRow (set cells 0 stopCell) 1
+pub stop-begin : (cells : List ℕ) → length cells ≡ rowSize → Written stopRow (set cells choiceAt stopCell) (nextAt 0)
 stop-begin cells h =
-    written-more stopRow cells 0 stopCell (omega (arith, stop-length)) (sym stop-first) (record { long = h ∙ sym stop-length; front = refl })
+    written-more stopRow cells choiceAt stopCell (omega (arith, stop-length)) (sym stop-first) (record { long = h ∙ sym stop-length; front = refl })
 
-pub stop-more : (cells : List ℕ) (s : ℕ) → 0 < s → s < rowSize → Written stopRow cells s → Written stopRow (set cells s 0) (s + 1)
-stop-more cells s some h w = written-more stopRow cells s 0 (omega (arith, stop-length)) (sym (stop-at s some)) w
+pub stop-more : (cells : List ℕ) (s : ℕ) → s < sideLimit → Written stopRow cells (nextAt s) → Written stopRow (set cells (nextAt s) 0) (nextAt (s + 1))
+stop-more cells s h w = written-next stopRow cells s 0 (omega (arith, stop-length)) (sym (stop-next s)) w

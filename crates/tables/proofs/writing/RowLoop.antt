@@ -16,10 +16,11 @@ use Rattle.basics.proofs.ListsLaws.{length-tabulate, getD-tabulate}
 use Rattle.basics.specs.Reach.{isIn, indexIn, addNew, addAll}
 use Rattle.basics.proofs.ReachLaws.{added-all}
 use Rattle.basics.proofs.GrowingList.{add-old, add-new, index-kept, index-last}
-use Rattle.play.specs.Limits.{beliefLimit, sideLimit, pairLimit, rowSize}
+use Rattle.play.specs.Limits.{beliefLimit, sideLimit, pairLimit}
+use Rattle.play.specs.Cells.{choiceAt, nextAt, rowSize}
 use Rattle.tables.specs.PositionMemory.{nextOf, rowsWith, rowWith}
-use Rattle.play.proofs.TableLaws.{choice-length, choice-first, choice-next, choice-unused}
-use Rattle.tables.proofs.writing.CellLoop.{index-le, index-out, index-in, Written, written-more, written-all}
+use Rattle.play.proofs.CellsLaws.{choice-length, choice-first, choice-next, choice-unused}
+use Rattle.tables.proofs.writing.CellLoop.{index-le, index-out, index-in, Written, written-more, written-next, written-all}
 use Rattle.play.proofs.AnswerLaws.{eqb-says}
 
 -- ---- a list to which things are added one after another
@@ -71,7 +72,7 @@ module _ (moves : List ℕ) (choices observations k c m : ℕ) (rows₀ : List �
     pub count : n ≡ length (rowsTo s)
     pub front : take n rows ≡ rowsTo s
     pub rest : drop n rows ≡ drop n rows₀
-    pub cells-are : Written wanted cells (1 + s)
+    pub cells-are : Written wanted cells (nextAt s)
 
   rows-none : rowsTo 0 ≡ take m rows₀
   unfolding rowsTo
@@ -106,15 +107,9 @@ module _ (moves : List ℕ) (choices observations k c m : ℕ) (rows₀ : List �
   wanted-length : length wanted ≡ rowSize
   wanted-length = choice-length observations c _
 
-  cells-more : (s v : ℕ) (cells : List ℕ) → s < sideLimit → v ≡ getD wanted (1 + s) 0 → Written wanted cells (1 + s)
-      → Written wanted (set cells (1 + s) v) (1 + (s + 1))
-  cells-more s v cells h e w =
-      let q : 1 + s + 1 ≡ 1 + (s + 1) = omega arith in
-      subst (Written wanted (set cells (1 + s) v)) q (written-more wanted cells (1 + s) v (omega (arith, wanted-length)) e w)
-
   -- ---- turn by turn
 
-  pub adding-begin : (cells : List ℕ) → m ≤ beliefLimit → length rows₀ ≡ beliefLimit → length cells ≡ rowSize → Adding 0 m rows₀ (set cells 0 c)
+  pub adding-begin : (cells : List ℕ) → m ≤ beliefLimit → length rows₀ ≡ beliefLimit → length cells ≡ rowSize → Adding 0 m rows₀ (set cells choiceAt c)
   adding-begin cells few long wide =
       record {
         turn = omega arith;
@@ -124,7 +119,7 @@ module _ (moves : List ℕ) (choices observations k c m : ℕ) (rows₀ : List �
         front = sym rows-none;
         rest = refl;
         cells-are =
-            written-more wanted cells 0 c (omega (arith, wanted-length)) (sym (choice-first observations c _))
+            written-more wanted cells choiceAt c (omega (arith, wanted-length)) (sym (choice-first observations c _))
             (record { long = wide ∙ sym wanted-length; front = refl });
       }
 
@@ -134,8 +129,8 @@ module _ (moves : List ℕ) (choices observations k c m : ℕ) (rows₀ : List �
 
   module _ (s n : ℕ) (rows cells : List ℕ) (a : Adding s n rows cells) (h : s < sideLimit) where
     -- the rows stay as they are
-    adding-stays : (v : ℕ) → rowsTo s ≡ rowsTo (s + 1) → v ≡ getD wanted (1 + s) 0
-        → (n′ : ℕ) (rows′ cells′ : List ℕ) → rows′ ≡ rows → cells′ ≡ set cells (1 + s) v → n′ ≡ n → Adding (s + 1) n′ rows′ cells′
+    adding-stays : (v : ℕ) → rowsTo s ≡ rowsTo (s + 1) → v ≡ getD wanted (nextAt s) 0
+        → (n′ : ℕ) (rows′ cells′ : List ℕ) → rows′ ≡ rows → cells′ ≡ set cells (nextAt s) v → n′ ≡ n → Adding (s + 1) n′ rows′ cells′
     adding-stays v e is n′ rows′ cells′ p q r =
         rw (p, q, r) (
         record {
@@ -145,12 +140,12 @@ module _ (moves : List ℕ) (choices observations k c m : ℕ) (rows₀ : List �
           count = a .count ∙ ap length e;
           front = a .front ∙ e;
           rest = a .rest;
-          cells-are = cells-more s v cells h is (a .cells-are);
+          cells-are = written-next wanted cells s v (omega (arith, wanted-length)) is (a .cells-are);
         }
         )
 
     -- there is no such observation
-    pub adding-none : observations ≤ s → (n′ : ℕ) (rows′ cells′ : List ℕ) → rows′ ≡ rows → cells′ ≡ set cells (1 + s) 0 → n′ ≡ n
+    pub adding-none : observations ≤ s → (n′ : ℕ) (rows′ cells′ : List ℕ) → rows′ ≡ rows → cells′ ≡ set cells (nextAt s) 0 → n′ ≡ n
         → Adding (s + 1) n′ rows′ cells′
     adding-none past = adding-stays 0 (rows-end s past ∙ sym (rows-end (s + 1) (omega arith))) (sym (choice-unused observations c _ s h past))
 
@@ -166,13 +161,13 @@ module _ (moves : List ℕ) (choices observations k c m : ℕ) (rows₀ : List �
       pub place-le : j ≤ n
       place-le = omega (arith, place, a .count, index-le eqb t (rowsTo s))
 
-      cell-is : indexIn eqb t rowsAll ≡ j → j ≡ getD wanted (1 + s) 0
+      cell-is : indexIn eqb t rowsAll ≡ j → j ≡ getD wanted (nextAt s) 0
       cell-is e = sym (choice-next observations c _ s h inside ∙ ap (λ x. indexIn eqb x rowsAll) (sym next-is) ∙ e)
 
       grows : rowsTo (s + 1) ≡ addNew eqb (rowsTo s) t
       grows = rows-more s inside ∙ ap (addNew eqb (rowsTo s)) (sym next-is)
 
-      pub adding-old : (j ≡ n → ⊥) → (n′ : ℕ) (rows′ cells′ : List ℕ) → rows′ ≡ rows → cells′ ≡ set cells (1 + s) j → n′ ≡ n
+      pub adding-old : (j ≡ n → ⊥) → (n′ : ℕ) (rows′ cells′ : List ℕ) → rows′ ≡ rows → cells′ ≡ set cells (nextAt s) j → n′ ≡ n
           → Adding (s + 1) n′ rows′ cells′
       adding-old ne =
           let there : isIn eqb t (rowsTo s) ≡ true = index-in eqb t (rowsTo s) (λ e. ne (place ∙ e ∙ sym (a .count))) in
@@ -197,7 +192,7 @@ module _ (moves : List ℕ) (choices observations k c m : ℕ) (rows₀ : List �
             let r = index-last eqb t (rowsTo s) (eq-eqb t t refl) absent in
             (ap (indexIn eqb t) appended ∙ r .0 ∙ sym (a .count), ap (isIn eqb t) appended ∙ r .1)
 
-        pub adding-new : length rowsAll ≤ beliefLimit → (n′ : ℕ) (rows′ cells′ : List ℕ) → rows′ ≡ set rows n t → cells′ ≡ set cells (1 + s) j → n′ ≡ n + 1
+        pub adding-new : length rowsAll ≤ beliefLimit → (n′ : ℕ) (rows′ cells′ : List ℕ) → rows′ ≡ set rows n t → cells′ ≡ set cells (nextAt s) j → n′ ≡ n + 1
             → Adding (s + 1) n′ rows′ cells′
         adding-new room n′ rows′ cells′ p q r =
             let small : n < beliefLimit = room-left room in
@@ -212,7 +207,8 @@ module _ (moves : List ℕ) (choices observations k c m : ℕ) (rows₀ : List �
                   ap (λ i. take i (set rows n t)) (add-one n) ∙ take-suc-set rows n t small′ ∙ ap (λ l. l ++ (t ∷ [])) (a .front) ∙ sym appended;
               rest =
                   drop-set-lt (n + 1) rows n t (omega arith) ∙ sym (drop-drop 1 n rows) ∙ ap (drop 1) (a .rest) ∙ drop-drop 1 n rows₀;
-              cells-are = cells-more s j cells h (cell-is (number-kept (s + 1) t (last .1) ∙ last .0 ∙ sym is-new)) (a .cells-are);
+              cells-are = written-next wanted cells s j (omega (arith, wanted-length))
+                  (cell-is (number-kept (s + 1) t (last .1) ∙ last .0 ∙ sym is-new)) (a .cells-are);
             }
             )
 
@@ -225,6 +221,6 @@ module _ (moves : List ℕ) (choices observations k c m : ℕ) (rows₀ : List �
         is-n,
         (
           sym (take-append-drop n rows) ∙ ap₂ _++_ (a .front ∙ e) (a .rest ∙ ap (λ i. drop i rows₀) is-n),
-          written-all wanted cells (1 + s) (omega (arith, wanted-length)) (a .cells-are),
+          written-all wanted cells (nextAt s) (omega (arith, wanted-length)) (a .cells-are),
         ),
       )

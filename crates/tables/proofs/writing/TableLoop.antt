@@ -11,6 +11,7 @@ use lib.ListN.{length, getD, take, drop, replicate, length-drop, length-append, 
 use lib.Seq.{length-take-le, getD-take, take-all, take-at, drop-drop, drop-at}
 use borrow.Author.Tests.{eq-eqb, ne-eqb}
 use borrow.Rule.Slice.PartMut.{putMid, same-len-mid}
+use Rattle.basics.specs.Bounded.{firstThat}
 use Rattle.basics.specs.Lists.{tabulate, below}
 use Rattle.basics.proofs.ListsLaws.{length-tabulate}
 use Rattle.basics.specs.Member.{_∈_}
@@ -20,11 +21,12 @@ use Rattle.basics.proofs.ReachLaws.{added-all, closed-lists}
 use Rattle.basics.proofs.EqualRows.{length-rows}
 use Rattle.basics.proofs.LentPart.{part-length}
 use Rattle.basics.proofs.BreadthFirst.{searchFrom, search-begin, search-turn}
-use Rattle.play.specs.Limits.{beliefLimit, sideLimit, pairLimit, rowSize, tableSize}
+use Rattle.play.specs.Limits.{beliefLimit, sideLimit, pairLimit}
+use Rattle.play.specs.Cells.{rowSize, tableSize, stopRow, choiceRow}
 use Rattle.play.specs.Rank.{Arena, setFirst, rankBelow, bestChoice}
-use Rattle.play.specs.Table.{stopRow, choiceRow, listOf, followers, rows, rowOf, tableCells}
+use Rattle.play.specs.Table.{listOf, followersBy, followers, rows, rowOf, tableCells}
 use Rattle.play.specs.Answer.{startRank}
-use Rattle.tables.specs.PositionMemory.{arenaIn, Positions, Picked, nextOf, rowsWith, rowWith}
+use Rattle.tables.specs.PositionMemory.{arenaIn, Positions, works, ranksBelow, nextOf, rowsWith, rowWith}
 use Rattle.basics.proofs.Booleans.{clash}
 use Rattle.basics.proofs.BoundedLaws.{first-passes, first-least}
 use Rattle.play.proofs.Order.{Order, setOrder}
@@ -32,8 +34,10 @@ use Rattle.play.proofs.RankLaws.{In, HasRank, rank-searched}
 use Rattle.play.proofs.FiniteArena.{Closed}
 use Rattle.play.proofs.Optimality.{answer, descends}
 use Rattle.play.proofs.RankedRows.{Ranked, rows-listed, rows-ranked}
-use Rattle.play.proofs.TableLaws.{choice-ext, row-stop, row-goes, row-width}
+use Rattle.play.proofs.TableLaws.{row-stop, row-goes, row-width}
+use Rattle.play.proofs.CellsLaws.{choice-ext}
 use Rattle.play.proofs.AnswerLaws.{eqb-says}
+use Rattle.tables.proofs.PositionMemoryLaws.{best-read}
 use Rattle.tables.proofs.writing.SearchTurns.{search-found, search-length, search-at, search-number}
 
 -- ---- lists of rows
@@ -104,11 +108,11 @@ module _ (n choices observations : ℕ) (moves finals : List ℕ) where
 
   after-stop : (k : ℕ) → arena .final k ≡ true → after k ≡ []
   unfolding after
-  after-stop k t = rw (t, followers)
+  after-stop k t = rw (t, followersBy)
 
   after-goes : (k : ℕ) → arena .final k ≡ false → after k ≡ tabulate observations (nextOf moves choices k (choiceAt k))
   unfolding after nextOf
-  after-goes k f = rw (f, followers)
+  after-goes k f = rw (f, followersBy)
 
   -- ---- the rows are found, and all are ranked
 
@@ -256,13 +260,13 @@ module _ (n choices observations : ℕ) (moves finals : List ℕ) where
             )
 
         -- a position that takes a choice
-        module _ (picks : List ℕ) (picked : Picked n choices observations moves finals picks) (on : getD finals k 0 ≡ 1 → ⊥) (c : ℕ)
-            (is-c : c ≡ getD picks k 0) where
+        module _ (ranks : List ℕ) (ranked : take n ranks ≡ ranksBelow n choices observations n moves finals) (on : getD finals k 0 ≡ 1 → ⊥) (c : ℕ)
+            (is-c : c ≡ firstThat (works moves ranks choices observations (getD ranks k 0) k) choices) where
           goes-here : arena .final k ≡ false
           goes-here = ne-eqb (getD finals k 0) 1 on
 
           choice-is : c ≡ choiceAt k
-          choice-is = is-c ∙ picked .best k (row-lt k row-in) goes-here (row-chooses k row-in goes-here .0)
+          choice-is = is-c ∙ best-read n choices observations moves finals ranks P ranked k (row-lt k row-in) goes-here (row-chooses k row-in goes-here .0)
 
           abbrev grown : List ℕ
           grown = rowsWith moves choices observations k c xs

@@ -1,4 +1,4 @@
-use Prim.Native.Nat.{_≤_, _-_}
+use Prim.Native.Nat.{_-_}
 use mathlib.Core.Path.{_≡_, refl, sym, _∙_}
 use native.Mathlib.Omega.{arith}
 use lib.ListN.{length}
@@ -9,13 +9,13 @@ use Rattle.basics.proofs.bytes.past.Statement.{statement}
 use Rattle.basics.proofs.bytes.past.Tie as tie
 
 abbrev Inv-loop : tie.InvT-loop
-Inv-loop text at class i₀ i = (at ≤ i) × (i ≤ length text) × (past (inClass class) text at ≡ past (inClass class) text i)
+Inv-loop text at class i₀ i = past (inClass class) text at ≡ past (inClass class) text i
 
 abbrev μ-loop : tie.MeasureT-loop
 μ-loop text at class i₀ i = length text - i
 
 loop-holds : tie.Need-loop-holds Inv-loop μ-loop
-loop-holds c = (omega arith, omega arith, refl)
+loop-holds c = refl
 
 shared-slice-read-is-in : tie.Need-shared-slice-read-is-in Inv-loop μ-loop
 shared-slice-read-is-in c = omega arith
@@ -30,7 +30,7 @@ returns c =
     let start = at-loop .before .before in
     let a = start .args in
     let l = at-loop .loop in
-    sym (l .inv .2 ∙ past-stop (inClass (a .class)) _ _ (omega arith) (sym (at-is-in .is-in .ensures) ∙ not-true _ (c .if1 .taken)))
+    sym (l .inv ∙ past-stop (inClass (a .class)) _ _ (omega arith) (sym (at-is-in .is-in .ensures) ∙ not-true _ (c .if1 .taken)))
 
 add-i : tie.Need-add-i Inv-loop μ-loop
 add-i c = omega arith
@@ -45,10 +45,10 @@ loop-again c =
     let start = at-loop .before .before in
     let a = start .args in
     let l = at-loop .loop in
-    (omega arith, omega arith, l .inv .2 ∙ past-more (inClass (a .class)) _ _ (omega arith) (sym (at-is-in .is-in .ensures) ∙ not-false _ (c .if1 .left)))
+    l .inv ∙ past-more (inClass (a .class)) _ _ (omega arith) (sym (at-is-in .is-in .ensures) ∙ not-false _ (c .if1 .left))
 
 returns-2 : tie.Need-returns-2 Inv-loop μ-loop
-returns-2 c = sym (c .before .loop .inv .2 ∙ past-end _ _ _ (c .loop-test .left))
+returns-2 c = sym (c .before .loop .inv ∙ past-end _ _ _ (c .loop-test .left))
 
 pub past-spec : {M : Type 1} → statement M
 past-spec =

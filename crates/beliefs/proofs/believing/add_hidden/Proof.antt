@@ -5,14 +5,13 @@ use Prim.Native.Nat.{_≤_, _-_}
 use native.Mathlib.Omega.{arith}
 use mathlib.Core.Path.{_≡_, _∙_}
 use lib.ListN.{length}
-use Rattle.search.specs.Limits.{setSize}
-use Rattle.beliefs.specs.BeliefMemory.{withHidden}
-use Rattle.beliefs.proofs.BeliefMemoryLaws.{hidden-place, hidden-none, hidden-more, hidden-done}
+use Rattle.beliefs.specs.BeliefMemory.{beliefSize, withHidden}
+use Rattle.beliefs.proofs.BeliefMemoryLaws.{hidden-place, hidden-state, hidden-none, hidden-more, hidden-done}
 use Rattle.beliefs.proofs.believing.add_hidden.Statement.{statement}
 use Rattle.beliefs.proofs.believing.add_hidden.Tie as tie
 
 abbrev Inv-loop : tie.InvT-loop
-Inv-loop successors s q pairs hiddens place₀ from h₀ place h = (h ≤ hiddens) × (length place ≡ setSize) × (place ≡ withHidden successors s q pairs h place₀)
+Inv-loop successors s q pairs hiddens place₀ from h₀ place h = (h ≤ hiddens) × (length place ≡ beliefSize) × (place ≡ withHidden successors s q pairs h place₀)
 
 abbrev μ-loop : tie.MeasureT-loop
 μ-loop successors s q pairs hiddens place₀ from h₀ place h = hiddens - h
@@ -21,7 +20,7 @@ mul-from : tie.Need-mul-from Inv-loop μ-loop
 mul-from c = search needs
 
 loop-holds : tie.Need-loop-holds Inv-loop μ-loop
-loop-holds c = (omega arith, c .before .before .pre .1 .1 .1 .1, hidden-none _ _ _ _ _)
+loop-holds c = (omega arith, c .before .before .pre .1 .1 .1 .1 .1, hidden-none _ _ _ _ _)
 
 add-add-state : tie.Need-add-add-state Inv-loop μ-loop
 add-add-state c =
@@ -65,7 +64,14 @@ shared-slice-read-add-state c =
     )
 
 add-state-requires : tie.Need-add-state-requires Inv-loop μ-loop
-add-state-requires c κs = search needs
+add-state-requires c κs =
+    let a = c .before .before .before .before .before .before .args in
+    let p = c .before .before .before .before .before .before .pre .1 .1 in
+    let l = c .before .before .before .loop in (
+      l .inv .1,
+      hidden-state (a .successors .now) (a .s) (a .q) (a .pairs) (l .h) (a .hiddens) (p .1 .1 .0) (p .0)
+          (c .before .before .loop-test .taken),
+    )
 
 add-h : tie.Need-add-h Inv-loop μ-loop
 add-h c = search needs

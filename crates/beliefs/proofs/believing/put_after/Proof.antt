@@ -5,14 +5,13 @@ use Prim.Native.Nat.{_≤_, _-_}
 use native.Mathlib.Omega.{arith}
 use mathlib.Core.Path.{_≡_, ap, _∙_}
 use lib.ListN.{length}
-use Rattle.search.specs.Limits.{setSize}
-use Rattle.beliefs.specs.BeliefMemory.{afterMembers}
+use Rattle.beliefs.specs.BeliefMemory.{beliefSize, afterMembers}
 use Rattle.beliefs.proofs.believing.MemberLoop.{after-none, after-more}
 use Rattle.beliefs.proofs.believing.put_after.Statement.{statement}
 use Rattle.beliefs.proofs.believing.put_after.Tie as tie
 
 abbrev Inv-loop : tie.InvT-loop
-Inv-loop successors members count q pairs hiddens place₀ i₀ place i = (i ≤ count) × (length place ≡ setSize)
+Inv-loop successors members count q pairs hiddens place₀ i₀ place i = (i ≤ count) × (length place ≡ beliefSize)
     × (place ≡ afterMembers successors members q pairs hiddens i)
 
 abbrev μ-loop : tie.MeasureT-loop
@@ -25,16 +24,18 @@ loop-holds : tie.Need-loop-holds Inv-loop μ-loop
 loop-holds c =
     let a = c .before .before .before .before .before .before .before in
     let r = c .before .before .clear in
-    let e : length (a .args .place .now) ≡ setSize = a .pre .1 .1 .1 .1 .1 in
+    let e : length (a .args .place .now) ≡ beliefSize = a .pre .1 .1 .1 .1 .1 in
     (omega arith, r .kept .0 ∙ e, after-none _ _ _ _ _ _ _ e (r .ensures))
 
 shared-slice-read-add-hidden : tie.Need-shared-slice-read-add-hidden Inv-loop μ-loop
-shared-slice-read-add-hidden c = search needs
+shared-slice-read-add-hidden c =
+    let p = c .before .before .before .before .before .before .before .before .before .before .pre in
+    omega (arith, p .1 .0 .fits, c .before .loop-test .taken)
 
 cast-add-hidden : tie.Need-cast-add-hidden Inv-loop μ-loop
 cast-add-hidden c = omega (
   arith,
-  c .before .before .before .before .before .before .before .before .before .before .pre .1 .1 .0 .small _
+  c .before .before .before .before .before .before .before .before .before .before .pre .1 .0 .small _
       (c .before .loop-test .taken),
 )
 
@@ -42,7 +43,11 @@ add-hidden-requires : tie.Need-add-hidden-requires Inv-loop μ-loop
 add-hidden-requires c κs =
     let p = c .before .before .before .before .before .before .before .before .before .before .before .pre in
     let q = p .1 .1 in
-    (p .0, (q .0 .small _ (c .before .before .loop-test .taken), (q .1 .0, (q .1 .1 .0, c .before .before .before .loop .inv .1))))
+    let l = c .before .before .before .loop in
+    let here = c .before .before .loop-test .taken in (
+      p .0,
+      (p .1 .0 .small _ here, (q .1 .0, (q .1 .1 .0, (λ a h. q .0 .small (l .i) a here h, l .inv .1)))),
+    )
 
 add-i : tie.Need-add-i Inv-loop μ-loop
 add-i c = search needs

@@ -1,38 +1,33 @@
--- `beliefs::counting::count_beliefs` meets its contract. The invariant: the memory holds the beliefs found so far, and those tried
--- have their rows.
+-- `beliefs::counting::count_beliefs` meets its contract. The invariant: the memory holds the beliefs found so far, and those visited
+-- have their rows and marks.
 -- Assumes nothing.
-use Prim.Native.Nat.{_+_, _-_, _*_, _≤_}
+use Prim.Native.Nat.{ℕ, _+_, _-_, _*_, _≤_}
 use native.Mathlib.Omega.{arith}
-use mathlib.Core.Path.{refl, sym, _∙_, subst, _≡_}
-use lib.ListN.{length}
-use lib.Seq.{length-front}
+use mathlib.Core.Path.{_≡_, refl, sym, _∙_, subst}
+use lib.ListN.{length, replicate, length-set, length-replicate}
 use borrow.Author.Needs.{needs}
 use borrow.Rule.Slice.PartMut.{same-len-mid}
-use Rattle.search.specs.Limits.{letterLimit, setSize}
+use Rattle.search.specs.Limits.{letterLimit}
 use Rattle.basics.specs.Member.{Distinct}
-use Rattle.search.specs.Slots.{itemsIn}
 use Rattle.basics.proofs.ListsLaws.{zeros-length}
-use Rattle.search.proofs.SearchTurns.{turn-begin, turn-many, turn-next, turn-answer, turn-left, Turn, turn-row}
+use Rattle.search.proofs.SearchTurns.{turn-next, turn-row}
 use Rattle.play.specs.Limits.{beliefLimit, pairLimit}
-use Rattle.beliefs.specs.BeliefMemory.{packBelief, beliefAfter, Successors, countedBeliefs, hintSize}
-use Rattle.play.specs.Belief.{alone}
+use Rattle.beliefs.specs.BeliefMemory.{beliefSize, hintSize, beliefsIn, Successors}
 use Rattle.beliefs.specs.Twins.{Twins}
-use Rattle.beliefs.proofs.BeliefMemoryLaws.{belief-packing, length-first, beliefs-reachable}
 use Rattle.beliefs.proofs.TwinsLaws.{twins-are}
 use Rattle.beliefs.proofs.ApartPlaces.{distinct-one, distinct-next}
-use Rattle.beliefs.proofs.counting.PairLoop.{same-count, same-expanded}
+use Rattle.beliefs.proofs.counting.PairLoop.{same-count}
+use Rattle.beliefs.proofs.counting.VisitLoop.{Marked, marked-none, belief-stays, marked-more, BeliefTurn, turn-first, turn-many, turn-ran}
 use Rattle.beliefs.proofs.counting.count_beliefs.Statement.{statement}
 use Rattle.beliefs.proofs.counting.count_beliefs.Tie as tie
 
 abbrev Inv-loop : tie.InvT-loop
-Inv-loop successors n pairs hiddens mem₀ moves₀ twins hints₀ k₀ i₀ mem moves hints k i =
-    (length mem ≡ (beliefLimit + 1) * setSize) × (length moves ≡ beliefLimit * pairLimit)
-    × Turn n packBelief (beliefAfter successors n pairs hiddens) (alone n 0) beliefLimit pairLimit pairs
-    (countedBeliefs successors n pairs hiddens beliefLimit) mem moves k i
-    × (length hints ≡ hintSize) × Distinct (itemsIn n mem k)
+Inv-loop sets successors n pairs hiddens moves₀ finals₀ mem₀ twins hints₀ k₀ i₀ moves finals mem hints k i =
+    (length mem ≡ (beliefLimit + 1) * beliefSize) × (length moves ≡ beliefLimit * pairLimit)
+    × BeliefTurn sets successors n pairs hiddens mem moves k i × (length hints ≡ hintSize) × Distinct (beliefsIn n mem k) × Marked sets n mem i finals
 
 abbrev μ-loop : tie.MeasureT-loop
-μ-loop successors n pairs hiddens mem₀ moves₀ twins hints₀ k₀ i₀ mem moves hints k i = beliefLimit - i
+μ-loop sets successors n pairs hiddens moves₀ finals₀ mem₀ twins hints₀ k₀ i₀ moves finals mem hints k i = beliefLimit - i
 
 slice-aggregate-put-twins : tie.Need-slice-aggregate-put-twins Inv-loop μ-loop
 slice-aggregate-put-twins c = search needs
@@ -40,90 +35,78 @@ slice-aggregate-put-twins c = search needs
 put-twins-requires : tie.Need-put-twins-requires Inv-loop μ-loop
 put-twins-requires c κs = search needs
 
-sub-put-first : tie.Need-sub-put-first Inv-loop μ-loop
-sub-put-first c = search needs
-
-part-put-first-start : tie.Need-part-put-first-start Inv-loop μ-loop
-part-put-first-start c = search needs
-
-part-put-first-end : tie.Need-part-put-first-end Inv-loop μ-loop
-part-put-first-end c = search needs
-
-put-first-requires : tie.Need-put-first-requires Inv-loop μ-loop
-put-first-requires c κs = search needs
+array-write-mem : tie.Need-array-write-mem Inv-loop μ-loop
+array-write-mem c = search needs
 
 loop-holds : tie.Need-loop-holds Inv-loop μ-loop
 loop-holds c =
-    let a′ = c .before .before .before .before .before .before .before .before .before .before .args in
-    let p′ = c .before .before .before .before .before .before .before .before .before .before .pre in
-    let a = a′ in
-    let p = p′ .1 .1 .1 .1 .1 .1 in
-    let made = c .before .before .put-first in (
-      length-front (a .mem .now) (made .last .0) 32 (made .kept .0) ∙ p .0,
-      zeros-length _ (beliefLimit * pairLimit) (p .1),
-      turn-begin (belief-packing
-          (a .n) (p′ .1 .1 .0)) (length-first (a .n)) (omega arith) (beliefs-reachable _ (a .n) (a .pairs) (a .hiddens) beliefLimit) 32 (a .mem .now)
-          (made .last .0)
-          (a .moves .now) (made .ensures) refl (omega (arith, p .0)) (beliefLimit * pairLimit) (p .1),
-      refl,
+    let a = c .before .before .before .before .before .before .before .args in
+    let p = c .before .before .before .before .before .before .before .pre .1 .1 in
+    let q = p .1 .1 .1 .1 .1 in
+    let size = (beliefLimit + 1) * beliefSize in (
+      length-set {A = ℕ} (replicate size 0) 0 1 ∙ length-replicate {A = ℕ} size 0,
+      zeros-length _ (beliefLimit * pairLimit) (q .0),
+      turn-first (a .sets .now) (a .successors .now) (a .n) (a .pairs) (a .hiddens) size (a .moves .now) (p .0) (p .1 .0) (omega arith) (q .0),
+      length-replicate {A = ℕ} hintSize 0,
       distinct-one (a .n) _,
+      marked-none (a .sets .now) (a .n) _ (a .finals .now) (q .1),
     )
 
 mul-at : tie.Need-mul-at Inv-loop μ-loop
 mul-at c = search needs
 
-slice-aggregate-expand-belief : tie.Need-slice-aggregate-expand-belief Inv-loop μ-loop
-slice-aggregate-expand-belief c = search needs
+slice-aggregate-visit-belief : tie.Need-slice-aggregate-visit-belief Inv-loop μ-loop
+slice-aggregate-visit-belief c = search needs
 
-slice-aggregate-expand-belief-2 : tie.Need-slice-aggregate-expand-belief-2 Inv-loop μ-loop
-slice-aggregate-expand-belief-2 c = search needs
+slice-aggregate-visit-belief-2 : tie.Need-slice-aggregate-visit-belief-2 Inv-loop μ-loop
+slice-aggregate-visit-belief-2 c = search needs
 
-add-expand-belief : tie.Need-add-expand-belief Inv-loop μ-loop
-add-expand-belief c = search needs
+slice-aggregate-visit-belief-3 : tie.Need-slice-aggregate-visit-belief-3 Inv-loop μ-loop
+slice-aggregate-visit-belief-3 c = search needs
 
-sub-expand-belief : tie.Need-sub-expand-belief Inv-loop μ-loop
-sub-expand-belief c = search needs
+add-visit-belief : tie.Need-add-visit-belief Inv-loop μ-loop
+add-visit-belief c = search needs
 
-part-expand-belief-start : tie.Need-part-expand-belief-start Inv-loop μ-loop
-part-expand-belief-start c = search needs
+sub-visit-belief : tie.Need-sub-visit-belief Inv-loop μ-loop
+sub-visit-belief c = search needs
 
-part-expand-belief-end : tie.Need-part-expand-belief-end Inv-loop μ-loop
-part-expand-belief-end c =
+part-visit-belief-start : tie.Need-part-visit-belief-start Inv-loop μ-loop
+part-visit-belief-start c = search needs
+
+part-visit-belief-end : tie.Need-part-visit-belief-end Inv-loop μ-loop
+part-visit-belief-end c =
     let l = c .before .before .before .before .loop in
-    let few = l .inv .2 .few in
-    let size = l .inv .1 in
-    let small = c .before .before .before .before .before .before .before .before .before .before .before .before .before .before .before .pre .1 .1 .1 .0 in
-    let here = c .before .before .before .loop-test .taken in
-    search needs
+    let p = c .before .before .before .before .before .before .before .before .before .before .before .before .pre in
+    turn-row (l .inv .2) (c .before .before .before .loop-test .taken) (p .1 .1 .1 .1 .0) (l .inv .1) .0
 
-expand-belief-requires : tie.Need-expand-belief-requires Inv-loop μ-loop
-expand-belief-requires c κs =
-    let a′′ = c .before .before .before .before .before .before .before .before .before .before .before .before .before .before .before .before .args in
-    let p′′ = c .before .before .before .before .before .before .before .before .before .before .before .before .before .before .before .before .pre in
-    let put-twins′ = c .before .before .before .before .before .before .before .before .before .before .before .put-twins in
-    let a′ = a′′ in
-    let p′ = p′′ in
-    let put-twins = put-twins′ in
-    let a = a′ in
-    let o = p′ in
-    let p = o .1 .1 .1 in
-    let l = c .before .before .before .before .before .loop in
+visit-belief-requires : tie.Need-visit-belief-requires Inv-loop μ-loop
+visit-belief-requires c κs =
+    let s = c .before .before .before .before .before .before .before .before .before .before .before .before .before .before in
+    let a = s .args in
+    let o = s .pre in
+    let p = o .1 .1 .1 .1 in
+    let put-twins = c .before .before .before .before .before .before .before .before .put-twins in
+    let l = c .before .before .before .before .before .before .loop in
     let t = l .inv .2 in
-    let here = c .before .before .before .before .loop-test .taken in
+    let here = c .before .before .before .before .before .loop-test .taken in
     let size = turn-row t here (p .0) (l .inv .1) .1 in
     let letters = subst (λ j. a .hiddens * j ≤ letterLimit) (sym size) (p .1 .0) in
     let right = subst (λ j. Successors (a .successors .now) (a .n) j (a .hiddens)) (sym size) (p .1 .1 .0) in
     let twins = put-twins .last .1 .1 .1 .1 .0 in
-    let same = subst (λ j. Twins (a .successors .now) (a .n) j (a .hiddens) twins) (sym size) (twins-are (a .successors .now) (a .n) (a .pairs) (a .hiddens)
+    let same = subst (λ j. Twins (a .successors .now) (a .n) j (a .hiddens) twins) (sym size) (twins-are (a .successors .now) (a .n) (a .pairs)
+    (a .hiddens)
     _ twins (put-twins .ensures)) in (
       o .0,
       (
-        put-twins .kept .1 .1 .1 .1 .0,
+        o .1 .0,
         (
-          o .1 .1 .0,
+          put-twins .kept .1 .1 .1 .1 .0,
           (
-            omega (arith, size, p .0),
-            (letters, (right, (same, (here, (t .few, (l .inv .0, (t .holds, (l .inv .4, l .inv .3)))))))),
+            o .1 .1 .1 .0,
+            (
+              omega (arith, size, p .0),
+              (letters, (right, (same, (here, (t .few, (l .inv .0, (t .holds, (l .inv .4, (l .inv .3, l .inv .5 .size))))))))),
+            ),
           ),
         ),
       ),
@@ -137,52 +120,32 @@ enum-told c = search needs
 
 same-length : tie.Need-same-length Inv-loop μ-loop
 same-length c =
-    let p′ = c .before .before .before .before .before .before .before .before .before .before .before .before .before .before .before .before .before
-    .before .before .before .before .before .before .before .pre in
-    let l′ = c .before .before .before .before .before .before .before .before .before .before .before .before .before .loop in
-    let expand-belief′ = c .before .before .before .before .before .before .before .expand-belief in
-    let p = p′ in
-    let l = l′ in
-    let expand-belief = expand-belief′ in
-    expand-belief .kept .1 .1 .1 .1 .1 .1 .0 ∙ l .inv .0 ∙ sym (p .1 .1 .1 .1 .1 .1 .0)
+    let s = c .before .before .before .before .before .before .before .before .before .before .before .before .before .before .before in
+    let o = s .before .before .before .before .before .before .before .before in
+    let l = s .loop in
+    let r = c .before .before .before .before .before .before .before .before .visit-belief in
+    let at = l .i * pairLimit in
+    same-len-mid at (at + o .args .pairs - at) (l .moves) (r .last .1 .1 .1 .1 .1 .1 .1 .1 .1 .0) (r .kept .1 .1 .1 .1 .1 .1 .1 .1 .1 .0) ∙ l .inv .1
+    ∙ sym (zeros-length _ (beliefLimit * pairLimit) (o .pre .1 .1 .1 .1 .1 .1 .1 .0))
 
 same-length-2 : tie.Need-same-length-2 Inv-loop μ-loop
 same-length-2 c =
-    let a′ = c .before .before .before .before .before .before .before .before .before .before .before .before .before .before .before .before .before
-    .before .before .before .before .before .before .before .args in
-    let p′ = c .before .before .before .before .before .before .before .before .before .before .before .before .before .before .before .before .before
-    .before .before .before .before .before .before .before .pre in
-    let l′′ = c .before .before .before .before .before .before .before .before .before .before .before .before .before .loop in
-    let expand-belief′ = c .before .before .before .before .before .before .before .expand-belief in
-    let a = a′ in
-    let p = p′ in
-    let l′ = l′′ in
-    let expand-belief = expand-belief′ in
-    let r = expand-belief in
-    let l = l′ in
-    let at = l .i * pairLimit in
-    same-len-mid at (at + a .pairs - at) (l .moves) (r .last .1 .1 .1 .1 .1 .1 .1 .1 .0) (r .kept .1 .1 .1 .1 .1 .1 .1 .1 .0) ∙ l .inv .1 ∙ sym
-    (zeros-length _ (beliefLimit * pairLimit) (p .1 .1 .1 .1 .1 .1 .1))
+    let s = c .before .before .before .before .before .before .before .before .before .before .before .before .before .before .before in
+    c .before .before .before .before .before .before .before .before .visit-belief .kept .1 .1 .1 .1 .1 .1 .1 .1 .1 .1 .0 ∙ s .loop .inv .5 .size
+    ∙ sym (s .before .before .before .before .before .before .before .before .pre .1 .1 .1 .1 .1 .1 .1 .1)
 
 returns : tie.Need-returns Inv-loop μ-loop
 returns c =
-    let p′ = c .before .before .before .before .before .before .before .before .before .before .before .before .before .before .before .before .before
-    .before .before .before .before .before .before .before .pre in
-    let a′ = c .before .before .before .before .before .before .before .before .before .before .before .before .before .before .before .before .before
-    .before .before .before .before .before .before .before .args in
-    let l′′ = c .before .before .before .before .before .before .before .before .before .before .before .before .before .loop in
-    let test′ = c .before .before .before .before .before .before .before .before .before .before .before .before .loop-test in
-    let expand-belief′ = c .before .before .before .before .before .before .before .expand-belief in
-    let p = p′ in
-    let a = a′ in
-    let l′ = l′′ in
-    let test = test′ in
-    let expand-belief = expand-belief′ in
-    let l = l′ in
+    let s = c .before .before .before .before .before .before .before .before .before .before .before .before .before .before .before in
+    let o = s .before .before .before .before .before .before .before .before in
+    let a = o .args in
+    let l = s .loop in
     let t = l .inv .2 in
-    let here = test .taken in
-    let row = turn-row t here (p .1 .1 .1 .0) (l .inv .1) in
-    turn-many t here (a .pairs) refl _ _ (same-count _ _ _ _ (a .pairs) (row .1) _ _ _ (sym (c .enum-told .given .1) ∙ expand-belief .ensures .0))
+    let r = c .before .before .before .before .before .before .before .before .visit-belief in
+    let here = c .before .before .before .before .before .before .before .before .before .before .before .before .before .before .loop-test .taken in
+    let row = turn-row t here (o .pre .1 .1 .1 .1 .0) (l .inv .1) in
+    let tried = same-count _ _ _ _ _ _ (a .pairs) _ _ _ _ (row .1) (r .ensures .0, r .ensures .1 .0) in
+    turn-many (a .sets .now) _ _ _ _ t here _ _ (sym (c .enum-told .given .1) ∙ tried .0)
 
 add-i : tie.Need-add-i Inv-loop μ-loop
 add-i c = search needs
@@ -192,57 +155,44 @@ loop-less c = search needs
 
 loop-again : tie.Need-loop-again Inv-loop μ-loop
 loop-again c =
-    let a′′ = c .before .before .before .before .before .before .before .before .before .before .before .before .before .before .before .before
-    .before .before .before .before .before .before .before .before .before .args in
-    let p′ = c .before .before .before .before .before .before .before .before .before .before .before .before .before .before .before .before .before
-    .before .before .before .before .before .before .before .before .pre in
-    let l′′ = c .before .before .before .before .before .before .before .before .before .before .before .before .before .before .loop in
-    let test′ = c .before .before .before .before .before .before .before .before .before .before .before .before .before .loop-test in
-    let expand-belief′ = c .before .before .before .before .before .before .before .before .expand-belief in
-    let a′ = a′′ in
-    let p = p′ in
-    let l′ = l′′ in
-    let test = test′ in
-    let expand-belief = expand-belief′ in
-    let r = expand-belief in
-    let l = l′ in
-    let a = a′ in
+    let s = c .before .before .before .before .before .before .before .before .before .before .before .before .before .before .before .before in
+    let o = s .before .before .before .before .before .before .before .before in
+    let a = o .args in
+    let l = s .loop in
     let t = l .inv .2 in
-    let here = test .taken in
-    let small = p .1 .1 .1 .0 in
+    let r = c .before .before .before .before .before .before .before .before .before .visit-belief in
+    let here = c .before .before .before .before .before .before .before .before .before .before .before .before .before .before
+    .before .loop-test .taken in
+    let small = o .pre .1 .1 .1 .1 .0 in
     let row = turn-row t here small (l .inv .1) in
     let at = l .i * pairLimit in
-    let new = r .last .1 .1 .1 .1 .1 .1 .1 .1 .0 in
-    let kept = r .kept .1 .1 .1 .1 .1 .1 in
-    let count = sym (c .before .m .given .1) ∙ r .ensures .0 in (
+    let new = r .last .1 .1 .1 .1 .1 .1 .1 .1 .1 .0 in
+    let kept = r .kept .1 .1 .1 .1 .1 .1 .1 in
+    let tried = same-count _ _ _ _ _ _ (a .pairs) _ _ _ _ (row .1) (r .ensures .0, r .ensures .1 .0) in
+    let count = sym (c .before .m .given .1) ∙ tried .0 in (
       kept .0 ∙ l .inv .0,
       same-len-mid at (at + a .pairs - at) (l .moves) new (kept .1 .1 .0) ∙ l .inv .1,
-      turn-next t here (a .pairs) refl _ at (at +
-          a .pairs - at) _ new small refl (omega arith) (omega (arith, row .0)) (same-count _ _ _ _ (a .pairs) (row .1) _ _ _ count) (same-expanded _ _ _ _
-          (a .pairs) (row .1) _ _ _ _ (r .ensures .1)),
+      turn-next t here (a .pairs) refl _ at (at + a .pairs - at) _ new small refl (omega arith) (omega (arith, row .0)) count (tried .1),
       kept .1 .0 ∙ l .inv .3,
-      distinct-next (a .n) beliefLimit _ _ _ _ _ _ _ _ (l .inv .4) count (r .ensures .1),
+      distinct-next (a .n) beliefLimit _ _ _ _ _ _ _ _ (l .inv .4) count (tried .1),
+      marked-more (a .sets .now) (a .n) (l .mem) _ (l .k) (l .i) (l .finals) _ (l .inv .5) here (t .few)
+          (belief-stays (a .successors .now) (a .n) (a .pairs) (a .hiddens) (l .mem) (l .k) _ _ _ _ count (tried .1)) (r .ensures .1 .1),
     )
 
 same-length-3 : tie.Need-same-length-3 Inv-loop μ-loop
-same-length-3 c = search needs
+same-length-3 c =
+    c .before .loop .inv .1 ∙ sym (zeros-length _ (beliefLimit * pairLimit)
+    (c .before .before .before .before .before .before .before .before .before .pre .1 .1 .1 .1 .1 .1 .1 .0))
 
 same-length-4 : tie.Need-same-length-4 Inv-loop μ-loop
-same-length-4 c =
-    let p = c .before .before .before .before .before .before .before .before .before .before .before .before .pre in
-    c .before .loop .inv .1 ∙ sym (zeros-length _ (beliefLimit * pairLimit) (p .1 .1 .1 .1 .1 .1 .1))
+same-length-4 c = search needs
 
 returns-2 : tie.Need-returns-2 Inv-loop μ-loop
 returns-2 c =
-    let a = c .before .before .before .before .before .before .before .before .before .before .before .before .args in
-    let p = c .before .before .before .before .before .before .before .before .before .before .before .before .pre in
+    let s = c .before .before .before .before .before .before .before .before .before in
     let l = c .before .loop in
-    let t = l .inv .2 in
-    let all = c .loop-test .left in (
-      turn-answer t all,
-      turn-left t all (belief-packing (a .n) (p .1 .1 .0)) (omega arith) (p .1 .1 .1 .0) (omega (arith, t .few, l .inv .0)) (omega
-          (arith, t .few, l .inv .1)),
-    )
+    turn-ran (s .args .sets .now) _ _ _ _ (l .inv .2) (c .loop-test .left) (s .pre .1 .1 .1 .0) (s .pre .1 .1 .1 .1 .0) (l .inv .0) (l .inv .1) _
+    (l .inv .5)
 
 pub count-beliefs-spec : {M : Type 1} → statement M
 count-beliefs-spec =
@@ -252,19 +202,17 @@ count-beliefs-spec =
     μ-loop
     slice-aggregate-put-twins
     put-twins-requires
-    sub-put-first
-    part-put-first-start
-    part-put-first-end
-    put-first-requires
+    array-write-mem
     loop-holds
     mul-at
-    slice-aggregate-expand-belief
-    slice-aggregate-expand-belief-2
-    add-expand-belief
-    sub-expand-belief
-    part-expand-belief-start
-    part-expand-belief-end
-    expand-belief-requires
+    slice-aggregate-visit-belief
+    slice-aggregate-visit-belief-2
+    slice-aggregate-visit-belief-3
+    add-visit-belief
+    sub-visit-belief
+    part-visit-belief-start
+    part-visit-belief-end
+    visit-belief-requires
     enum-known-m
     enum-told
     same-length

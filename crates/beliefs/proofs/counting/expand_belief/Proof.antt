@@ -13,60 +13,33 @@ use Rattle.beliefs.proofs.counting.expand_belief.Statement.{statement}
 use Rattle.beliefs.proofs.counting.expand_belief.Tie as tie
 
 abbrev Inv-loop : tie.InvT-loop
-Inv-loop successors twins n hiddens i k mem₀ hints₀ row₀ members place count pairs m₀ q₀ mem hints row m q =
-    Kept successors twins n hiddens mem₀ i k (length row₀) members count pairs q m mem hints row
+Inv-loop successors twins members count n hiddens k mem₀ hints₀ row₀ pairs m₀ q₀ mem hints row m q =
+    Kept successors twins members count n hiddens mem₀ k (length row₀) pairs q m mem hints row
 
 abbrev μ-loop : tie.MeasureT-loop
-μ-loop successors twins n hiddens i k mem₀ hints₀ row₀ members place count pairs m₀ q₀ mem hints row m q =
-    length row₀ - q
-
-mul-place : tie.Need-mul-place Inv-loop μ-loop
-mul-place c = search needs
-
-add-put-spread : tie.Need-add-put-spread Inv-loop μ-loop
-add-put-spread c = search needs
-
-sub-put-spread : tie.Need-sub-put-spread Inv-loop μ-loop
-sub-put-spread c = search needs
-
-part-put-spread-start : tie.Need-part-put-spread-start Inv-loop μ-loop
-part-put-spread-start c = search needs
-
-part-put-spread-end : tie.Need-part-put-spread-end Inv-loop μ-loop
-part-put-spread-end c = search needs
-
-slice-aggregate-put-spread : tie.Need-slice-aggregate-put-spread Inv-loop μ-loop
-slice-aggregate-put-spread c = search needs
-
-put-spread-requires : tie.Need-put-spread-requires Inv-loop μ-loop
-put-spread-requires c κs = search needs
-
-slice-aggregate-put-members : tie.Need-slice-aggregate-put-members Inv-loop μ-loop
-slice-aggregate-put-members c = search needs
-
-slice-aggregate-put-members-2 : tie.Need-slice-aggregate-put-members-2 Inv-loop μ-loop
-slice-aggregate-put-members-2 c = search needs
-
-put-members-requires : tie.Need-put-members-requires Inv-loop μ-loop
-put-members-requires c κs = search needs
+μ-loop successors twins members count n hiddens k mem₀ hints₀ row₀ pairs m₀ q₀ mem hints row m q = length row₀ - q
 
 loop-holds : tie.Need-loop-holds Inv-loop μ-loop
 loop-holds c =
-    let a′ = c .before .before .before .before .before .before .before .before .before .before .before .before .before .before .args in
-    let p′ = c .before .before .before .before .before .before .before .before .before .before .before .before .before .before .pre in
-    let a = a′ in
-    let p = p′ in
-    kept-none _ _ _ _ _ _ _ _ _ _ _ (a .hints .now) _ (p .0) (p .1 .1 .0) (p .1 .1 .1 .1 .0) (p .1 .1 .1 .1 .1 .0) (p .1 .1 .1 .1 .1 .1 .0)
-    (p .1 .1 .1 .1 .1 .1 .1 .0)
-    (p .1 .1 .1 .1 .1 .1 .1 .1 .0) (p .1 .1 .1 .1 .1 .1 .1 .1 .1 .0) (p .1 .1 .1 .1 .1 .1 .1 .1 .1 .1 .0) (p .1 .1 .1 .1 .1 .1 .1 .1 .1 .1 .1 .0)
-    (p .1 .1 .1 .1 .1 .1 .1 .1 .1 .1 .1 .1)
-    (c .before .before .before .before .before .put-spread .ensures) (c .before .put-members .ensures .0) (c .before .put-members .ensures .1)
+    let a = c .before .before .before .before .before .before .args in
+    let p = c .before .before .before .before .before .before .pre in
+    let r = p .1 .1 .1 .1 .1 .1 .1 .1 in
+    kept-none _ _ _ _ _ _ _ _ (a .hints .now) (a .row .now) (record {
+      size = p .0;
+      listed = p .1 .1 .0;
+      small = p .1 .1 .1 .0;
+      letters = p .1 .1 .1 .1 .1 .0;
+      right = p .1 .1 .1 .1 .1 .1 .0;
+      same = p .1 .1 .1 .1 .1 .1 .1 .0;
+      room = r .1 .0;
+      different = r .1 .1 .1 .0;
+    }) (r .0) (r .1 .1 .0) (r .1 .1 .1 .1)
 
 shared-slice-read-b : tie.Need-shared-slice-read-b Inv-loop μ-loop
 shared-slice-read-b c = search needs
 
 cast-b : tie.Need-cast-b Inv-loop μ-loop
-cast-b c = omega (arith, c .shared-slice-known3 .given (c .before .before .loop .q))
+cast-b c = omega (arith, c .shared-slice-known4 .given (c .before .before .loop .q))
 
 slice-read-row : tie.Need-slice-read-row Inv-loop μ-loop
 slice-read-row c = search needs
@@ -74,24 +47,19 @@ slice-read-row c = search needs
 slice-write-row : tie.Need-slice-write-row Inv-loop μ-loop
 slice-write-row c = search needs
 
-slice-aggregate-put-belief : tie.Need-slice-aggregate-put-belief Inv-loop μ-loop
-slice-aggregate-put-belief c = search needs
-
 put-belief-requires : tie.Need-put-belief-requires Inv-loop μ-loop
 put-belief-requires c κs =
-    let l = c .before .before .before .before .before .before .loop in
-    put-asked _ _ _ _ _ _ _ _ _ _ _ _ _ (l .mem) (l .hints) (l .row) (l .inv) (c .before .before .before .before .before .loop-test .taken)
+    let l = c .before .before .before .before .before .loop in
+    put-asked _ _ _ _ _ _ _ _ _ _ _ _ (l .mem) (l .hints) (l .row) (l .inv) (c .before .before .before .before .loop-test .taken)
 
 same-length : tie.Need-same-length Inv-loop μ-loop
 same-length c = search needs
 
 same-length-2 : tie.Need-same-length-2 Inv-loop μ-loop
 same-length-2 c =
-    let p′ = c .before .before .before .before .before .before .before .before .before .before .before .before .before .before .before .before .before
-    .before .before .before .before .before .before .before .before .before .before .pre in
-    let l′ = c .before .before .before .before .before .before .before .before .before .before .before .before .loop in
-    let p = p′ in
-    let l = l′ in
+    let p = c .before .before .before .before .before .before .before .before .before .before .before .before .before .before .before .before .before
+    .before .pre in
+    let l = c .before .before .before .before .before .before .before .before .before .before .before .loop in
     c .before .before .before .before .before .put-belief .kept .1 .1 .1 .1 .1 .1 .1 .1 .0 ∙ l .inv .3 ∙ sym (p .1 .1 .1 .1 .1 .1 .1 .1 .1 .1 .1 .1)
 
 same-length-3 : tie.Need-same-length-3 Inv-loop μ-loop
@@ -99,10 +67,10 @@ same-length-3 c = search needs
 
 returns : tie.Need-returns Inv-loop μ-loop
 returns c =
-    let l = c .before .before .before .before .before .before .before .before .before .before .before .before .loop in
-    let test = c .before .before .before .before .before .before .before .before .before .before .before .loop-test in
+    let l = c .before .before .before .before .before .before .before .before .before .before .before .loop in
+    let test = c .before .before .before .before .before .before .before .before .before .before .loop-test in
     let put-belief = c .before .before .before .before .before .put-belief in
-    kept-over _ _ _ _ _ _ _ _ _ _ _ _ _ (l .mem) (l .hints) (l .row) (l .inv) (test .taken) _ _ (put-belief .ensures .1) (put-belief .ensures .0)
+    kept-over _ _ _ _ _ _ _ _ _ _ _ _ (l .mem) (l .hints) (l .row) (l .inv) (test .taken) _ _ (put-belief .ensures .1) (put-belief .ensures .0)
     (c .if2 .taken)
     _ _
 
@@ -111,7 +79,7 @@ add-m c = search needs
 
 cast-row : tie.Need-cast-row Inv-loop μ-loop
 cast-row c =
-    let l = c .before .before .before .before .before .before .before .before .before .before .before .before .before .loop in
+    let l = c .before .before .before .before .before .before .before .before .before .before .before .before .loop in
     let put-belief = c .before .before .before .before .before .before .put-belief in
     omega (arith, place-small _ _ (put-belief .result) (put-belief .ensures .0) (l .inv .0 .1) (c .before .if2 .left))
 
@@ -128,11 +96,16 @@ loop-again : tie.Need-loop-again Inv-loop μ-loop
 loop-again c =
     let l = c .before .before .before .loop in
     let here = c .before .before .loop-test .taken in
-    ⊎-elim (λ w. kept-copy _ _ _ _ _ _ _ _ _ _ _ _ _ (l .mem) (l .hints) (l .row) (l .inv) here (w .0 .taken) _ _ (c .if1 .hints) _ (w .2) (ap length
-    (w .3) ∙ l .inv .3) (w .4) (w .5)) (λ w. ⊎-elim (λ v. kept-new _ _ _ _ _ _ _ _ _ _ _ _ _ (l .mem) (l .hints) (l .row) (l .inv) here _ _ (w .4 .ensures .1)
-    (w .4 .ensures .0) (v .0 .taken) (w .9 .left) _ _ (c .if1 .hints) _ (w .11) (ap length (w .12) ∙ w .4 .kept .1 .1 .1 .1 .1 .1 .1 .1 .0 ∙ l .inv .3)
-    (w .13) (w .14 ∙ v .1)) (λ v. kept-old _ _ _ _ _ _ _ _ _ _ _ _ _ (l .mem) (l .hints) (l .row) (l .inv) here _ _ (w .4 .ensures .1) (w .4 .ensures .0)
-    (v .0 .left) _ _ (c .if1 .hints) _ (w .11) (ap length (w .12) ∙ w .4 .kept .1 .1 .1 .1 .1 .1 .1 .1 .0 ∙ l .inv .3) (w .13) (w .14 ∙ v .1)) (w .10 .came))
+    ⊎-elim
+    (λ w. kept-copy _ _ _ _ _ _ _ _ _ _ _ _ (l .mem) (l .hints) (l .row) (l .inv) here (w .0 .taken) _ _ (c .if1 .hints) _ (w .2) (ap length (w .3)
+    ∙ l .inv .3)
+    (w .4) (w .5))
+    (λ w. let long = ap length (w .11) ∙ w .3 .kept .1 .1 .1 .1 .1 .1 .1 .1 .0 ∙ l .inv .3 in ⊎-elim
+    (λ v. kept-new _ _ _ _ _ _ _ _ _ _ _ _ (l .mem) (l .hints) (l .row) (l .inv) here _ _ (w .3 .ensures .1) (w .3 .ensures .0) (v .0 .taken)
+    (w .8 .left) _ _
+    (c .if1 .hints) _ (w .10) long (w .12) (w .13 ∙ v .1))
+    (λ v. kept-old _ _ _ _ _ _ _ _ _ _ _ _ (l .mem) (l .hints) (l .row) (l .inv) here _ _ (w .3 .ensures .1) (w .3 .ensures .0) (v .0 .left) _ _
+    (c .if1 .hints) _ (w .10) long (w .12) (w .13 ∙ v .1)) (w .9 .came))
     (c .if1 .came)
 
 same-length-4 : tie.Need-same-length-4 Inv-loop μ-loop
@@ -145,7 +118,7 @@ same-length-6 : tie.Need-same-length-6 Inv-loop μ-loop
 same-length-6 c = search needs
 
 returns-2 : tie.Need-returns-2 Inv-loop μ-loop
-returns-2 c = adding-all _ _ _ _ _ (c .before .loop .inv .0) (c .loop-test .left)
+returns-2 c = adding-all _ _ _ _ _ _ (c .before .loop .inv .0) (c .loop-test .left)
 
 pub expand-belief-spec : {M : Type 1} → statement M
 expand-belief-spec =
@@ -153,22 +126,11 @@ expand-belief-spec =
     (tie.spec
     Inv-loop
     μ-loop
-    mul-place
-    add-put-spread
-    sub-put-spread
-    part-put-spread-start
-    part-put-spread-end
-    slice-aggregate-put-spread
-    put-spread-requires
-    slice-aggregate-put-members
-    slice-aggregate-put-members-2
-    put-members-requires
     loop-holds
     shared-slice-read-b
     cast-b
     slice-read-row
     slice-write-row
-    slice-aggregate-put-belief
     put-belief-requires
     same-length
     same-length-2

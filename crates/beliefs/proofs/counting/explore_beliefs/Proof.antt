@@ -1,4 +1,4 @@
--- `beliefs::counting::explore_beliefs` meets its contract, by those of `count_beliefs`, `mark_finals` and `clear`.
+-- `beliefs::counting::explore_beliefs` meets its contract, by those of `count_beliefs`, `put_bytes` and `clear`.
 -- Assumes nothing.
 use Prim.Native.Nat.{ℕ, _*_}
 use native.Mathlib.Omega.{arith}
@@ -7,7 +7,8 @@ use lib.ListN.{length-replicate}
 use borrow.Author.Needs.{needs}
 use Rattle.basics.proofs.ListsLaws.{zeros-length}
 use Rattle.play.specs.Limits.{beliefLimit, pairLimit}
-use Rattle.beliefs.proofs.counting.Explored.{explored-few, explored-held, explored-moves, explored-finals, cleared-moves, left-finals}
+use Rattle.beliefs.proofs.counting.Explored.{explored-few, explored-room, explored-moves, explored-finals, cleared-moves, left-finals}
+use borrow.Author.Needs.{needs}
 use Rattle.beliefs.proofs.counting.explore_beliefs.Statement.{statement}
 use Rattle.beliefs.proofs.counting.explore_beliefs.Tie as tie
 
@@ -16,28 +17,39 @@ slice-aggregate-count-beliefs c = search needs
 
 count-beliefs-requires : tie.Need-count-beliefs-requires
 count-beliefs-requires c κs =
-    let p = c .before .before .before .before .before .before .pre .1 in
-    (p .0, (p .1 .0, (p .1 .1 .0, (p .1 .1 .1 .0, (p .1 .1 .1 .1 .0, (p .1 .1 .1 .1 .1 .0, (length-replicate {A = ℕ} 8224 0, p .1 .1 .1 .1 .1 .1 .0)))))))
+    let p = c .before .before .before .before .before .before .pre in
+    let q = p .1 .1 .1 .1 in
+    (p .0, (p .1 .0, (p .1 .1 .0, (p .1 .1 .1 .0, (q .0, (q .1 .0, (q .1 .1 .0, (q .1 .1 .1 .0, length-replicate {A = ℕ} beliefLimit 0))))))))
 
 enum-known-k : tie.Need-enum-known-k
 enum-known-k c = search needs
 
-slice-aggregate-mark-finals : tie.Need-slice-aggregate-mark-finals
-slice-aggregate-mark-finals c = search needs
+sub-put-bytes : tie.Need-sub-put-bytes
+sub-put-bytes c = search needs
 
-mark-finals-requires : tie.Need-mark-finals-requires
-mark-finals-requires c κs =
+part-put-bytes-start : tie.Need-part-put-bytes-start
+part-put-bytes-start c = search needs
+
+part-put-bytes-end : tie.Need-part-put-bytes-end
+part-put-bytes-end c =
     let made = c .before .before .before .before .before .before .before .before .count-beliefs in
     let k = c .before .before .before .k in
     let s = c .before .before .before .before .before .before .before .before .before .before .before .before .before .before .before in
     let a = s .args in
-    let p = s .pre in
-    let count = sym (k .given .1) ∙ made .ensures .0 in
-    let few = explored-few (a .successors .now) (a .n) (a .pairs) (a .hiddens) (p .1 .1 .1 .0) (made .last .1 .1 .1 .1 .0)
-    (made .last .1 .1 .1 .1 .1 .0) (k .given .0 .0) count (made .ensures .1) in
-    let held = explored-held (a .successors .now) (a .n) (a .pairs) (a .hiddens) (p .1 .1 .1 .0) (made .last .1 .1 .1 .1 .0)
-    (made .last .1 .1 .1 .1 .1 .0) (k .given .0 .0) count (made .ensures .1) in
-    (p .0, (p .1 .1 .1 .0, (omega (arith, few, made .kept .1 .1 .1 .1 .0), (held, omega (arith, few, p .1 .1 .1 .1 .1 .1 .1 .1)))))
+    let got = sym (k .given .1) ∙ made .ensures .0 in
+    let size = made .kept .1 .1 .1 .1 .1 .1 .0 ∙ length-replicate {A = ℕ} beliefLimit 0 in
+    omega (arith, explored-few (a .sets .now) (a .successors .now) (a .n) (a .pairs) (a .hiddens) (k .given .0 .0) got, size)
+
+put-bytes-requires : tie.Need-put-bytes-requires
+put-bytes-requires c κs =
+    let made = c .before .before .before .before .before .before .before .before .before .count-beliefs in
+    let k = c .before .before .before .before .k in
+    let s = c .before .before .before .before .before .before .before .before .before .before .before .before .before .before .before .before in
+    let a = s .args in
+    let got = sym (k .given .1) ∙ made .ensures .0 in
+    let size = made .kept .1 .1 .1 .1 .1 .1 .0 ∙ length-replicate {A = ℕ} beliefLimit 0 in
+    explored-room (a .sets .now) (a .successors .now) (a .n) (a .pairs) (a .hiddens) (k .given .0 .0) got _ size (a .finals .now)
+    (s .pre .1 .1 .1 .1 .1 .1 .1 .1)
 
 enum-told : tie.Need-enum-told
 enum-told c = search needs
@@ -53,24 +65,19 @@ same-length-2 c = search needs
 
 returns : tie.Need-returns
 returns c =
-    let made = c .before .before .before .before .before .before .before .before .before .before .before .count-beliefs in
-    let marks = c .before .before .mark-finals in
-    let k = c .before .before .before .before .before .before .k in
+    let made = c .before .before .before .before .before .before .before .before .before .before .before .before .count-beliefs in
+    let k = c .before .before .before .before .before .before .before .k in
     let s = c .before .before .before .before .before .before .before .before .before .before .before .before .before .before .before .before .before
-    .before in
+    .before .before in
     let a = s .args in
-    let p = s .pre in
-    let count = sym (k .given .1) ∙ made .ensures .0 in
-    let size = made .kept .1 .1 .1 .1 .1 .0 ∙ zeros-length _ (beliefLimit * pairLimit) (p .1 .1 .1 .1 .1 .1 .1 .0) in (
-      count,
-      (
-        explored-moves (a .successors .now) (a .n) (a .pairs) (a .hiddens) (p .1 .1 .1 .0) (made .last .1 .1 .1 .1 .0) (made .last .1 .1 .1 .1 .1 .0)
-            (k .given .0 .0) count (made .ensures .1) size,
-        explored-finals (a .successors .now) (a .n) (a .pairs) (a .hiddens) (p .1 .1 .1 .0) (made .last .1 .1 .1 .1 .0) (made .last .1 .1 .1 .1 .1 .0)
-            (k .given .0 .0) count (made .ensures .1)
-            (a .sets .now) (a .finals .now) (marks .last .1 .1 .1 .1 .0) (marks .ensures),
-      ),
-    )
+    let got = sym (k .given .1) ∙ made .ensures .0 in
+    let size = made .kept .1 .1 .1 .1 .1 .1 .0 ∙ length-replicate {A = ℕ} beliefLimit 0 in
+    let long = made .kept .1 .1 .1 .1 .1 .0 ∙ zeros-length _ (beliefLimit * pairLimit) (s .pre .1 .1 .1 .1 .1 .1 .1 .0) in
+    let moves = explored-moves (a .sets .now) (a .successors .now) (a .n) (a .pairs) (a .hiddens) (k .given .0 .0) got _ _ (made .ensures .1) long in
+    let finals = explored-finals (a .sets .now) (a .successors .now) (a .n) (a .pairs) (a .hiddens) (k .given .0 .0) got _ _ (made .ensures .1) size
+    (a .finals .now) _
+    (s .pre .1 .1 .1 .1 .1 .1 .1 .1) (c .before .before .put-bytes .ensures .1) in
+    (got, (moves, finals))
 
 same-length-3 : tie.Need-same-length-3
 same-length-3 c = search needs
@@ -80,13 +87,12 @@ returns-2 c =
     let made = c .before .before .before .before .before .before .before .before .before .count-beliefs in
     let s = c .before .before .before .before .before .before .before .before .before .before .before .before .before .before .before .before in
     let a = s .args in
-    let p = s .pre in
     let many = sym (c .before .before .before .before .enum-told .given .1) ∙ made .ensures .0 in
-    let size = made .kept .1 .1 .1 .1 .1 .0 ∙ zeros-length _ (beliefLimit * pairLimit) (p .1 .1 .1 .1 .1 .1 .1 .0) in (
+    let long = made .kept .1 .1 .1 .1 .1 .0 ∙ zeros-length _ (beliefLimit * pairLimit) (s .pre .1 .1 .1 .1 .1 .1 .1 .0) in (
       many,
       (
-        c .before .before .clear .ensures ∙ cleared-moves (a .successors .now) (a .n) (a .pairs) (a .hiddens) many _ size,
-        left-finals (a .successors .now) (a .n) (a .pairs) (a .hiddens) many (a .sets .now) (a .finals .now),
+        c .before .before .clear .ensures ∙ cleared-moves (a .sets .now) (a .successors .now) (a .n) (a .pairs) (a .hiddens) many _ long,
+        left-finals (a .sets .now) (a .successors .now) (a .n) (a .pairs) (a .hiddens) many (a .finals .now),
       ),
     )
 
@@ -97,8 +103,10 @@ explore-beliefs-spec =
     slice-aggregate-count-beliefs
     count-beliefs-requires
     enum-known-k
-    slice-aggregate-mark-finals
-    mark-finals-requires
+    sub-put-bytes
+    part-put-bytes-start
+    part-put-bytes-end
+    put-bytes-requires
     enum-told
     clear-requires
     same-length

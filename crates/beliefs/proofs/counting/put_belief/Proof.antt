@@ -4,12 +4,11 @@ use Prim.Native.Nat.{_+_, _*_, _≤_}
 use native.Mathlib.Omega.{arith}
 use mathlib.Core.Path.{sym, ap, _∙_, subst}
 use lib.ListN.{length}
-use Rattle.search.specs.Limits.{setSize}
 use Rattle.basics.specs.Bounded.{firstThat}
 use Rattle.search.specs.Slots.{sameSlot}
 use Rattle.basics.proofs.LentPart.{part-length}
-use Rattle.search.proofs.SlotsLaws.{set-back}
-use Rattle.beliefs.specs.BeliefMemory.{Apart}
+use Rattle.search.proofs.SlotsLaws.{item-back}
+use Rattle.beliefs.specs.BeliefMemory.{beliefSize, Apart}
 use Rattle.beliefs.proofs.ApartPlaces.{apart-written}
 use borrow.Author.Needs.{needs}
 use Rattle.beliefs.proofs.counting.put_belief.Statement.{statement}
@@ -35,16 +34,16 @@ put-after-requires c κs =
     let a = c .before .before .before .before .before .args in
     let p = c .before .before .before .before .before .pre in
     let r = p .1 .1 .1 .1 .1 in
-    let room : a .m * setSize + setSize ≤ length (a .mem .now) = omega (arith, r .0, r .1 .0) in
-    (p .0, (p .1 .0, (p .1 .1 .0, (p .1 .1 .1 .0, (p .1 .1 .1 .1 .0, part-length (a .m * setSize) setSize (a .mem .now) room)))))
+    let room : a .m * beliefSize + beliefSize ≤ length (a .mem .now) = omega (arith, r .0, r .1 .0) in
+    (p .0, (p .1 .0, (p .1 .1 .0, (p .1 .1 .1 .0, (p .1 .1 .1 .1 .0, part-length (a .m * beliefSize) beliefSize (a .mem .now) room)))))
 
 find-hinted-requires : tie.Need-find-hinted-requires
 find-hinted-requires c κs =
     let p = c .before .before .before .before .before .before .before .before .before .before .pre in
     let a = c .before .before .before .before .before .before .before .before .before .before .args in
     let r = p .1 .1 .1 .1 .1 in
-    let room : a .m * setSize + setSize ≤ length (a .mem .now) = omega (arith, r .0, r .1 .0) in
-    let w = set-back (a .mem .now) _ _ (a .m) (c .before .before .before .before .put-after .ensures) in
+    let room : a .m * beliefSize + beliefSize ≤ length (a .mem .now) = omega (arith, r .0, r .1 .0) in
+    let w = item-back beliefSize (a .mem .now) _ _ (a .m) (c .before .before .before .before .put-after .ensures) in
     (r .0, (search needs, (r .1 .1 .1, subst (λ v. Apart v (a .m)) (sym w) (apart-written (a .mem .now) (a .m) _ room (r .1 .1 .0)))))
 
 same-length : tie.Need-same-length
@@ -57,8 +56,8 @@ returns : tie.Need-returns
 returns c =
     let a = c .before .before .before .before .before .before .before .before .before .before .before .before .before .args in
     let put-after = c .before .before .before .before .before .before .before .put-after in
-    let w = set-back (a .mem .now) _ _ (a .m) (put-after .ensures) in
-    (c .before .before .find-hinted .ensures ∙ ap (λ l. firstThat (sameSlot l (a .m)) (a .m)) w, w)
+    let w = item-back beliefSize (a .mem .now) _ _ (a .m) (put-after .ensures) in
+    (c .before .before .find-hinted .ensures ∙ ap (λ l. firstThat (sameSlot beliefSize l (a .m)) (a .m)) w, w)
 
 pub put-belief-spec : {M : Type 1} → statement M
 put-belief-spec =

@@ -3,6 +3,7 @@
 use native.Mathlib.Omega.{arith}
 use mathlib.Core.Path.{sym, _∙_}
 use borrow.Author.Needs.{needs}
+use Rattle.beliefs.proofs.LimitsLaws.{belief-byte}
 use Rattle.beliefs.proofs.ApartPlaces.{only-place}
 use Rattle.beliefs.proofs.finding.find_hinted.Statement.{statement}
 use Rattle.beliefs.proofs.finding.find_hinted.Tie as tie
@@ -29,7 +30,7 @@ find-requires : tie.Need-find-requires
 find-requires c κs = search needs
 
 cast-hints : tie.Need-cast-hints
-cast-hints c = search needs
+cast-hints c = omega (arith, belief-byte)
 
 slice-write-hints : tie.Need-slice-write-hints
 slice-write-hints c = search needs

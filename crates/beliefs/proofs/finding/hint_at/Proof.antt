@@ -3,16 +3,15 @@
 use Prim.Native.Nat.{_+_, _*_, _-_, _≤_, _<_}
 use native.Mathlib.Omega.{arith}
 use borrow.Author.Needs.{needs}
-use Rattle.search.specs.Limits.{setSize}
-use Rattle.beliefs.specs.BeliefMemory.{hintSize}
+use Rattle.beliefs.specs.BeliefMemory.{beliefSize, hintSize}
 use Rattle.beliefs.proofs.finding.hint_at.Statement.{statement}
 use Rattle.beliefs.proofs.finding.hint_at.Tie as tie
 
 abbrev Inv-loop : tie.InvT-loop
-Inv-loop mem m at x₀ i₀ x i = (x < hintSize) × (i ≤ 16)
+Inv-loop mem m at x₀ i₀ x i = (x < hintSize) × (i ≤ beliefSize)
 
 abbrev μ-loop : tie.MeasureT-loop
-μ-loop mem m at x₀ i₀ x i = 16 - i
+μ-loop mem m at x₀ i₀ x i = beliefSize - i
 
 mul-at : tie.Need-mul-at Inv-loop μ-loop
 mul-at c = search needs
@@ -30,10 +29,10 @@ shared-slice-read-x : tie.Need-shared-slice-read-x Inv-loop μ-loop
 shared-slice-read-x c = search needs
 
 cast-x : tie.Need-cast-x Inv-loop μ-loop
-cast-x c = omega (arith, c .shared-slice-known .given (c .before .before .before .args .m * setSize + c .before .before .loop .i))
+cast-x c = omega (arith, c .shared-slice-known .given (c .before .before .before .args .m * beliefSize + c .before .before .loop .i))
 
 add-x-2 : tie.Need-add-x-2 Inv-loop μ-loop
-add-x-2 c = omega (arith, c .shared-slice-known .given (c .before .before .before .args .m * setSize + c .before .before .loop .i))
+add-x-2 c = omega (arith, c .shared-slice-known .given (c .before .before .before .args .m * beliefSize + c .before .before .loop .i))
 
 add-i : tie.Need-add-i Inv-loop μ-loop
 add-i c = search needs

@@ -10,6 +10,7 @@ use Rattle.basics.specs.Lists.{tabulate}
 use Rattle.basics.proofs.Filling.{table-more, filled}
 use Rattle.basics.proofs.BoundedLaws.{first-le}
 use Rattle.beliefs.specs.Twins.{samePairs, firstTwin}
+use Rattle.beliefs.proofs.LimitsLaws.{pair-byte}
 use Rattle.beliefs.proofs.twins.put_twins.Statement.{statement}
 use Rattle.beliefs.proofs.twins.put_twins.Tie as tie
 
@@ -32,6 +33,7 @@ cast-twins c =
     let a = c .before .before .before .before .before .args in
     omega (
       arith,
+      pair-byte,
       c .first-twin .ensures,
       first-le (samePairs (a .successors .now) (a .n) (a .pairs) (a .hiddens) (c .before .before .loop .q))
           (c .before .before .loop .q),

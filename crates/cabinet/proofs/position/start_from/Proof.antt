@@ -1,8 +1,7 @@
 -- `cabinet::position::start_from` meets its contract.
 -- Assumes nothing.
-use native.Mathlib.Omega.{arith}
 use borrow.Author.Needs.{needs}
-use Rattle.cabinet.proofs.PositionLaws.{stands, start-refused, start-moves}
+use Rattle.cabinet.proofs.PositionLaws.{stands, row-room, start-refused, start-moves}
 use Rattle.cabinet.proofs.position.start_from.Statement.{statement}
 use Rattle.cabinet.proofs.position.start_from.Tie as tie
 
@@ -15,20 +14,19 @@ refuse-requires c κs = search needs
 returns : tie.Need-returns
 returns c =
     let a = c .before .before .before .before .args in
-    start-refused (a .table .now) (a .rows) (a .observed) (a .position) _ (c .before .before .is-standing .ensures) (c .before .if1 .taken) _
+    start-refused (a .table .now) (a .shape) (a .position) _ (c .before .before .is-standing .ensures) (c .before .if1 .taken) _
     (c .refuse .ensures)
 
 move-to-requires : tie.Need-move-to-requires
 move-to-requires c κs =
     let a = c .before .before .before .args in
-    let w = stands (a .table .now) (a .rows) (a .observed) 0 _ (c .before .is-standing .ensures) (c .if1 .left) in
-    omega (arith, w .sized .some, w .sized .room)
+    row-room (a .table .now) (a .shape) 0 (stands (a .table .now) (a .shape) 0 _ (c .before .is-standing .ensures) (c .if1 .left))
 
 returns-2 : tie.Need-returns-2
 returns-2 c =
     let a = c .before .before .before .before .args in
-    start-moves (a .table .now) (a .rows) (a .observed) (a .position)
-    (stands (a .table .now) (a .rows) (a .observed) 0 _ (c .before .before .is-standing .ensures) (c .before .if1 .left)) _ (c .move-to .ensures)
+    start-moves (a .table .now) (a .shape) (a .position)
+    (stands (a .table .now) (a .shape) 0 _ (c .before .before .is-standing .ensures) (c .before .if1 .left)) _ (c .move-to .ensures)
 
 pub start-from-spec : {M : Type 1} → statement M
 start-from-spec =

@@ -8,7 +8,7 @@ use Rattle.cabinet.proofs.printing.print.Tie as tie
 returns : tie.Need-returns
 returns c =
     let a = c .before .before .before .args in
-    print-short (a .table .now) (a .rows) (a .worst) (a .observed) (a .text .now) (c .if1 .taken)
+    print-short (a .table .now) (a .shape) (a .worst) (a .text .now) (c .if1 .taken)
 
 is-printable-requires : tie.Need-is-printable-requires
 is-printable-requires c κs = search needs
@@ -16,14 +16,14 @@ is-printable-requires c κs = search needs
 returns-2 : tie.Need-returns-2
 returns-2 c =
     let a = c .before .before .before .before .before .args in
-    print-refused (a .table .now) (a .rows) (a .worst) (a .observed) (a .text .now) (c .before .before .if1 .left) _
+    print-refused (a .table .now) (a .shape) (a .worst) (a .text .now) (c .before .before .if1 .left) _
     (c .before .is-printable .ensures) (c .if2 .taken)
 
 put-table-requires : tie.Need-put-table-requires
 put-table-requires c κs =
     let e = c .before .before in
     let a = e .before .before .before .before .args in
-    print-asks (a .table .now) (a .rows) (a .worst) (a .observed) (a .text .now) (e .before .if1 .left) _ (e .is-printable .ensures) (c .before .if2 .left)
+    print-asks (a .table .now) (a .shape) (a .worst) (a .text .now) (e .before .if1 .left) _ (e .is-printable .ensures) (c .before .if2 .left)
 
 same-length : tie.Need-same-length
 same-length c = search needs
@@ -33,7 +33,7 @@ returns-3 c =
     let p = c .before .before .put-table in
     let e = c .before .before .before .before .before in
     let a = e .before .before .before .before .args in
-    print-done (a .table .now) (a .rows) (a .worst) (a .observed) (a .text .now) (e .before .if1 .left) _ (e .is-printable .ensures)
+    print-done (a .table .now) (a .shape) (a .worst) (a .text .now) (e .before .if1 .left) _ (e .is-printable .ensures)
     (c .before .before .before .before .if2 .left)
     _ _ (p .ensures .0) (p .ensures .1)
 

@@ -1,11 +1,11 @@
--- `cabinet::responding::respond` meets its contract, by those of `solve`, `observed_in`, `print` and `put_refusal`.
+-- `cabinet::responding::respond` meets its contract, by those of `solve`, `print` and `put_refusal`.
 -- Assumes nothing.
 use Prim.Native.Nat.{_*_}
 use native.Mathlib.Omega.{arith}
 use mathlib.Core.Path.{sym, ap}
 use lib.ListN.{length}
 use lib.Seq.{length-take-le}
-use Rattle.play.specs.Limits.{rowSize}
+use Rattle.play.specs.Cells.{rowSize}
 use Rattle.cabinet.specs.declared.printing.Printed.the-variants.{Text}
 use Rattle.cabinet.proofs.ResponseLaws.{tight-right, text-long, few-rows, rows-within, table-right, refusal-right}
 use borrow.Author.Needs.{needs}
@@ -21,44 +21,41 @@ returns c =
 solve-requires : tie.Need-solve-requires
 solve-requires c κs = search needs
 
-enum-known-rows : tie.Need-enum-known-rows
-enum-known-rows c = search needs
+enum-known-shape : tie.Need-enum-known-shape
+enum-known-shape c = search needs
 
-mul-print : tie.Need-mul-print
-mul-print c =
-    let v = c .before .before .before .before .before .before .before in
+mul-end : tie.Need-mul-end
+mul-end c =
+    let v = c .before .before .before .before .before .before .before .before in
     let i = v .before .before .before in
     let a = i .before .before .before .before .before .args in
     let solve = v .solve in
-    let n = c .before .rows .given in
+    let n = c .before .before .shape .given in
     let few = few-rows (a .source .now) (a .work .now) (a .table .now) (a .text .now) (i .if1 .left) (solve .result) (solve .last .1 .1 .0)
     (solve .last .1 .0) (solve .ensures .0) (solve .ensures .1 .0) (solve .ensures .1 .1 .0) (n .0 .0) (n .0 .1 .0) (n .1) (solve .ensures .1 .1 .1) in
     omega arith
 
 slice-reshare-prefix-print : tie.Need-slice-reshare-prefix-print
 slice-reshare-prefix-print c =
-    let v = c .before .before .before .before .before .before .before in
+    let v = c .before .before .before .before .before .before .before .before in
     let i = v .before .before .before in
     let a = i .before .before .before .before .before .args in
     let solve = v .solve in
-    let n = c .before .rows .given in
+    let n = c .before .before .shape .given in
     let inside = rows-within (a .source .now) (a .work .now) (a .table .now) (a .text .now) (i .if1 .left) (solve .result) (solve .last .1 .1 .0)
     (solve .last .1 .0) (solve .ensures .0) (solve .ensures .1 .0) (solve .ensures .1 .1 .0) (n .0 .0) (n .0 .1 .0) (n .1) (solve .ensures .1 .1 .1) in
     omega arith
 
 slice-aggregate-print : tie.Need-slice-aggregate-print
 slice-aggregate-print c =
-    let v = c .before .before .before .before .before .before .before .before in
+    let v = c .before .before .before .before .before .before .before .before .before in
     let i = v .before .before .before in
     let a = i .before .before .before .before .before .args in
     let solve = v .solve in
-    let n = c .before .before .rows .given in
-    sym (length-take-le (n .0 .0 * rowSize) (solve .last .1 .1 .0) (rows-within (a .source .now) (a .work .now) (a .table .now) (a .text .now)
+    let n = c .before .before .before .shape .given in
+    sym (length-take-le (n .0 .0 .rows * rowSize) (solve .last .1 .1 .0) (rows-within (a .source .now) (a .work .now) (a .table .now) (a .text .now)
     (i .if1 .left) (solve .result) (solve .last .1 .1 .0) (solve .last .1 .0) (solve .ensures .0) (solve .ensures .1 .0) (solve .ensures .1 .1 .0)
     (n .0 .0) (n .0 .1 .0) (n .1) (solve .ensures .1 .1 .1)))
-
-observed-in-requires : tie.Need-observed-in-requires
-observed-in-requires c κs = search needs
 
 print-requires : tie.Need-print-requires
 print-requires c κs = search needs
@@ -87,12 +84,11 @@ returns-2 c =
     let i = v .before .before .before in
     let a = i .before .before .before .before .before .args in
     let solve = v .solve in
-    let n = c .before .before .before .before .before .before .before .rows .given in
+    let n = c .before .before .before .before .before .before .before .shape .given in
     let print = c .before .before .print in
-    let observed = c .before .before .before .before .observed-in in
     let m = table-right (a .source .now) (a .work .now) (a .table .now) (a .text .now) (i .if1 .left) (solve .result) (solve .last .1 .1 .0)
     (solve .last .1 .0) (solve .ensures .0) (solve .ensures .1 .0) (solve .ensures .1 .1 .0) (n .0 .0) (n .0 .1 .0) (n .1)
-    (solve .ensures .1 .1 .1) (observed .result) (observed .ensures) (print .result) (print .last .1 .1 .1 .1 .0) (print .ensures .0) (print .ensures .1) in
+    (solve .ensures .1 .1 .1) (print .result) (print .last .1 .1 .1 .0) (print .ensures .0) (print .ensures .1) in
     (m .0, (m .1, (m .2, m .3)))
 
 same-length-4 : tie.Need-same-length-4
@@ -123,11 +119,10 @@ respond-spec =
     (tie.spec
     returns
     solve-requires
-    enum-known-rows
-    mul-print
+    enum-known-shape
+    mul-end
     slice-reshare-prefix-print
     slice-aggregate-print
-    observed-in-requires
     print-requires
     enum-known-r
     put-refusal-requires

@@ -3,7 +3,7 @@
 use borrow.Author.Needs.{needs}
 use mathlib.Core.Path.{_∙_}
 use lib.ListN.{length}
-use Rattle.formula.proofs.evaluate.EntryLoop.{judged-last}
+use Rattle.formula.proofs.evaluate.EntryLoop.{last-value}
 use Rattle.formula.proofs.evaluate.holds_on.Statement.{statement}
 use Rattle.formula.proofs.evaluate.holds_on.Tie as tie
 
@@ -28,7 +28,8 @@ returns c =
     let start = at-entries-at .before .before .before .before .before in
     let a = start .args in
     let done = at-entries-at .entries-at .ensures in
-    (c .value-in .ensures ∙ judged-last (a .parts .now) (length (a .entries .now)) (a .trace .now) _ (start .pre .0) done, done)
+    let p = start .pre in
+    (c .value-in .ensures ∙ last-value (a .parts .now) (length (a .entries .now)) (a .trace .now) _ (p .0) (p .1 .0) done, done)
 
 pub holds-on-spec : {M : Type 1} → statement M
 holds-on-spec =

@@ -1,8 +1,6 @@
 -- `game::solving::solve_parts` meets its contract, by those of `explore` and `solve_states`.
 -- Assumes nothing.
-use Rattle.basics.specs.Lists.{written}
-use Rattle.game.specs.Claim.{solvedOf, cellsOf}
-use mathlib.Core.Path.{_≡_, refl, sym, ap, _∙_}
+use mathlib.Core.Path.{refl, sym, _∙_}
 use native.Mathlib.Omega.{arith}
 use Rattle.game.proofs.solving.FromStates.{solved-many, widths-right, states-successors, states-few, states-some, solved-some}
 use borrow.Author.Needs.{needs}
@@ -65,11 +63,9 @@ returns c =
     let explore = t .explore in
     let n = c .before .before .before .before .before .before .before .n in
     let solved = c .before .before .solve-states in
-    let all = solved-some (a .parts .now) (a .sizes) s _ _ (explore .last .1 .1 .0) (explore .last .1 .1 .1 .0)
-    (explore .ensures .1 .0) (explore .ensures .1 .1) (n .given .0 .0) (sym (n .given .1) ∙ explore .ensures .0) in (
-      λ p e f. all p e f (λ x. solved .result ≡ solvedOf x) (λ G M t. solved .ensures .0 G M t),
-      λ p e f. all p e f (λ x. solved .last .1 .1 .1 .1 .1 .1 .0 ≡ written (cellsOf x) (a .table .now)) (λ G M t. solved .ensures .1 G M t),
-    )
+    solved-some (a .parts .now) (a .sizes) s _ _ (explore .last .1 .1 .0) (explore .last .1 .1 .1 .0)
+    (explore .ensures .1 .0) (explore .ensures .1 .1) (n .given .0 .0) (sym (n .given .1) ∙ explore .ensures .0)
+    (solved .result) (a .table .now) _ (solved .ensures)
 
 same-length-3 : tie.Need-same-length-3
 same-length-3 c = search needs
@@ -78,10 +74,7 @@ returns-2 : tie.Need-returns-2
 returns-2 c =
     let a = c .before .before .before .before .before .before .before .before .before .before .before .args in
     let explore = c .before .before .before .before .before .explore in
-    let many = sym (c .enum-told .given .1) ∙ explore .ensures .0 in (
-      λ p e f. sym (ap solvedOf (solved-many (a .parts .now) (a .sizes) p e f many)),
-      λ p e f. sym (ap (λ x. written (cellsOf x) (a .table .now)) (solved-many (a .parts .now) (a .sizes) p e f many)),
-    )
+    solved-many (a .parts .now) (a .sizes) (sym (c .enum-told .given .1) ∙ explore .ensures .0) (a .table .now)
 
 pub solve-parts-spec : {M : Type 1} → statement M
 solve-parts-spec =

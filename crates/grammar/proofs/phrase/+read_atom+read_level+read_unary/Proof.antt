@@ -112,9 +112,7 @@ read-atom-told t = (
 )
 
 read-atom-token-at-requires : (t : ℕ) → read-atom-lts.Need-token-at-requires (read-atom-told t) (read-atom-at t) read-atom.Post
-read-atom-token-at-requires t c κs =
-    let start = c .before .before .before .before in
-    start .pre .1 .0 .inside
+read-atom-token-at-requires t c κs = tt
 
 read-atom-leaf-value-requires : (t : ℕ) → read-atom-lts.Need-leaf-value-requires (read-atom-told t) (read-atom-at t) read-atom.Post
 read-atom-leaf-value-requires t c κs =
@@ -159,11 +157,7 @@ read-atom-returns-3 t c =
     group-bad ltlf-laws _ _ h _ tok o (at-if2 .if2 .left) (at-read-level .read-level .ensures) (c .enum-told .given .1)
 
 read-atom-token-at-requires-2 : (t : ℕ) → read-atom-lts.Need-token-at-requires-2 (read-atom-told t) (read-atom-at t) read-atom.Post
-read-atom-token-at-requires-2 t c κs =
-    let at-next = c .before in let at-read-level = at-next .before .before .before .before in
-    let at-token-at = at-read-level .before .before .before .before .before in let start = at-token-at .before .before .before .before .before in
-    let h = start .pre .1 .0 .inside in let tok = at-token-at .token-at .ensures in
-    span ltlf-laws _ 4 _ (tok-high ltlf-laws _ _ h _ tok) (at-read-level .read-level .ensures) (at-next .next .given .1) .high
+read-atom-token-at-requires-2 t c κs = tt
 
 read-atom-returns-4 : (t : ℕ) → read-atom-lts.Need-returns-4 (read-atom-told t) (read-atom-at t) read-atom.Post
 read-atom-returns-4 t c =
@@ -226,7 +220,7 @@ read-level-loop-holds t c =
 
 read-level-token-at-requires : (t : ℕ) →
     read-level-lts.Need-token-at-requires (read-level-told t) (read-level-at t) read-level.Post read-level-Inv-loop read-level-μ-loop
-read-level-token-at-requires t c κs = c .loop .inv .high
+read-level-token-at-requires t c κs = tt
 
 read-level-same-length-3 : (t : ℕ) →
     read-level-lts.Need-same-length-3 (read-level-told t) (read-level-at t) read-level.Post read-level-Inv-loop read-level-μ-loop
@@ -359,9 +353,7 @@ read-level-loop-again t c =
     }
 
 read-unary-token-at-requires : (t : ℕ) → read-unary-lts.Need-token-at-requires (read-unary-told t) (read-unary-at t) read-unary.Post
-read-unary-token-at-requires t c κs =
-    let start = c .before .before .before .before in
-    start .pre .1 .0 .inside
+read-unary-token-at-requires t c κs = tt
 
 read-unary-read-atom-requires : (t : ℕ) → read-unary-lts.Need-read-atom-requires (read-unary-told t) (read-unary-at t) read-unary.Post
 read-unary-read-atom-requires t c κs =

@@ -1,7 +1,5 @@
-use native.Mathlib.Omega.{arith}
 use borrow.Author.Needs.{needs}
-use Rattle.grammar.proofs.GrammarLaws.{ltlf-laws}
-use Rattle.grammar.proofs.AnswerLaws.{span, formula-bad, formula-more, formula-done}
+use Rattle.grammar.proofs.AnswerLaws.{formula-bad, formula-more, formula-done}
 use Rattle.grammar.proofs.phrase.read_formula.Statement.{statement}
 use Rattle.grammar.proofs.phrase.read_formula.Tie as tie
 
@@ -29,10 +27,7 @@ returns c =
     (at-cleared .clear-words .ensures)
 
 token-at-requires : tie.Need-token-at-requires
-token-at-requires c κs =
-    let at-next = c .before in
-    let at-read = at-next .before .before .before .before in
-    span ltlf-laws _ 4 0 (omega arith) (at-read .read-level .ensures) (at-next .next .given .1) .high
+token-at-requires c κs = tt
 
 clear-words-requires-2 : tie.Need-clear-words-requires-2
 clear-words-requires-2 c κs = search needs

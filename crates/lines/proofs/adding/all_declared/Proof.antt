@@ -26,7 +26,7 @@ loop-holds : tie.Need-loop-holds Inv-loop μ-loop
 loop-holds c = (omega arith, λ s. refl)
 
 token-at-requires : tie.Need-token-at-requires Inv-loop μ-loop
-token-at-requires c κs = c .loop .inv .0
+token-at-requires c κs = tt
 
 returns : tie.Need-returns Inv-loop μ-loop
 returns c =

@@ -7,6 +7,7 @@ use lib.Dec.{lit<}
 use borrow.Author.Needs.{needs}
 use Rattle.basics.specs.Bits.{fromBits}
 use Rattle.obligations.specs.Words.{lanes}
+use Rattle.basics.specs.Limits.{wordBits}
 use Rattle.obligations.proofs.WordsLaws.{obligation-low, obligation-high, not-low}
 use Rattle.obligations.proofs.lanes.obligation_lanes.Statement.{statement}
 use Rattle.obligations.proofs.lanes.obligation_lanes.Tie as tie
@@ -36,10 +37,10 @@ unfolding lanes fromBits
 returns-6 c = obligation-low _ _ 5 _ (c .if6 .taken) (omega arith) refl
 
 cast-all-lanes : tie.Need-cast-all-lanes
-cast-all-lanes c = record { fits = lt-of-le-of-lt (sub-le _ 6) (lt-trans (c .before .before .before .before .before .before .pre) (lit< tt)) }
+cast-all-lanes c = record { fits = lt-of-le-of-lt (sub-le _ wordBits) (lt-trans (c .before .before .before .before .before .before .pre) (lit< tt)) }
 
 shr-all-lanes : tie.Need-shr-all-lanes
-shr-all-lanes c = lt-of-le-of-lt (sub-le _ 6) (c .before .before .before .before .before .before .pre)
+shr-all-lanes c = lt-of-le-of-lt (sub-le _ wordBits) (c .before .before .before .before .before .before .pre)
 
 returns-7 : tie.Need-returns-7
 returns-7 c =

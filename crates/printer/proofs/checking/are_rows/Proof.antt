@@ -12,10 +12,10 @@ use Rattle.printer.proofs.checking.are_rows.Statement.{statement}
 use Rattle.printer.proofs.checking.are_rows.Tie as tie
 
 abbrev Inv-loop : tie.InvT-loop
-Inv-loop table rows observed row₀ row = (row ≤ rows) × (all row (isPrintableRow table rows observed) ≡ true)
+Inv-loop table shape rows row₀ row = (row ≤ rows) × (all row (isPrintableRow table shape) ≡ true)
 
 abbrev μ-loop : tie.MeasureT-loop
-μ-loop table rows observed row₀ row = rows - row
+μ-loop table shape rows row₀ row = rows - row
 
 loop-holds : tie.Need-loop-holds Inv-loop μ-loop
 loop-holds c = (omega arith, refl)
@@ -29,7 +29,7 @@ is-blank-requires c κs = search needs
 returns : tie.Need-returns Inv-loop μ-loop
 returns c =
     let a = c .before .before .before .before .before .before .args in
-    rows-fail (a .table .now) (a .rows) (a .observed) (c .before .before .before .before .loop .row) _ _ (c .before .before .is-row .ensures)
+    rows-fail (a .table .now) (a .shape) (c .before .before .before .before .loop .row) _ _ (c .before .before .is-row .ensures)
     (c .before .is-blank .ensures)
     (c .before .before .before .loop-test .taken) (c .if1 .taken)
 
@@ -44,7 +44,7 @@ loop-again c =
     let l = c .before .before .before .before .loop in
     let a = c .before .before .before .before .before .before .args in (
       omega arith,
-      rows-more (a .table .now) (a .rows) (a .observed) (l .row) _ _ (c .before .before .is-row .ensures) (c .before .is-blank .ensures)
+      rows-more (a .table .now) (a .shape) (l .row) _ _ (c .before .before .is-row .ensures) (c .before .is-blank .ensures)
           (c .if1 .left) (l .inv .1),
     )
 
@@ -52,7 +52,7 @@ returns-2 : tie.Need-returns-2 Inv-loop μ-loop
 returns-2 c =
     let l = c .before .loop in
     let a = c .before .before .before .args in
-    rows-pass (a .table .now) (a .rows) (a .observed) (l .row) (l .inv .0) (c .loop-test .left) (l .inv .1)
+    rows-pass (a .table .now) (a .shape) (l .row) (l .inv .0) (c .loop-test .left) (l .inv .1)
 
 pub are-rows-spec : {M : Type 1} → statement M
 are-rows-spec =

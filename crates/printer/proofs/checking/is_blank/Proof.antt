@@ -12,10 +12,10 @@ use Rattle.printer.proofs.checking.is_blank.Statement.{statement}
 use Rattle.printer.proofs.checking.is_blank.Tie as tie
 
 abbrev Inv-loop : tie.InvT-loop
-Inv-loop table observed row n s₀ s = (s ≤ sideLimit) × (all s (blankAt table observed row) ≡ true)
+Inv-loop table row n s₀ s = (s ≤ sideLimit) × (all s (blankAt table row n) ≡ true)
 
 abbrev μ-loop : tie.MeasureT-loop
-μ-loop table observed row n s₀ s = sideLimit - s
+μ-loop table row n s₀ s = sideLimit - s
 
 next-count-requires : tie.Need-next-count-requires Inv-loop μ-loop
 next-count-requires c κs = search needs
@@ -23,26 +23,14 @@ next-count-requires c κs = search needs
 loop-holds : tie.Need-loop-holds Inv-loop μ-loop
 loop-holds c = (omega arith, refl)
 
-mul-if1 : tie.Need-mul-if1 Inv-loop μ-loop
-mul-if1 c = search needs
-
-add-if1 : tie.Need-add-if1 Inv-loop μ-loop
-add-if1 c = search needs
-
-add-if1-2 : tie.Need-add-if1-2 Inv-loop μ-loop
-add-if1-2 c = search needs
-
-mul-if1-2 : tie.Need-mul-if1-2 Inv-loop μ-loop
-mul-if1-2 c = search needs
-
-shared-slice-read-if1 : tie.Need-shared-slice-read-if1 Inv-loop μ-loop
-shared-slice-read-if1 c = search needs
+next-cell-requires : tie.Need-next-cell-requires Inv-loop μ-loop
+next-cell-requires c κs = search needs
 
 returns : tie.Need-returns Inv-loop μ-loop
 returns c =
     let a = c .before .before .before .before .before .before .args in
-    blank-fails (a .table .now) (a .observed) (a .row) _ (c .before .before .before .before .next-count .ensures) (c .before .before .before .loop .s)
-    (c .before .before .loop-test .taken) (c .if1 .taken)
+    blank-fails (a .table .now) (a .row) _ (a .shape) (c .before .before .before .before .next-count .ensures) (c .before .before .before .loop .s)
+    _ (c .before .next-cell .ensures) (c .before .before .loop-test .taken) (c .if1 .taken)
 
 add-s : tie.Need-add-s Inv-loop μ-loop
 add-s c = search needs
@@ -53,17 +41,14 @@ loop-less c = search needs
 loop-again : tie.Need-loop-again Inv-loop μ-loop
 loop-again c =
     let l = c .before .before .before .loop in
-    let a = c .before .before .before .before .before .before .args in (
-      omega arith,
-      blank-more (a .table .now) (a .observed) (a .row) _ (c .before .before .before .before .next-count .ensures) (l .s) (c .if1 .left)
-          (l .inv .1),
-    )
+    let a = c .before .before .before .before .before .before .args in
+    (omega arith, blank-more (a .table .now) (a .row) _ (l .s) _ (c .before .next-cell .ensures) (c .if1 .left) (l .inv .1))
 
 returns-2 : tie.Need-returns-2 Inv-loop μ-loop
 returns-2 c =
     let l = c .before .loop in
     let a = c .before .before .before .before .args in
-    blank-passes (a .table .now) (a .observed) (a .row) (l .s) (l .inv .0) (c .loop-test .left) (l .inv .1)
+    blank-passes (a .table .now) (a .row) _ (a .shape) (c .before .before .next-count .ensures) (l .s) (l .inv .0) (c .loop-test .left) (l .inv .1)
 
 pub is-blank-spec : {M : Type 1} → statement M
 is-blank-spec =
@@ -73,11 +58,7 @@ is-blank-spec =
     μ-loop
     next-count-requires
     loop-holds
-    mul-if1
-    add-if1
-    add-if1-2
-    mul-if1-2
-    shared-slice-read-if1
+    next-cell-requires
     returns
     add-s
     loop-less

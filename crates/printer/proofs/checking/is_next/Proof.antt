@@ -7,33 +7,19 @@ use Rattle.printer.proofs.checking.is_next.Tie as tie
 
 returns : tie.Need-returns
 returns c =
-    let a = c .before .before .args in
-    next-out (a .table .now) (a .rows) (a .next) (c .if1 .taken)
+    let a = c .before .before .before .args in
+    next-out (a .table .now) (a .shape) (a .next) (c .if1 .taken)
 
-mul-is-answer : tie.Need-mul-is-answer
-mul-is-answer c = search needs
-
-mul-is-answer-2 : tie.Need-mul-is-answer-2
-mul-is-answer-2 c = search needs
-
-shared-slice-read-is-answer : tie.Need-shared-slice-read-is-answer
-shared-slice-read-is-answer c = search needs
+first-cell-requires : tie.Need-first-cell-requires
+first-cell-requires c κs = search needs
 
 is-answer-requires : tie.Need-is-answer-requires
 is-answer-requires c κs = search needs
 
 returns-2 : tie.Need-returns-2
 returns-2 c =
-    let a = c .before .before .before .before .args in
-    next-in (a .table .now) (a .rows) (a .next) _ (c .before .before .if1 .left) (c .is-answer .ensures)
+    let a = c .before .before .before .before .before .args in
+    next-in (a .table .now) (a .shape) (a .next) _ (c .before .before .if1 .left) _ (c .before .first-cell .ensures) (c .is-answer .ensures)
 
 pub is-next-spec : {M : Type 1} → statement M
-is-next-spec =
-    tie.close
-    (tie.spec
-    returns
-    mul-is-answer
-    mul-is-answer-2
-    shared-slice-read-is-answer
-    is-answer-requires
-    returns-2)
+is-next-spec = tie.close (tie.spec returns first-cell-requires is-answer-requires returns-2)

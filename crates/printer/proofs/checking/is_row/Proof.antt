@@ -12,19 +12,13 @@ use Rattle.printer.proofs.checking.is_row.Statement.{statement}
 use Rattle.printer.proofs.checking.is_row.Tie as tie
 
 abbrev Inv-loop : tie.InvT-loop
-Inv-loop table rows observed row n s₀ s = (n ≤ sideLimit) × (s ≤ n) × (all s (leadsOn table rows observed row) ≡ true)
+Inv-loop table shape row n s₀ s = (n ≤ sideLimit) × (s ≤ n) × (all s (leadsOn table shape row) ≡ true)
 
 abbrev μ-loop : tie.MeasureT-loop
-μ-loop table rows observed row n s₀ s = n - s
+μ-loop table shape row n s₀ s = n - s
 
-mul-is-answer : tie.Need-mul-is-answer Inv-loop μ-loop
-mul-is-answer c = search needs
-
-mul-is-answer-2 : tie.Need-mul-is-answer-2 Inv-loop μ-loop
-mul-is-answer-2 c = search needs
-
-shared-slice-read-is-answer : tie.Need-shared-slice-read-is-answer Inv-loop μ-loop
-shared-slice-read-is-answer c = search needs
+first-cell-requires : tie.Need-first-cell-requires Inv-loop μ-loop
+first-cell-requires c κs = search needs
 
 is-answer-requires : tie.Need-is-answer-requires Inv-loop μ-loop
 is-answer-requires c κs = search needs
@@ -32,7 +26,7 @@ is-answer-requires c κs = search needs
 returns : tie.Need-returns Inv-loop μ-loop
 returns c =
     let a = c .before .before .before .before .args in
-    no-answer (a .table .now) (a .rows) (a .observed) (a .row) _ (c .before .is-answer .ensures) (c .if1 .taken)
+    no-answer (a .table .now) (a .shape) (a .row) _ _ (c .before .before .first-cell .ensures) (c .before .is-answer .ensures) (c .if1 .taken)
 
 next-count-requires : tie.Need-next-count-requires Inv-loop μ-loop
 next-count-requires c κs = search needs
@@ -41,22 +35,10 @@ loop-holds : tie.Need-loop-holds Inv-loop μ-loop
 loop-holds c =
     let e = c .before .before .before .before .before in
     let a = e .args in
-    (subst (λ n. n ≤ sideLimit) (sym (c .next-count .ensures)) (count-le (a .table .now) (a .observed) (a .row) (e .pre .1 .1)), omega arith, refl)
+    (subst (λ n. n ≤ sideLimit) (sym (c .next-count .ensures)) (count-le (a .table .now) (a .shape) (a .row) (e .pre .1 .1)), omega arith, refl)
 
-mul-is-next : tie.Need-mul-is-next Inv-loop μ-loop
-mul-is-next c = search needs
-
-add-is-next : tie.Need-add-is-next Inv-loop μ-loop
-add-is-next c = search needs
-
-add-is-next-2 : tie.Need-add-is-next-2 Inv-loop μ-loop
-add-is-next-2 c = search needs
-
-mul-is-next-2 : tie.Need-mul-is-next-2 Inv-loop μ-loop
-mul-is-next-2 c = search needs
-
-shared-slice-read-is-next : tie.Need-shared-slice-read-is-next Inv-loop μ-loop
-shared-slice-read-is-next c = search needs
+next-cell-requires : tie.Need-next-cell-requires Inv-loop μ-loop
+next-cell-requires c κs = search needs
 
 is-next-requires : tie.Need-is-next-requires Inv-loop μ-loop
 is-next-requires c κs = search needs
@@ -65,10 +47,10 @@ returns-2 : tie.Need-returns-2 Inv-loop μ-loop
 returns-2 c =
     let e = c .before .before .before .before .before .before .before in
     let a = e .before .before .before .args in
-    row-fails (a .table .now) (a .rows) (a .observed) (a .row) _ (e .is-answer .ensures) (c .before .before .before .before .before .before .if1 .left)
-    _ (c .before .before .before .before .before .next-count .ensures) (c .before .before .before .before .loop .s)
-    (c .before .before .before .loop-test .taken)
-    _ (c .before .is-next .ensures) (c .if2 .taken)
+    row-fails (a .table .now) (a .shape) (a .row) _ _ (e .before .first-cell .ensures) (e .is-answer .ensures)
+    (c .before .before .before .before .before .before .if1 .left) _ (c .before .before .before .before .before .next-count .ensures)
+    (c .before .before .before .before .loop .s) (c .before .before .before .loop-test .taken)
+    _ _ (c .before .before .next-cell .ensures) (c .before .is-next .ensures) (c .if2 .taken)
 
 add-s : tie.Need-add-s Inv-loop μ-loop
 add-s c = search needs
@@ -79,15 +61,19 @@ loop-less c = search needs
 loop-again : tie.Need-loop-again Inv-loop μ-loop
 loop-again c =
     let l = c .before .before .before .before .loop in
-    let a = c .before .before .before .before .before .before .before .before .before .before .args in
-    (l .inv .0, omega arith, leads-more (a .table .now) (a .rows) (a .observed) (a .row) (l .s) _ (c .before .is-next .ensures) (c .if2 .left) (l .inv .2))
+    let a = c .before .before .before .before .before .before .before .before .before .before .args in (
+      l .inv .0,
+      omega arith,
+      leads-more (a .table .now) (a .shape) (a .row) (l .s) _ _ (c .before .before .next-cell .ensures) (c .before .is-next .ensures)
+          (c .if2 .left) (l .inv .2),
+    )
 
 returns-3 : tie.Need-returns-3 Inv-loop μ-loop
 returns-3 c =
     let l = c .before .loop in
     let e = c .before .before .before .before in
     let a = e .before .before .before .args in
-    row-passes (a .table .now) (a .rows) (a .observed) (a .row) _ (e .is-answer .ensures) (c .before .before .before .if1 .left)
+    row-passes (a .table .now) (a .shape) (a .row) _ _ (e .before .first-cell .ensures) (e .is-answer .ensures) (c .before .before .before .if1 .left)
     _ (c .before .before .next-count .ensures) (l .s) (l .inv .1) (c .loop-test .left) (l .inv .2)
 
 pub is-row-spec : {M : Type 1} → statement M
@@ -96,18 +82,12 @@ is-row-spec =
     (tie.spec
     Inv-loop
     μ-loop
-    mul-is-answer
-    mul-is-answer-2
-    shared-slice-read-is-answer
+    first-cell-requires
     is-answer-requires
     returns
     next-count-requires
     loop-holds
-    mul-is-next
-    add-is-next
-    add-is-next-2
-    mul-is-next-2
-    shared-slice-read-is-next
+    next-cell-requires
     is-next-requires
     returns-2
     add-s

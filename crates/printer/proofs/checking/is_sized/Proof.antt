@@ -6,13 +6,13 @@ use Rattle.printer.proofs.checking.is_sized.Statement.{statement}
 use Rattle.printer.proofs.checking.is_sized.Tie as tie
 
 returns : tie.Need-returns
-returns c = let a = c .before .args in sized-fails (a .cells) (a .rows) (a .observed) (c .if1 .taken)
+returns c = let a = c .before .args in sized-fails (a .cells) (a .shape) (c .if1 .taken)
 
 mul-result : tie.Need-mul-result
-mul-result c = omega (arith, few-rows (c .before .args .rows) (c .if1 .left) .1)
+mul-result c = omega (arith, few-rows (c .before .args .shape .rows) (c .if1 .left) .1)
 
 returns-2 : tie.Need-returns-2
-returns-2 c = let a = c .before .args in sized-left (a .cells) (a .rows) (a .observed) (c .if1 .left)
+returns-2 c = let a = c .before .before .args in sized-left (a .cells) (a .shape) (c .before .if1 .left)
 
 pub is-sized-spec : {M : Type 1} → statement M
 is-sized-spec = tie.close (tie.spec returns mul-result returns-2)

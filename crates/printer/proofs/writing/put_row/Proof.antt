@@ -14,14 +14,14 @@ put-bytes-requires : tie.Need-put-bytes-requires
 put-bytes-requires c κs =
     let s = c .before .before .before .before in
     let a = s .args in
-    room-1 (row-puts (a .table .now) (a .observed) (a .row) (a .at) (a .text .now) (s .pre .1 .1))
+    room-1 (row-puts (a .table .now) (a .shape) (a .row) (a .at) (a .text .now) (s .pre .1 .1))
 
 put-field-requires : tie.Need-put-field-requires
 put-field-requires c κs =
     let w = c .before .before .before in
     let s = w .before .before .before .before .before in
     let a = s .args in
-    room-2 (row-puts (a .table .now) (a .observed) (a .row) (a .at) (a .text .now) (s .pre .1 .1)) (w .put-bytes .ensures)
+    room-2 (row-puts (a .table .now) (a .shape) (a .row) (a .at) (a .text .now) (s .pre .1 .1)) (w .put-bytes .ensures)
 
 put-moves-requires : tie.Need-put-moves-requires
 put-moves-requires c κs =
@@ -32,7 +32,7 @@ put-moves-requires c κs =
       s .pre .0,
       (
         s .pre .1 .0,
-        room-3 (row-puts (a .table .now) (a .observed) (a .row) (a .at) (a .text .now) (s .pre .1 .1)) (w .put-bytes .ensures)
+        room-3 (row-puts (a .table .now) (a .shape) (a .row) (a .at) (a .text .now) (s .pre .1 .1)) (w .put-bytes .ensures)
             (n .put-field .ensures),
       ),
     )
@@ -46,7 +46,7 @@ put-byte-requires c κs =
     let a = s .args in
     omega (
       arith,
-      room-4 (row-puts (a .table .now) (a .observed) (a .row) (a .at) (a .text .now) (s .pre .1 .1)) (w .put-bytes .ensures) (n .put-field .ensures)
+      room-4 (row-puts (a .table .now) (a .shape) (a .row) (a .at) (a .text .now) (s .pre .1 .1)) (w .put-bytes .ensures) (n .put-field .ensures)
           (m .put-moves .ensures),
     )
 
@@ -60,7 +60,7 @@ returns c =
     let w = n .before .before .before .before in
     let s = w .before .before .before .before .before in
     let a = s .args in
-    put-4 (row-puts (a .table .now) (a .observed) (a .row) (a .at) (a .text .now) (s .pre .1 .1)) (w .put-bytes .ensures) (n .put-field .ensures)
+    put-4 (row-puts (a .table .now) (a .shape) (a .row) (a .at) (a .text .now) (s .pre .1 .1)) (w .put-bytes .ensures) (n .put-field .ensures)
     (m .put-moves .ensures)
     (c .before .before .put-byte .ensures)
 

@@ -13,10 +13,10 @@ use Rattle.printer.proofs.writing.put_rows.Statement.{statement}
 use Rattle.printer.proofs.writing.put_rows.Tie as tie
 
 abbrev Inv-loop : tie.InvT-loop
-Inv-loop text₀ at table rows observed end₀ row₀ text end row = (row ≤ rows) × (length text ≡ length text₀) × Put at (rowsText table observed row) text₀ end text
+Inv-loop text₀ at table shape end₀ rows row₀ text end row = (row ≤ rows) × (length text ≡ length text₀) × Put at (rowsText table shape row) text₀ end text
 
 abbrev μ-loop : tie.MeasureT-loop
-μ-loop text₀ at table rows observed end₀ row₀ text end row = rows - row
+μ-loop text₀ at table shape end₀ rows row₀ text end row = rows - row
 
 loop-holds : tie.Need-loop-holds Inv-loop μ-loop
 unfolding flatMap
@@ -29,7 +29,7 @@ put-row-requires c κs =
     let t = c .before in
     let s = t .before .before .before .before in
     let a = s .args in
-    let r = turn (rowText (a .table .now) (a .observed)) (λ row. row) (a .at) (a .rows) (a .text .now) (s .pre .1 .1) _ (t .loop-test .taken)
+    let r = turn (rowText (a .table .now) (a .shape)) (λ row. row) (a .at) (a .shape .rows) (a .text .now) (s .pre .1 .1) _ (t .loop-test .taken)
     (t .before .loop .inv .2) in
     (s .pre .0, (omega (arith, s .pre .1 .0), r .room))
 
@@ -46,7 +46,7 @@ loop-again c =
     let l = t .before .loop in
     let s = t .before .before .before .before in
     let a = s .args in
-    let r = turn (rowText (a .table .now) (a .observed)) (λ row. row) (a .at) (a .rows) (a .text .now) (s .pre .1 .1) _ (t .loop-test .taken) (l .inv .2) in
+    let r = turn (rowText (a .table .now) (a .shape)) (λ row. row) (a .at) (a .shape .rows) (a .text .now) (s .pre .1 .1) _ (t .loop-test .taken) (l .inv .2) in
     (omega arith, p .put-row .kept .0 ∙ l .inv .1, r .puts _ _ (p .put-row .ensures))
 
 same-length : tie.Need-same-length Inv-loop μ-loop
@@ -56,8 +56,8 @@ returns : tie.Need-returns Inv-loop μ-loop
 returns c =
     let a = c .before .before .before .before .args in
     let l = c .before .loop in
-    let e : a .rows ≡ l .row = omega arith in
-    put-same (a .at) _ _ (a .text .now) (ap (rowsText (a .table .now) (a .observed)) e) _ _ (l .inv .2)
+    let e : a .shape .rows ≡ l .row = omega arith in
+    put-same (a .at) _ _ (a .text .now) (ap (rowsText (a .table .now) (a .shape)) e) _ _ (l .inv .2)
 
 pub put-rows-spec : {M : Type 1} → statement M
 put-rows-spec =

@@ -20,16 +20,16 @@ put-line-requires : tie.Need-put-line-requires
 put-line-requires c κs =
     let s = c .before .before .before .before in
     let a = s .args in
-    let head = line (bytesOf "table") (decimal (a .rows) ∷ decimal (a .worst) ∷ []) in
-    omega (arith, s .pre .1 .1, length-append head (rowsText (a .table .now) (a .observed) (a .rows)))
+    let head = line (bytesOf "table") (decimal (a .shape .rows) ∷ decimal (a .worst) ∷ []) in
+    omega (arith, s .pre .1 .1, length-append head (rowsText (a .table .now) (a .shape) (a .shape .rows)))
 
 put-rows-requires : tie.Need-put-rows-requires
 put-rows-requires c κs =
     let l = c .before .before .before in
     let s = l .before .before .before .before .before in
     let a = s .args in
-    let head = line (bytesOf "table") (decimal (a .rows) ∷ decimal (a .worst) ∷ []) in
-    let r = rest-all 0 _ (a .text .now) (omega (arith, s .pre .1 .1)) (head ++ rowsText (a .table .now) (a .observed) (a .rows)) refl in
+    let head = line (bytesOf "table") (decimal (a .shape .rows) ∷ decimal (a .worst) ∷ []) in
+    let r = rest-all 0 _ (a .text .now) (omega (arith, s .pre .1 .1)) (head ++ rowsText (a .table .now) (a .shape) (a .shape .rows)) refl in
     let r₁ = rest-next head _ r (l .put-line .ensures .0 ∙ sym (zero-add _), l .put-line .ensures .1) in
     (s .pre .0, (s .pre .1 .0, r₁ .room))
 
@@ -41,12 +41,12 @@ returns c =
     let l = c .before .before .before .before .before .before in
     let s = l .before .before .before .before .before in
     let a = s .args in
-    let head = line (bytesOf "table") (decimal (a .rows) ∷ decimal (a .worst) ∷ []) in
-    let r = rest-all 0 _ (a .text .now) (omega (arith, s .pre .1 .1)) (head ++ rowsText (a .table .now) (a .observed) (a .rows)) refl in
+    let head = line (bytesOf "table") (decimal (a .shape .rows) ∷ decimal (a .worst) ∷ []) in
+    let r = rest-all 0 _ (a .text .now) (omega (arith, s .pre .1 .1)) (head ++ rowsText (a .table .now) (a .shape) (a .shape .rows)) refl in
     let r₁ = rest-next head _ r (l .put-line .ensures .0 ∙ sym (zero-add _), l .put-line .ensures .1) in
     let p = r₁ .puts _ _ (c .before .before .put-rows .ensures) in
     let n = p .0 ∙ zero-add _ in
-    (n, p .1 ∙ put-front (tableText (a .table .now) (a .rows) (a .worst) (a .observed)) (a .text .now) (s .pre .1 .1))
+    (n, p .1 ∙ put-front (tableText (a .table .now) (a .shape) (a .worst)) (a .text .now) (s .pre .1 .1))
 
 pub put-table-spec : {M : Type 1} → statement M
 put-table-spec =

@@ -14,11 +14,23 @@ shl-result c = search needs
 cast-result-2 : tie.Need-cast-result-2
 cast-result-2 c = search needs
 
-shl-result-2 : tie.Need-shl-result-2
-shl-result-2 c = search needs
+shr-result : tie.Need-shr-result
+shr-result c = search needs
 
 cast-result-3 : tie.Need-cast-result-3
 cast-result-3 c = search needs
+
+shl-result-2 : tie.Need-shl-result-2
+shl-result-2 c = search needs
+
+cast-result-4 : tie.Need-cast-result-4
+cast-result-4 c = search needs
+
+shr-result-2 : tie.Need-shr-result-2
+shr-result-2 c = search needs
+
+cast-result-5 : tie.Need-cast-result-5
+cast-result-5 c = search needs
 
 shl-result-3 : tie.Need-shl-result-3
 shl-result-3 c = search needs
@@ -29,4 +41,15 @@ returns c = letter-test _ _ (c .pre .0) (c .pre .1) (c .pre .2)
 pub is-letter-spec : {M : Type 1} → statement M
 is-letter-spec =
     tie.close
-    (tie.spec cast-result shl-result cast-result-2 shl-result-2 cast-result-3 shl-result-3 returns)
+    (tie.spec
+    cast-result
+    shl-result
+    cast-result-2
+    shr-result
+    cast-result-3
+    shl-result-2
+    cast-result-4
+    shr-result-2
+    cast-result-5
+    shl-result-3
+    returns)

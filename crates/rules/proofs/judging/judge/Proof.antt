@@ -3,6 +3,7 @@ use mathlib.Core.Path.{sym, _∙_}
 use lib.Seq.{length-take-le, length-front}
 use Rattle.rules.proofs.JudgeLaws.{short-memory, long-memory}
 use borrow.Author.Needs.{needs}
+use Rattle.basics.specs.Limits.{indexLimit}
 use Rattle.rules.proofs.judging.judge.Statement.{statement}
 use Rattle.rules.proofs.judging.judge.Tie as tie
 
@@ -17,10 +18,12 @@ slice-relend-prefix-judge-source : tie.Need-slice-relend-prefix-judge-source
 slice-relend-prefix-judge-source c = search needs
 
 slice-aggregate-judge-source : tie.Need-slice-aggregate-judge-source
-slice-aggregate-judge-source c = sym (length-take-le 256 (c .before .before .before .before .before .args .work .now) (omega (arith, c .before .if1 .left)))
+slice-aggregate-judge-source c =
+    let work = c .before .before .before .before .before .args .work in
+    sym (length-take-le indexLimit (work .now) (omega (arith, c .before .if1 .left)))
 
 judge-source-requires : tie.Need-judge-source-requires
-judge-source-requires c κs = rw (length-take-le 256 (c .before .before .before .before .before .args .work .now)
+judge-source-requires c κs = rw (length-take-le indexLimit (c .before .before .before .before .before .args .work .now)
     (omega (arith, c .before .if1 .left))) (omega arith)
 
 clear-requires : tie.Need-clear-requires
@@ -37,7 +40,7 @@ returns-2 c =
     let start = at-if1 .before .before .before .before in
     let a = start .args in
     let m = long-memory (a .source .now) (a .work .now) (a .trace .now) (at-if1 .if1 .left) (at-judge-source .judge-source .result)
-    (at-judge-source .judge-source .ensures) _ (length-front (a .work .now) (at-judge-source .judge-source .last .1 .1 .0) 256
+    (at-judge-source .judge-source .ensures) _ (length-front (a .work .now) (at-judge-source .judge-source .last .1 .1 .0) indexLimit
     (at-judge-source .judge-source .kept .1 .1 .0)) in
     (m .0, (at-clear .clear .ensures ∙ m .1, m .2))
 

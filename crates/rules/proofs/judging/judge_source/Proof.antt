@@ -56,7 +56,7 @@ returns-2 c =
     let at-read = at-s .before .before .before in
     let start = at-read .before .before .before .before .before in
     let t = taken (start .args .source .now) _ _ (at-read .read .ensures .0) (at-s .s .given .1) _ (at-read .read .ensures .1) in
-    judged-source t _ _ (start .pre) _ (c .before .before .judge-trace .ensures)
+    judged-source t _ _ (c .before .before .judge-trace .ensures)
 
 pub judge-source-spec : {M : Type 1} → statement M
 judge-source-spec =

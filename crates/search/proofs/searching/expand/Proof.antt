@@ -88,6 +88,7 @@ put-set-requires : tie.Need-put-set-requires Inv-loop μ-loop
 put-set-requires c κs =
     let l = c .before .before .before .before .before .before .loop in
     put-asked _ _ _ _ _ _ _ _ _ _ _ (l .mem) (l .row) (l .inv) (c .before .before .before .before .before .loop-test .taken)
+    (c .before .before .before .if1 .left)
 
 same-length : tie.Need-same-length Inv-loop μ-loop
 same-length c = search needs
@@ -144,7 +145,7 @@ same-length-4 : tie.Need-same-length-4 Inv-loop μ-loop
 same-length-4 c = search needs
 
 returns-2 : tie.Need-returns-2 Inv-loop μ-loop
-returns-2 c = adding-all _ _ _ _ _ (c .before .loop .inv .0) (c .loop-test .left)
+returns-2 c = adding-all _ _ _ _ _ _ (c .before .loop .inv .0) (c .loop-test .left)
 
 pub expand-spec : {M : Type 1} → statement M
 expand-spec =

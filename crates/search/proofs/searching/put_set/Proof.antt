@@ -1,15 +1,13 @@
 -- `search::searching::put_set` meets its contract, by those of `put_next` and `find`.
 -- Assumes nothing.
-use Prim.Native.Nat.{_+_, _*_, _≤_}
 use native.Mathlib.Omega.{arith}
 use mathlib.Core.Path.{ap, _∙_}
-use lib.ListN.{length}
 use borrow.Author.Needs.{needs}
-use Rattle.search.specs.Limits.{setSize}
+use Rattle.search.specs.Limits.{stateLimit, setSize}
 use Rattle.basics.specs.Bounded.{firstThat}
 use Rattle.search.specs.Slots.{sameSlot}
-use Rattle.basics.proofs.LentPart.{part-length}
-use Rattle.search.proofs.SlotsLaws.{set-back}
+use Rattle.search.specs.Memory.{nextBytes}
+use Rattle.search.proofs.SlotsLaws.{item-back, place-length}
 use Rattle.search.proofs.searching.put_set.Statement.{statement}
 use Rattle.search.proofs.searching.put_set.Tie as tie
 
@@ -33,9 +31,8 @@ put-next-requires c κs =
     let s = c .before .before .before .before in
     let p = s .pre in
     let q = p .1 .1 .1 in
-    let r = q .1 .1 in
-    let room : s .args .m * setSize + setSize ≤ length (s .args .mem .now) = omega (arith, r .0, r .1) in
-    (p .0, (p .1 .0, (p .1 .1 .0, (q .0, (q .1 .0, part-length (s .args .m * setSize) setSize (s .args .mem .now) room)))))
+    let size = place-length setSize stateLimit (s .args .m) (s .args .mem .now) (q .1 .1 .0) (q .1 .1 .1) in
+    (p .0, (p .1 .0, (p .1 .1 .0, (q .0, omega (arith, q .1 .0, size)))))
 
 find-requires : tie.Need-find-requires
 find-requires c κs = search needs
@@ -46,8 +43,12 @@ same-length c = search needs
 returns : tie.Need-returns
 returns c =
     let s = c .before .before .before .before .before .before .before .before .before in
-    let w = set-back (s .args .mem .now) _ _ (s .args .m) (c .before .before .before .before .put-next .ensures) in
-    (c .find .ensures ∙ ap (λ l. firstThat (sameSlot l (s .args .m)) (s .args .m)) w, w)
+    let q = s .pre .1 .1 .1 .1 .1 in
+    let size = place-length setSize stateLimit (s .args .m) (s .args .mem .now) (q .0) (q .1) in
+    let bytes = c .before .before .before .before .put-next .ensures
+    ∙ ap (λ n. nextBytes n (s .args .present .now) (s .args .entries .now) (s .args .h)) size in
+    let w = item-back setSize (s .args .mem .now) _ _ (s .args .m) bytes in
+    (c .find .ensures ∙ ap (λ l. firstThat (sameSlot setSize l (s .args .m)) (s .args .m)) w, w)
 
 pub put-set-spec : {M : Type 1} → statement M
 put-set-spec =

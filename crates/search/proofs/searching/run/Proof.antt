@@ -2,9 +2,9 @@
 -- Assumes nothing.
 use Prim.Native.Nat.{suc, _+_, _-_, _*_, _^_}
 use native.Mathlib.Omega.{arith}
-use mathlib.Core.Path.{refl, sym, _∙_, subst, _≡_}
+use mathlib.Core.Path.{refl, sym, ap, _∙_, subst, _≡_}
 use lib.ListN.{length}
-use lib.Seq.{length-front}
+use lib.Seq.{length-front, length-take-le}
 use borrow.Author.Needs.{needs}
 use borrow.Rule.Slice.PartMut.{same-len-mid}
 use Rattle.search.specs.Limits.{stateLimit, letterLimit, setSize}
@@ -12,11 +12,11 @@ use Rattle.basics.specs.Lists.{below}
 use Rattle.search.specs.PatternSet.{start, next}
 use Rattle.search.specs.ReachableSets.{reachableSets}
 use Rattle.search.specs.Maps.{Maps, mapIn}
-use Rattle.search.specs.Memory.{packed}
+use Rattle.search.specs.Memory.{packed, setBytes}
 use Rattle.basics.proofs.ListsLaws.{zeros-length}
 use Rattle.search.proofs.PatternSetLaws.{length-start}
 use Rattle.search.proofs.ReachableSetsLaws.{sets-reachable}
-use Rattle.search.proofs.PackedSets.{packing}
+use Rattle.search.proofs.LimitsLaws.{set-packing}
 use Rattle.search.proofs.SearchTurns.{turn-begin, turn-many, turn-next, turn-answer, turn-left, Turn, turn-row}
 use Rattle.search.proofs.searching.run.Statement.{statement}
 use Rattle.search.proofs.searching.run.Tie as tie
@@ -24,7 +24,7 @@ use Rattle.search.proofs.searching.run.Tie as tie
 abbrev Inv-loop : tie.InvT-loop
 Inv-loop maps firsts d count mem₀ successors₀ n₀ i₀ mem successors n i =
     (length mem ≡ (stateLimit + 1) * setSize) × (length successors ≡ stateLimit * letterLimit)
-    × Turn (2 ^ suc d) packed (next d (mapIn maps firsts d)) (start d) stateLimit letterLimit count
+    × Turn setSize (2 ^ suc d) setBytes (next d (mapIn maps firsts d)) (start d) stateLimit letterLimit count
     (reachableSets d (mapIn maps firsts d) (below count) stateLimit) mem successors n i
 
 abbrev μ-loop : tie.MeasureT-loop
@@ -47,11 +47,12 @@ loop-holds c =
     let s = c .before .before .before .before .before .before .before .before in
     let a = s .args in
     let p = s .pre .1 .1 .1 .1 .1 in
-    let made = c .before .before .put-start in (
-      length-front (a .mem .now) (made .last .1 .0) 32 (made .kept .1 .0) ∙ p .0,
+    let made = c .before .before .put-start in
+    let bytes = made .ensures ∙ ap (λ n. packed n (start (a .d))) (length-take-le setSize (a .mem .now) (omega (arith, p .0))) in (
+      length-front (a .mem .now) (made .last .1 .0) setSize (made .kept .1 .0) ∙ p .0,
       zeros-length _ (stateLimit * letterLimit) (p .1),
-      turn-begin (packing (a .d) (s .pre .0)) (length-start (a .d)) (omega arith) (sets-reachable (a .d) _ (below (a .count)) stateLimit)
-          32 (a .mem .now) (made .last .1 .0) (a .successors .now) (made .ensures) refl (omega (arith, p .0)) (stateLimit * letterLimit) (p .1),
+      turn-begin (set-packing (a .d) (s .pre .0)) (length-start (a .d)) (omega arith) (sets-reachable (a .d) _ (below (a .count)) stateLimit)
+          setSize (a .mem .now) (made .last .1 .0) (a .successors .now) bytes refl (omega (arith, p .0)) (stateLimit * letterLimit) (p .1),
     )
 
 mul-at : tie.Need-mul-at Inv-loop μ-loop
@@ -101,7 +102,7 @@ same-length-2 c =
     let r = c .before .before .before .before .before .before in
     let l = r .before .before .before .before .loop in
     let s = r .before .before .before .before .before .before .before .before .before .before .before .before .before in
-    let at = l .i * 512 in
+    let at = l .i * letterLimit in
     let kept = r .expand .kept .1 .1 .1 .1 .1 .1 .0 in
     same-len-mid at (at + s .args .count - at) (l .successors) (r .expand .last .1 .1 .1 .1 .1 .1 .0) kept
     ∙ l .inv .1 ∙ sym (zeros-length _ (stateLimit * letterLimit) (s .pre .1 .1 .1 .1 .1 .1))
@@ -133,7 +134,7 @@ loop-again c =
     let here = r .before .before .before .loop-test .taken in
     let small = s .pre .1 .1 .1 .0 in
     let row = turn-row t here small (l .inv .1) in
-    let at = l .i * 512 in
+    let at = l .i * letterLimit in
     let new = r .expand .last .1 .1 .1 .1 .1 .1 .0 in
     let kept = r .expand .kept .1 .1 .1 .1 .1 in (
       kept .0 ∙ l .inv .0,
@@ -158,7 +159,7 @@ returns-2 c =
     let t = l .inv .2 in
     let all = c .loop-test .left in (
       turn-answer t all,
-      turn-left t all (packing (s .args .d) (s .pre .0)) (omega arith) (s .pre .1 .1 .1 .0)
+      turn-left t all (set-packing (a .d) (s .pre .0)) (omega arith) (s .pre .1 .1 .1 .0)
           (omega (arith, t .few, l .inv .0)) (omega (arith, t .few, l .inv .1)),
     )
 

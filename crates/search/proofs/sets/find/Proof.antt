@@ -6,21 +6,25 @@ use mathlib.Core.Path.{sym, _∙_, _≡_}
 use borrow.Author.Needs.{needs}
 use Rattle.basics.specs.Bounded.{firstThat}
 use Rattle.search.specs.Slots.{sameSlot}
+use Rattle.basics.proofs.EqualRows.{row-ends}
 use Rattle.basics.proofs.BoundedLaws.{first-none, first-more, first-found, first-end}
 use Rattle.search.proofs.sets.find.Statement.{statement}
 use Rattle.search.proofs.sets.find.Tie as tie
 
 abbrev Inv-loop : tie.InvT-loop
-Inv-loop mem n i₀ i = (i ≤ n) × (firstThat (sameSlot mem n) i ≡ i)
+Inv-loop mem w n i₀ i = (i ≤ n) × (firstThat (sameSlot w mem n) i ≡ i)
 
 abbrev μ-loop : tie.MeasureT-loop
-μ-loop mem n i₀ i = n - i
+μ-loop mem w n i₀ i = n - i
 
 loop-holds : tie.Need-loop-holds Inv-loop μ-loop
 loop-holds c = (omega arith, first-none _)
 
 same-slot-requires : tie.Need-same-slot-requires Inv-loop μ-loop
-same-slot-requires c κs = search needs
+same-slot-requires c κs =
+    let s = c .before .before .before in
+    let i = c .before .loop .i in
+    (s .pre .0, (s .pre .1, omega (arith, s .pre .1, row-ends (s .args .w) (s .args .n) i (c .loop-test .taken))))
 
 returns : tie.Need-returns Inv-loop μ-loop
 returns c =

@@ -4,10 +4,9 @@ use Prim.Native.Nat.{_+_, _*_, _≤_, _-_}
 use native.Mathlib.Nat.{le-refl}
 use native.Mathlib.Omega.{arith}
 use mathlib.Core.Path.{_∙_, _≡_}
-use lib.ListN.{getD}
 use borrow.Author.Needs.{needs}
 use Rattle.basics.proofs.BitsLaws.{tableFrom, byte-none, byte-small, byte-more, byte-done}
-use Rattle.search.proofs.sets.SetLoops.{next-digit, next-all, nextBit}
+use Rattle.search.proofs.sets.SetLoops.{next-small, next-digit, next-all, nextBit}
 use Rattle.search.proofs.sets.next_byte.Statement.{statement}
 use Rattle.search.proofs.sets.next_byte.Tie as tie
 
@@ -42,14 +41,18 @@ shared-slice-read-n-2 : tie.Need-shared-slice-read-n-2 Inv-loop μ-loop
 shared-slice-read-n-2 c =
     let l = c .before .before .before .loop in
     let s = c .before .before .before .before in
-    omega (arith, c .before .shared-slice-known .given (s .args .b * 8 + (l .j - 1)), s .pre .0)
+    next-small _ _ (s .args .b) (l .j) (s .pre .0) (s .pre .1 .1) (l .inv .0) (c .before .before .loop-test .taken) .0
 
 add-n-2 : tie.Need-add-n-2 Inv-loop μ-loop
 add-n-2 c =
     let l = c .before .before .before .loop in
     let s = c .before .before .before .before in
-    let entry = getD (s .args .entries .now) (s .args .b * 8 + (l .j - 1)) 0 in
-    omega (arith, byte-small _ (l .n) (l .j) (c .before .before .loop-test .taken) (l .inv .1), s .pre .1 .0 .small entry)
+    let t = c .before .before .loop-test .taken in
+    omega (
+      arith,
+      byte-small _ (l .n) (l .j) t (l .inv .1),
+      next-small (s .args .present .now) (s .args .entries .now) (s .args .b) (l .j) (s .pre .0) (s .pre .1 .1) (l .inv .0) t .1,
+    )
 
 loop-less : tie.Need-loop-less Inv-loop μ-loop
 loop-less c = search needs
@@ -57,10 +60,11 @@ loop-less c = search needs
 loop-again : tie.Need-loop-again Inv-loop μ-loop
 loop-again c =
     let l = c .before .before .before .loop in
-    let s = c .before .before .before .before in (
+    let s = c .before .before .before .before in
+    let t = c .before .before .loop-test .taken in (
       omega arith,
-      byte-more _ (l .n) (l .j) _ (c .before .before .loop-test .taken) (l .inv .0) (l .inv .1)
-          (next-digit (s .args .present .now) (s .args .entries .now) (s .args .b) (l .j - 1) (s .pre .1 .0)),
+      byte-more _ (l .n) (l .j) _ t (l .inv .0) (l .inv .1)
+          (next-digit _ _ (s .args .b) (l .j - 1) (next-small _ _ (s .args .b) (l .j) (s .pre .0) (s .pre .1 .1) (l .inv .0) t .1)),
     )
 
 returns : tie.Need-returns Inv-loop μ-loop

@@ -7,23 +7,20 @@ use mathlib.Core.List.{_++_}
 use lib.ListN.{length-set, length, drop}
 use borrow.Author.Needs.{needs}
 use Rattle.basics.specs.Lists.{tabulate}
-use Rattle.search.specs.Limits.{setSize}
 use Rattle.basics.proofs.Filling.{table-more}
 use Rattle.search.proofs.sets.SetLoops.{spread-digit, spread-done, spreadAt}
 use Rattle.search.proofs.sets.put_spread.Statement.{statement}
 use Rattle.search.proofs.sets.put_spread.Tie as tie
 
 abbrev Inv-loop : tie.InvT-loop
-Inv-loop bytes present₀ p₀ present p = (p ≤ setSize * 8) × (length present ≡ setSize * 8) × (present ≡ tabulate p (spreadAt bytes) ++ drop p present₀)
+Inv-loop bytes present₀ p₀ present p =
+    (p ≤ length bytes * 8) × (length present ≡ length bytes * 8) × (present ≡ tabulate p (spreadAt bytes) ++ drop p present₀)
 
 abbrev μ-loop : tie.MeasureT-loop
-μ-loop bytes present₀ p₀ present p = setSize * 8 - p
+μ-loop bytes present₀ p₀ present p = length bytes * 8 - p
 
 loop-holds : tie.Need-loop-holds Inv-loop μ-loop
 loop-holds c = search needs
-
-mul-loop : tie.Need-mul-loop Inv-loop μ-loop
-mul-loop c = search needs
 
 shared-slice-read-present : tie.Need-shared-slice-read-present Inv-loop μ-loop
 shared-slice-read-present c = search needs
@@ -49,7 +46,7 @@ loop-again c =
     let s = c .before .before .before in (
       omega arith,
       simp length-set (l .inv .1),
-      table-more (l .p) _ (s .args .present .now) (l .present) _ (omega (arith, s .pre .1)) (l .inv .2) (spread-digit (s .args .bytes .now) (l .p)),
+      table-more (l .p) _ (s .args .present .now) (l .present) _ (omega (arith, s .pre)) (l .inv .2) (spread-digit (s .args .bytes .now) (l .p)),
     )
 
 same-length : tie.Need-same-length Inv-loop μ-loop
@@ -59,7 +56,7 @@ returns : tie.Need-returns Inv-loop μ-loop
 returns c =
     let l = c .before .loop in
     let a = c .before .before .args in
-    spread-done (a .bytes .now) (a .present .now) (l .present) (l .p) (omega arith) (c .before .before .pre .1) (l .inv .2)
+    spread-done (a .bytes .now) (a .present .now) (l .present) (l .p) (omega arith) (c .before .before .pre) (l .inv .2)
 
 pub put-spread-spec : {M : Type 1} → statement M
 put-spread-spec =
@@ -68,7 +65,6 @@ put-spread-spec =
     Inv-loop
     μ-loop
     loop-holds
-    mul-loop
     shared-slice-read-present
     cast-present
     shr-present

@@ -7,7 +7,6 @@ use mathlib.Core.List.{_++_}
 use lib.ListN.{length-set, length, drop}
 use borrow.Author.Needs.{needs}
 use Rattle.basics.specs.Lists.{tabulate}
-use Rattle.search.specs.Limits.{setSize}
 use Rattle.search.specs.Memory.{startByte}
 use Rattle.basics.proofs.Filling.{table-more}
 use Rattle.search.proofs.PackedSets.{start-done}
@@ -15,10 +14,10 @@ use Rattle.search.proofs.sets.put_start.Statement.{statement}
 use Rattle.search.proofs.sets.put_start.Tie as tie
 
 abbrev Inv-loop : tie.InvT-loop
-Inv-loop d place₀ i₀ place i = (i ≤ setSize) × (length place ≡ setSize) × (place ≡ tabulate i (startByte d) ++ drop i place₀)
+Inv-loop d place₀ i₀ place i = (i ≤ length place₀) × (length place ≡ length place₀) × (place ≡ tabulate i (startByte d) ++ drop i place₀)
 
 abbrev μ-loop : tie.MeasureT-loop
-μ-loop d place₀ i₀ place i = setSize - i
+μ-loop d place₀ i₀ place i = length place₀ - i
 
 loop-holds : tie.Need-loop-holds Inv-loop μ-loop
 loop-holds c = search needs
@@ -41,7 +40,7 @@ loop-again c =
     let s = c .before .before .before .before in (
       omega arith,
       simp length-set (l .inv .1),
-      table-more (l .i) _ (s .args .place .now) (l .place) _ (omega (arith, s .pre)) (l .inv .2) (c .start-byte .ensures),
+      table-more (l .i) _ (s .args .place .now) (l .place) _ (omega arith) (l .inv .2) (c .start-byte .ensures),
     )
 
 same-length : tie.Need-same-length Inv-loop μ-loop
@@ -51,7 +50,7 @@ returns : tie.Need-returns Inv-loop μ-loop
 returns c =
     let l = c .before .loop in
     let a = c .before .before .before .args in
-    start-done (a .d) (a .place .now) (l .place) (l .i) (omega arith) (c .before .before .before .pre .1) (l .inv .2)
+    start-done (a .d) (a .place .now) (l .place) (l .i) (omega arith) (l .inv .2)
 
 pub put-start-spec : {M : Type 1} → statement M
 put-start-spec =

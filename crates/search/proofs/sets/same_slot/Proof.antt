@@ -1,67 +1,76 @@
--- `search::sets::same_slot` meets its contract. The invariant: the bytes passed agree.
+-- `search::sets::same_slot` meets its contract. The invariant: the bytes passed agree, and they are whole runs.
 -- Assumes nothing.
-use Prim.Native.Nat.{_≤_, _-_}
+use Prim.Native.Nat.{_≤_, _-_, _*_, _%_}
 use native.Mathlib.Omega.{arith}
-use mathlib.Core.Path.{sym, _≡_}
+use mathlib.Core.Path.{sym, _≡_, refl, _∙_}
 use mathlib.Core.Bool.{true}
 use borrow.Author.Needs.{needs}
-use Rattle.search.specs.Limits.{setSize}
-use Rattle.basics.specs.Bounded.{agree}
-use Rattle.basics.proofs.BoundedLaws.{agree-none}
-use Rattle.search.proofs.sets.SetLoops.{slot-more, slot-fails, slot-done, slotAt}
+use borrow.Author.Tests.{not-true, not-false}
+use Rattle.search.specs.Limits.{runSize}
+use Rattle.search.specs.Slots.{sameRun}
+use Rattle.search.proofs.sets.SetLoops.{run-none, slot-more, slot-fails, slot-done}
 use Rattle.search.proofs.sets.same_slot.Statement.{statement}
 use Rattle.search.proofs.sets.same_slot.Tie as tie
 
 abbrev Inv-loop : tie.InvT-loop
-Inv-loop mem n i y₀ y = (y ≤ setSize) × (agree (slotAt mem i) (slotAt mem n) y ≡ true)
+Inv-loop mem w n i y₀ y = (y ≤ w) × (y % runSize ≡ 0) × (sameRun mem (i * w) (n * w) y ≡ true)
 
 abbrev μ-loop : tie.MeasureT-loop
-μ-loop mem n i y₀ y = setSize - y
+μ-loop mem w n i y₀ y = w - y
 
 loop-holds : tie.Need-loop-holds Inv-loop μ-loop
-loop-holds c = (omega arith, agree-none _ _)
+loop-holds c = (omega arith, refl, run-none _ _ _)
 
-mul-if1 : tie.Need-mul-if1 Inv-loop μ-loop
-mul-if1 c = search needs
+mul-same-run : tie.Need-mul-same-run Inv-loop μ-loop
+mul-same-run c = search needs
 
-add-if1 : tie.Need-add-if1 Inv-loop μ-loop
-add-if1 c = search needs
+add-same-run : tie.Need-add-same-run Inv-loop μ-loop
+add-same-run c = search needs
 
-shared-slice-read-if1 : tie.Need-shared-slice-read-if1 Inv-loop μ-loop
-shared-slice-read-if1 c = search needs
+mul-same-run-2 : tie.Need-mul-same-run-2 Inv-loop μ-loop
+mul-same-run-2 c = search needs
 
-mul-if1-2 : tie.Need-mul-if1-2 Inv-loop μ-loop
-mul-if1-2 c = search needs
+add-same-run-2 : tie.Need-add-same-run-2 Inv-loop μ-loop
+add-same-run-2 c = search needs
 
-add-if1-2 : tie.Need-add-if1-2 Inv-loop μ-loop
-add-if1-2 c = search needs
-
-shared-slice-read-if1-2 : tie.Need-shared-slice-read-if1-2 Inv-loop μ-loop
-shared-slice-read-if1-2 c = search needs
+same-run-requires : tie.Need-same-run-requires Inv-loop μ-loop
+same-run-requires c κs =
+    let p = c .before .before .before .pre in
+    let inv = c .before .loop .inv in
+    (omega (arith, p, inv .1, c .loop-test .taken), omega (arith, p, inv .1, c .loop-test .taken))
 
 returns : tie.Need-returns Inv-loop μ-loop
 returns c =
-    let a = c .before .before .before .before .before .args in
-    sym (slot-fails (a .mem .now) (a .n) (a .i) (c .before .before .before .before .loop .y)
-    (c .before .before .before .loop-test .taken) (c .if1 .taken))
+    let start = c .before .before .before .before .before in
+    let a = start .args in
+    let l = c .before .before .before .loop in
+    sym (slot-fails (a .w) (a .mem .now) (a .n) (a .i) (l .y) runSize (omega (arith, start .pre, l .inv .1, c .before .before .loop-test .taken))
+    (sym (c .before .same-run .ensures) ∙ not-true _ (c .if1 .taken)))
 
 add-y : tie.Need-add-y Inv-loop μ-loop
-add-y c = search needs
+add-y c =
+    let start = c .before .before .before .before .before in
+    let l = c .before .before .before .loop in
+    omega (arith, start .pre, l .inv .1, c .before .before .loop-test .taken)
 
 loop-less : tie.Need-loop-less Inv-loop μ-loop
 loop-less c = search needs
 
 loop-again : tie.Need-loop-again Inv-loop μ-loop
 loop-again c =
-    let l = c .before .before .before .before .loop in
-    let a = c .before .before .before .before .before .args in
-    (omega arith, slot-more (a .mem .now) (a .n) (a .i) (l .y) (l .inv .1) (c .if1 .left))
+    let start = c .before .before .before .before .before in
+    let a = start .args in
+    let l = c .before .before .before .loop in (
+      omega (arith, start .pre, l .inv .1, c .before .before .loop-test .taken),
+      omega (arith, l .inv .1),
+      slot-more (a .w) (a .mem .now) (a .n) (a .i) (l .y) runSize (l .inv .2) (sym (c .before .same-run .ensures) ∙ not-false _ (c .if1 .left)),
+    )
 
 returns-2 : tie.Need-returns-2 Inv-loop μ-loop
 returns-2 c =
     let l = c .before .loop in
-    let a = c .before .before .args in
-    sym (slot-done (a .mem .now) (a .n) (a .i) (l .y) (omega arith) (l .inv .1))
+    let a = c .before .before .before .args in
+    sym (slot-done (a .w) (a .mem .now) (a .n) (a .i) (l .y) (omega arith) (l .inv .2))
 
 pub same-slot-spec : {M : Type 1} → statement M
 same-slot-spec =
@@ -70,12 +79,11 @@ same-slot-spec =
     Inv-loop
     μ-loop
     loop-holds
-    mul-if1
-    add-if1
-    shared-slice-read-if1
-    mul-if1-2
-    add-if1-2
-    shared-slice-read-if1-2
+    mul-same-run
+    add-same-run
+    mul-same-run-2
+    add-same-run-2
+    same-run-requires
     returns
     add-y
     loop-less

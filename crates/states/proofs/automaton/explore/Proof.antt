@@ -1,13 +1,14 @@
 -- `states::automaton::explore` meets its contract, by those of `prepare` and `search`.
 -- Assumes nothing.
-use Prim.Native.Nat.{ℕ, _≤_}
+use Prim.Native.Nat.{ℕ, _*_, _≤_}
 use mathlib.Core.Path.{refl, sym, _∙_, subst}
 use lib.ListN.{length-replicate}
 use borrow.Author.Needs.{needs}
 use Rattle.formula.specs.Codes.{partsIn}
 use Rattle.rules.specs.Trace.{countsOf}
+use Rattle.search.specs.Limits.{letterLimit, mapSize}
 use Rattle.obligations.specs.Letters.{lettersOf}
-use Rattle.obligations.proofs.StoredParts.{operators-small}
+use Rattle.obligations.proofs.StoredParts.{operators-few}
 use Rattle.states.proofs.automaton.Prepared.{count-letters}
 use Rattle.states.proofs.ExploredStates.{explored, letters-few}
 use Rattle.states.proofs.automaton.explore.Statement.{statement}
@@ -38,11 +39,11 @@ search-requires c κs =
     let p = s .pre in
     let sizes = p .1 .0 in
     let kept = made .kept .1 .1 .1 .1 .1 in
-    let small = operators-small _ (p .0) _ (sizes .operators-are) in
-    let maps = kept .0 ∙ length-replicate {A = ℕ} 65536 0 in
-    let firsts = kept .1 .0 ∙ length-replicate {A = ℕ} 512 0 in
-    let few = subst (λ x. x ≤ 512) (sym (made .ensures .0)) (letters-few (countsOf (s .args .sizes)) (sizes .signals-few)) in
-    (small, (maps, (firsts, (few, (made .ensures .1 .maps-kept, (p .1 .1 .0, p .1 .1 .1))))))
+    let few-operators = operators-few _ (p .0) _ (sizes .operators-are) in
+    let maps = kept .0 ∙ length-replicate {A = ℕ} (letterLimit * mapSize) 0 in
+    let firsts = kept .1 .0 ∙ length-replicate {A = ℕ} letterLimit 0 in
+    let few = subst (λ x. x ≤ letterLimit) (sym (made .ensures .0)) (letters-few (countsOf (s .args .sizes)) (sizes .signals-few)) in
+    (few-operators, (maps, (firsts, (few, (made .ensures .1 .maps-kept, (p .1 .1 .0, p .1 .1 .1))))))
 
 same-length : tie.Need-same-length
 same-length c = search needs

@@ -1,13 +1,16 @@
 -- `states::automaton::prepare` meets its contract, by those of the functions that it calls.
 -- Assumes nothing.
-use Prim.Native.Nat.{ℕ, _≤_}
+use Prim.Native.Nat.{ℕ, _*_, _≤_}
 use native.Mathlib.Omega.{arith}
 use mathlib.Core.Path.{_≡_, refl, sym, _∙_, subst}
 use lib.ListN.{length, length-replicate}
 use borrow.Author.Needs.{needs}
+use Rattle.search.specs.Limits.{letterLimit}
 use Rattle.obligations.specs.Letters.{counts, lettersOf}
-use Rattle.obligations.proofs.StoredParts.{operators-small}
-use Rattle.states.proofs.automaton.Prepared.{planes-two, prepared-all, count-letters}
+use Rattle.states.specs.Limits.{planeSize, planeCount}
+use Rattle.obligations.proofs.StoredParts.{operators-few}
+use Rattle.states.proofs.LimitsLaws.{planes-few}
+use Rattle.states.proofs.automaton.Prepared.{prepared-all, count-letters}
 use Rattle.states.proofs.automaton.prepare.Statement.{statement}
 use Rattle.states.proofs.automaton.prepare.Tie as tie
 
@@ -39,9 +42,9 @@ put-planes-requires c κs =
     let d = s .args .d in
     let list = c .before .before .before .before .list-letters in
     let few = list .ensures .0 in
-    let long : length (list .last .1 .1 .1 .0) ≡ 512 = list .kept .1 .1 .1 .0 ∙ length-replicate {A = ℕ} 512 0 in
-    let two = subst (λ x. x ≤ 2) (sym (c .before .before .planes-of .ensures)) (planes-two d (operators-small _ (p .0) d (p .1 .0))) in
-    (p .0, (p .1 .0, (long, (omega (arith, few, p .1 .1 .1 .1 .1 .0), (two, refl)))))
+    let long : length (list .last .1 .1 .1 .0) ≡ letterLimit = list .kept .1 .1 .1 .0 ∙ length-replicate {A = ℕ} letterLimit 0 in
+    let planes = subst (λ x. x ≤ planeCount) (sym (c .before .before .planes-of .ensures)) (planes-few d (operators-few _ (p .0) d (p .1 .0))) in
+    (p .0, (p .1 .0, (long, (omega (arith, few, p .1 .1 .1 .1 .1 .0), (planes, refl)))))
 
 slice-aggregate-classify : tie.Need-slice-aggregate-classify
 slice-aggregate-classify c = search needs
@@ -52,11 +55,12 @@ classify-requires c κs =
     let p = s .pre in
     let q = p .1 .1 .1 .1 .1 in
     let d = s .args .d in
-    let long = c .before .before .before .before .put-planes .kept .1 .1 .1 .1 .1 .0 ∙ length-replicate {A = ℕ} 8192 0 in
-    let few = subst (λ x. x ≤ 512) (sym (c .before .before .before .before .before .before .before .before .before .list-letters .ensures .0)) (q .0) in
-    let planes = c .before .before .before .before .before .before .before .planes-of in
-    let two = subst (λ x. x ≤ 2) (sym (planes .ensures)) (planes-two d (operators-small _ (p .0) d (p .1 .0))) in
-    (long, (few, (two, (q .1 .0, q .1 .1))))
+    let long = c .before .before .before .before .put-planes .kept .1 .1 .1 .1 .1 .0 ∙ length-replicate {A = ℕ} (planeCount * planeSize) 0 in
+    let listed = c .before .before .before .before .before .before .before .before .before .list-letters in
+    let few = subst (λ x. x ≤ letterLimit) (sym (listed .ensures .0)) (q .0) in
+    let counted = c .before .before .before .before .before .before .before .planes-of in
+    let planes = subst (λ x. x ≤ planeCount) (sym (counted .ensures)) (planes-few d (operators-few _ (p .0) d (p .1 .0))) in
+    (long, (few, (planes, (q .1 .0, q .1 .1))))
 
 same-length : tie.Need-same-length
 same-length c = search needs
@@ -68,7 +72,7 @@ returns : tie.Need-returns
 returns c =
     let done = c .before .before .before .before .classify in
     let words = c .before .before .before .before .before .before .before .before .before .put-planes in
-    let planes = c .before .before .before .before .before .before .before .before .before .before .before .before .planes-of in
+    let counted = c .before .before .before .before .before .before .before .before .before .before .before .before .planes-of in
     let t = c .before .before .before .before .before .before .before .before .before .before .before .before .before .before in
     let list = t .list-letters in
     let a = t .before .before .before .before .before .args in
@@ -76,8 +80,8 @@ returns c =
     let signals = counts (a .outputs) (a .observed) (a .hidden) in (
       list .ensures .0,
       prepared-all (a .parts .now) (p .0) (lettersOf signals) _ (list .last .1 .1 .1 .0) (list .ensures .1)
-          (a .d) (planes .result) (list .result) _ (p .1 .0) (planes .ensures) (list .ensures .0 ∙ count-letters signals) (omega arith)
-          (omega (arith, list .ensures .0, p .1 .1 .1 .1 .1 .0)) _ _ (length-replicate {A = ℕ} 8192 0) (words .ensures)
+          (a .d) (counted .result) (list .result) _ (p .1 .0) (counted .ensures) (list .ensures .0 ∙ count-letters signals) (omega arith)
+          (omega (arith, list .ensures .0, p .1 .1 .1 .1 .1 .0)) _ _ (length-replicate {A = ℕ} (planeCount * planeSize) 0) (words .ensures)
           (a .maps .now) (done .last .1 .1 .1 .0) (done .last .1 .1 .1 .1 .0) _ (p .1 .1 .1 .1 .1 .1 .0) (done .ensures .0) (done .ensures .1),
     )
 

@@ -1,6 +1,6 @@
 -- `states::blocks::put_block` meets its contract. The invariant: the words passed are right, and the others as they were.
 -- Assumes nothing.
-use Prim.Native.Nat.{_-_, _/_, _%_, _≤_, _<_}
+use Prim.Native.Nat.{_-_, _*_, _/_, _%_, _≤_, _<_}
 use native.Mathlib.Nat.{le-refl}
 use native.Mathlib.Omega.{arith}
 use mathlib.Core.Path.{_≡_, refl, _∙_}
@@ -8,6 +8,8 @@ use mathlib.Core.List.{_++_}
 use lib.ListN.{length, drop, length-set}
 use borrow.Author.Needs.{needs}
 use Rattle.formula.specs.Codes.{partsIn}
+use Rattle.obligations.specs.Values.{blockSize}
+use Rattle.states.specs.Limits.{slotSize}
 use Rattle.states.specs.Planes.{plane}
 use Rattle.states.proofs.blocks.CarriedWords.{carried-read}
 use Rattle.states.proofs.PlanesLaws.{plane-none, plane-more, plane-end}
@@ -16,10 +18,10 @@ use Rattle.states.proofs.blocks.put_block.Tie as tie
 
 abbrev Inv-loop : tie.InvT-loop
 Inv-loop parts numbers spots d letters w v words₀ y₀ words y =
-    (y ≤ 128) × (length words ≡ length words₀) × (words ≡ plane (partsIn parts) letters w y ++ drop y words₀)
+    (y ≤ blockSize * slotSize) × (length words ≡ length words₀) × (words ≡ plane (partsIn parts) letters w y ++ drop y words₀)
 
 abbrev μ-loop : tie.MeasureT-loop
-μ-loop parts numbers spots d letters w v words₀ y₀ words y = 128 - y
+μ-loop parts numbers spots d letters w v words₀ y₀ words y = blockSize * slotSize - y
 
 put-values-requires : tie.Need-put-values-requires Inv-loop μ-loop
 put-values-requires c κs =
@@ -62,7 +64,7 @@ loop-again c =
     let new =
     carried-read (a .parts .now) (p .0) (a .letters .now) (a .v .now) _ (a .w) (p .1 .1 .1 .1 .1 .0)
     (c .before .before .before .before .before .before .put-values .ensures)
-    (a .spots .now) (a .d) (p .1 .0) (p .1 .1 .1 .0) (l .y / 8) (l .y % 8) (omega arith) (read .result) (read .ensures) in
+    (a .spots .now) (a .d) (p .1 .0) (p .1 .1 .1 .0) (l .y / slotSize) (l .y % slotSize) (omega arith) (read .result) (read .ensures) in
     (omega arith, simp length-set (l .inv .1), plane-more _ _ _ (l .y) (a .words .now) (l .words) (read .result) h (l .inv .2) new)
 
 same-length : tie.Need-same-length Inv-loop μ-loop
@@ -75,7 +77,7 @@ returns : tie.Need-returns Inv-loop μ-loop
 returns c =
     let l = c .before .loop in
     let s = c .before .before .before .before .before .before .before .before .before .before .before .before in (
-      plane-end _ _ _ (l .y) 128 (s .args .words .now) (l .words) (omega arith) (s .pre .1 .1 .1 .1 .1 .1) (l .inv .2),
+      plane-end _ _ _ (l .y) (blockSize * slotSize) (s .args .words .now) (l .words) (omega arith) (s .pre .1 .1 .1 .1 .1 .1) (l .inv .2),
       c .before .before .before .before .put-values .ensures,
     )
 

@@ -8,6 +8,9 @@ use lib.ListN.{length, drop, length-replicate}
 use borrow.Author.Needs.{needs}
 use borrow.Rule.Slice.PartMut.{same-len-mid}
 use Rattle.formula.specs.Codes.{partsIn}
+use Rattle.basics.specs.Limits.{indexLimit}
+use Rattle.obligations.specs.Values.{blockSize}
+use Rattle.states.specs.Limits.{slotSize}
 use Rattle.states.specs.Planes.{plane}
 use Rattle.basics.proofs.LentPart.{part-length}
 use Rattle.states.proofs.PlanesLaws.{plane-none, plane-block}
@@ -16,8 +19,8 @@ use Rattle.states.proofs.blocks.put_plane.Tie as tie
 
 abbrev Inv-loop : tie.InvT-loop
 Inv-loop parts numbers spots d letters blocks w words₀ v₀ b₀ words v b =
-    (b ≤ blocks) × (length v ≡ 4096) × (length words ≡ length words₀)
-    × (words ≡ plane (partsIn parts) letters w (b * 16 * 8) ++ drop (b * 16 * 8) words₀)
+    (b ≤ blocks) × (length v ≡ indexLimit * blockSize) × (length words ≡ length words₀)
+    × (words ≡ plane (partsIn parts) letters w (b * blockSize * slotSize) ++ drop (b * blockSize * slotSize) words₀)
 
 abbrev μ-loop : tie.MeasureT-loop
 μ-loop parts numbers spots d letters blocks w words₀ v₀ b₀ words v b = blocks - b
@@ -25,7 +28,7 @@ abbrev μ-loop : tie.MeasureT-loop
 loop-holds : tie.Need-loop-holds Inv-loop μ-loop
 loop-holds c =
     let a = c .before .before .before .before .before .args in
-    (omega arith, length-replicate {A = ℕ} 4096 0, refl, plane-none _ _ _ (a .words .now))
+    (omega arith, length-replicate {A = ℕ} (indexLimit * blockSize) 0, refl, plane-none _ _ _ (a .words .now))
 
 mul-from : tie.Need-mul-from Inv-loop μ-loop
 mul-from c = search needs
@@ -74,8 +77,8 @@ put-block-requires c κs =
     let a = c .before .before .before .before .before .before .before .before .before .before .args in
     let p = c .before .before .before .before .before .before .before .before .before .before .pre in
     let l = c .before .before .before .before .loop in
-    let letters = part-length (l .b * 16) 16 (a .letters .now) (omega arith) in
-    let words = part-length (l .b * 16 * 8) 128 (l .words) (omega arith) in
+    let letters = part-length (l .b * blockSize) blockSize (a .letters .now) (omega arith) in
+    let words = part-length (l .b * blockSize * slotSize) (blockSize * slotSize) (l .words) (omega arith) in
     (p .0, (p .1 .0, (p .1 .1 .0, (p .1 .1 .1 .0, (letters, (l .inv .1, words))))))
 
 add-b : tie.Need-add-b Inv-loop μ-loop
@@ -89,9 +92,10 @@ loop-again c =
     let a = c .before .before .before .before .before .before .before .before .before .before .before .before .before .before .args in
     let l = c .before .before .before .before .before .before .before .before .loop in
     let call = c .before .before .before .put-block in
-    let at = l .b * 16 * 8 in
-    let kept = same-len-mid at (at + 128 - at) (l .words) (call .last .1 .1 .1 .1 .1 .1 .1 .0) (call .kept .1 .1 .1 .1 .1 .1 .1 .0) in
-    let words = plane-block _ _ _ (l .b) (a .words .now) (l .words) _ (l .inv .3) (call .ensures .0) in
+    let at = l .b * blockSize * slotSize in
+    let kept = same-len-mid at (at + blockSize * slotSize - at) (l .words) (call .last .1 .1 .1 .1 .1 .1 .1 .0) (call .kept .1 .1 .1 .1 .1 .1 .1 .0) in
+    let words =
+    plane-block _ _ _ (l .b * blockSize) blockSize ((l .b + 1) * blockSize) (a .words .now) (l .words) _ (omega arith) (l .inv .3) (call .ensures .0) in
     (omega arith, call .kept .1 .1 .1 .1 .1 .1 .0 ∙ l .inv .1, kept ∙ l .inv .2, words)
 
 same-length : tie.Need-same-length Inv-loop μ-loop
@@ -101,8 +105,8 @@ returns : tie.Need-returns Inv-loop μ-loop
 returns c =
     let l = c .before .loop in
     let a = c .before .before .before .before .before .before .before .args in
-    let e : l .b ≡ a .blocks = omega arith in
-    l .inv .3 ∙ ap (λ n. plane (partsIn (a .parts .now)) (a .letters .now) (a .w) (n * 16 * 8) ++ drop (n * 16 * 8) (a .words .now)) e
+    let e : l .b * blockSize * slotSize ≡ a .blocks * blockSize * slotSize = omega arith in
+    l .inv .3 ∙ ap (λ n. plane (partsIn (a .parts .now)) (a .letters .now) (a .w) n ++ drop n (a .words .now)) e
 
 pub put-plane-spec : {M : Type 1} → statement M
 put-plane-spec =

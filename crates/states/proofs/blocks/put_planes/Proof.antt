@@ -7,6 +7,8 @@ use lib.ListN.{length}
 use borrow.Author.Needs.{needs}
 use borrow.Rule.Slice.PartMut.{same-len-mid}
 use Rattle.formula.specs.Codes.{partsIn}
+use Rattle.obligations.specs.Values.{blockSize}
+use Rattle.states.specs.Limits.{planeSize}
 use Rattle.states.specs.Planes.{planesTo}
 use Rattle.basics.proofs.LentPart.{part-length}
 use Rattle.obligations.proofs.NumberedParts.{numbers-front, spots-front}
@@ -16,7 +18,7 @@ use Rattle.states.proofs.blocks.put_planes.Tie as tie
 
 abbrev Inv-loop : tie.InvT-loop
 Inv-loop parts d letters blocks m words₀ numbers spots w₀ words w =
-    (w ≤ m) × (length words ≡ length words₀) × (words ≡ planesTo (partsIn parts) letters (blocks * 16) w words₀)
+    (w ≤ m) × (length words ≡ length words₀) × (words ≡ planesTo (partsIn parts) letters (blocks * blockSize) w words₀)
 
 abbrev μ-loop : tie.MeasureT-loop
 μ-loop parts d letters blocks m words₀ numbers spots w₀ words w = m - w
@@ -72,7 +74,7 @@ put-plane-requires c κs =
           numbers-front (a .parts .now) _ _ (made .ensures .0),
           (
             spots-front (partsIn (a .parts .now)) _ _ (a .d) (p .1 .0) (made .ensures .1),
-            (p .1 .1 .0, (p .1 .1 .1 .0, part-length (l .w * 4096) 4096 (l .words) (omega arith))),
+            (p .1 .1 .0, (p .1 .1 .1 .0, part-length (l .w * planeSize) planeSize (l .words) (omega arith))),
           ),
         ),
       ),
@@ -90,10 +92,12 @@ loop-again c =
     let p = c .before .before .before .before .before .before .before .before .before .before .before .before .before .before .before .before .pre .1 .1 .1 in
     let l = c .before .before .before .before .before .before .before .loop in
     let call = c .before .before .put-plane in
-    let at = l .w * 4096 in
-    let kept = same-len-mid at (at + 4096 - at) (l .words) (call .last .1 .1 .1 .1 .1 .1 .1 .0) (call .kept .1 .1 .1 .1 .1 .1 .1 .0) in
-    let room : at + 4096 ≤ length (l .words) = omega (arith, p .1 .0, p .1 .1) in
-    (omega arith, kept ∙ l .inv .1, planes-more _ _ (a .blocks * 16) (a .words .now) (l .w) (l .words) _ (l .inv .2) room (omega (arith, p .0)) (call .ensures))
+    let at = l .w * planeSize in
+    let kept = same-len-mid at (at + planeSize - at) (l .words) (call .last .1 .1 .1 .1 .1 .1 .1 .0) (call .kept .1 .1 .1 .1 .1 .1 .1 .0) in
+    let room : at + planeSize ≤ length (l .words) = omega (arith, p .1 .0, p .1 .1) in
+    let words =
+    planes-more _ _ (a .blocks * blockSize) (a .words .now) (l .w) (l .words) _ (l .inv .2) room (omega (arith, p .0)) (call .ensures) in
+    (omega arith, kept ∙ l .inv .1, words)
 
 same-length : tie.Need-same-length Inv-loop μ-loop
 same-length c = search needs
@@ -103,7 +107,7 @@ returns c =
     let a = c .before .before .before .before .before .before .before .before .before .before .args in
     let l = c .before .loop in
     let e : l .w ≡ a .m = omega arith in
-    l .inv .2 ∙ ap (λ n. planesTo (partsIn (a .parts .now)) (a .letters .now) (a .blocks * 16) n (a .words .now)) e
+    l .inv .2 ∙ ap (λ n. planesTo (partsIn (a .parts .now)) (a .letters .now) (a .blocks * blockSize) n (a .words .now)) e
 
 pub put-planes-spec : {M : Type 1} → statement M
 put-planes-spec =

@@ -8,6 +8,7 @@ use mathlib.Core.List.{_++_}
 use lib.ListN.{length, drop, length-set}
 use borrow.Author.Needs.{needs}
 use Rattle.basics.specs.Lists.{tabulate}
+use Rattle.search.specs.Limits.{mapSize}
 use Rattle.states.specs.Planes.{firstOf, mapsTo}
 use Rattle.basics.proofs.Filling.{table-more}
 use Rattle.states.proofs.maps.MapLoops.{maps-first, maps-other, first-small}
@@ -74,7 +75,7 @@ loop-again c =
     let w = s .args .words .now in
     let below : l .a < s .args .n = c .before .before .loop-test .taken in
     let fits : l .a < length (s .args .firsts .now) = omega (arith, below, s .pre .1 .0, s .pre .1 .1 .1 .1) in
-    let room : l .a * 128 + 128 ≤ length (l .maps) = omega (arith, below, l .inv .1, s .pre .1 .0, s .pre .1 .1 .1 .0) in
+    let room : l .a * mapSize + mapSize ≤ length (l .maps) = omega (arith, below, l .inv .1, s .pre .1 .0, s .pre .1 .1 .1 .0) in
     let firsts = table-more (l .a) (firstOf w) (s .args .firsts .now) (l .firsts) (f .result) fits (l .inv .4) (f .ensures) in
     ⊎-elim
     (λ t. (

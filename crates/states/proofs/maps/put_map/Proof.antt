@@ -6,6 +6,7 @@ use mathlib.Core.Path.{_≡_}
 use mathlib.Core.List.{_++_}
 use lib.ListN.{length, drop, length-set}
 use borrow.Author.Needs.{needs}
+use Rattle.basics.specs.Limits.{wordSize}
 use Rattle.basics.specs.Lists.{tabulate}
 use Rattle.basics.proofs.Filling.{table-more}
 use Rattle.states.proofs.maps.MapLoops.{mapEntry, entry-code, map-all}
@@ -13,10 +14,10 @@ use Rattle.states.proofs.maps.put_map.Statement.{statement}
 use Rattle.states.proofs.maps.put_map.Tie as tie
 
 abbrev Inv-loop : tie.InvT-loop
-Inv-loop words a m map₀ p₀ map p = (p ≤ m * 64) × (length map ≡ length map₀) × (map ≡ tabulate p (mapEntry words a) ++ drop p map₀)
+Inv-loop words a m map₀ p₀ map p = (p ≤ m * wordSize) × (length map ≡ length map₀) × (map ≡ tabulate p (mapEntry words a) ++ drop p map₀)
 
 abbrev μ-loop : tie.MeasureT-loop
-μ-loop words a m map₀ p₀ map p = m * 64 - p
+μ-loop words a m map₀ p₀ map p = m * wordSize - p
 
 loop-holds : tie.Need-loop-holds Inv-loop μ-loop
 loop-holds c = search needs
@@ -59,7 +60,7 @@ returns : tie.Need-returns Inv-loop μ-loop
 returns c =
     let l = c .before .loop in
     let a = c .before .before .before .before .args in
-    let e : l .p ≡ a .m * 64 = omega arith in
+    let e : l .p ≡ a .m * wordSize = omega arith in
     map-all _ _ (l .p) _ _ _ e (l .inv .2)
 
 pub put-map-spec : {M : Type 1} → statement M

@@ -1,20 +1,21 @@
 -- `states::maps::same_words` meets its contract. The invariant: the words passed agree.
 -- Assumes nothing.
-use Prim.Native.Nat.{_≤_, _-_}
+use Prim.Native.Nat.{_*_, _≤_, _-_}
 use native.Mathlib.Omega.{arith}
 use mathlib.Core.Path.{_≡_}
 use mathlib.Core.Bool.{true}
 use borrow.Author.Needs.{needs}
 use Rattle.basics.specs.Bounded.{agree}
+use Rattle.states.specs.Limits.{slotSize, planeCount}
 use Rattle.states.proofs.maps.MapLoops.{wordAt, same-none, same-more, same-fails, same-all}
 use Rattle.states.proofs.maps.same_words.Statement.{statement}
 use Rattle.states.proofs.maps.same_words.Tie as tie
 
 abbrev Inv-loop : tie.InvT-loop
-Inv-loop words a b y₀ y = (y ≤ 16) × (agree (wordAt words a) (wordAt words b) y ≡ true)
+Inv-loop words a b y₀ y = (y ≤ planeCount * slotSize) × (agree (wordAt words a) (wordAt words b) y ≡ true)
 
 abbrev μ-loop : tie.MeasureT-loop
-μ-loop words a b y₀ y = 16 - y
+μ-loop words a b y₀ y = planeCount * slotSize - y
 
 loop-holds : tie.Need-loop-holds Inv-loop μ-loop
 loop-holds c = (omega arith, same-none _ _ _)
@@ -73,7 +74,7 @@ loop-again c =
 returns-2 : tie.Need-returns-2 Inv-loop μ-loop
 returns-2 c =
     let l = c .before .loop in
-    let e : l .y ≡ 16 = omega arith in
+    let e : l .y ≡ planeCount * slotSize = omega arith in
     same-all _ _ _ (l .y) e (l .inv .1)
 
 pub same-words-spec : {M : Type 1} → statement M

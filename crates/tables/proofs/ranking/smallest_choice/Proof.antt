@@ -25,7 +25,7 @@ abbrev μ-loop : tie.MeasureT-loop
 
 abbrev Inv-choices : tie.InvT-choices
 Inv-choices moves ranks choices observations r k from c₀ c =
-    (c ≤ choices) × (firstThat (works moves ranks choices observations r k) c ≡ c)
+    (firstThat (works moves ranks choices observations r k) c ≡ c) × (c ≤ choices)
 
 abbrev μ-choices : tie.MeasureT-choices
 μ-choices moves ranks choices observations r k from c₀ c = choices - c
@@ -34,10 +34,10 @@ mul-from : tie.Need-mul-from Inv-loop μ-loop Inv-choices μ-choices
 mul-from c = search needs
 
 choices-holds : tie.Need-choices-holds Inv-loop μ-loop Inv-choices μ-choices
-choices-holds c = (search needs, first-none _)
+choices-holds c = (first-none _, search needs)
 
 loop-holds : tie.Need-loop-holds Inv-loop μ-loop Inv-choices μ-choices
-loop-holds c = (refl, c .choices-test .taken, search needs, c .before .choices .inv .1, refl)
+loop-holds c = (refl, c .choices-test .taken, search needs, c .before .choices .inv .0, refl)
 
 mul-if1 : tie.Need-mul-if1 Inv-loop μ-loop Inv-choices μ-choices
 mul-if1 c =
@@ -99,8 +99,8 @@ choices-again : tie.Need-choices-again Inv-loop μ-loop Inv-choices μ-choices
 choices-again c =
     let l = c .before .before .before .before .loop in
     let a = c .before .before .before .before .before .before .before .args in (
-      omega arith,
       choice-fails (a .moves .now) (a .ranks .now) (a .choices) (a .observations) (a .r) (a .k) (l .c) (l .s) (l .inv .3) (omega arith) (c .if1 .taken),
+      omega arith,
     )
 
 add-s : tie.Need-add-s Inv-loop μ-loop Inv-choices μ-choices
@@ -128,7 +128,7 @@ returns c =
     (all-done (l .s) (a .observations) _ (omega arith) (l .inv .4))
 
 returns-2 : tie.Need-returns-2 Inv-loop μ-loop Inv-choices μ-choices
-returns-2 c = none-left (c .before .choices .c) (c .before .before .args .choices) _ (omega arith) (c .before .choices .inv .1)
+returns-2 c = none-left (c .before .choices .c) (c .before .before .args .choices) _ (omega arith) (c .before .choices .inv .0)
 
 pub smallest-choice-spec : {M : Type 1} → statement M
 smallest-choice-spec =

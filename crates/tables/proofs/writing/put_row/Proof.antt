@@ -18,6 +18,9 @@ Inv-loop moves choices observations k c m rows₀ cells₀ from n₀ s₀ rows c
 abbrev μ-loop : tie.MeasureT-loop
 μ-loop moves choices observations k c m rows₀ cells₀ from n₀ s₀ rows cells n s = sideLimit - s
 
+cast-cells : tie.Need-cast-cells Inv-loop μ-loop
+cast-cells c = search needs
+
 slice-write-cells : tie.Need-slice-write-cells Inv-loop μ-loop
 slice-write-cells c = search needs
 
@@ -69,8 +72,8 @@ slice-write-rows c =
 add-n : tie.Need-add-n Inv-loop μ-loop
 add-n c = search needs
 
-cast-cells : tie.Need-cast-cells Inv-loop μ-loop
-cast-cells c =
+cast-cells-2 : tie.Need-cast-cells-2 Inv-loop μ-loop
+cast-cells-2 c =
     let l = c .before .before .before .before .before .before .loop in
     let h = c .before .before .before .before .before .loop-test .taken in
     omega (arith, place-le _ _ _ _ _ _ _ _ _ _ _ (l .inv) h _ _ (c .before .before .before .before .if1 .taken) refl (c .before .row-of .ensures), l .inv .few)
@@ -138,6 +141,7 @@ put-row-spec =
     (tie.spec
     Inv-loop
     μ-loop
+    cast-cells
     slice-write-cells
     mul-from
     add-from
@@ -148,7 +152,7 @@ put-row-spec =
     row-of-requires
     slice-write-rows
     add-n
-    cast-cells
+    cast-cells-2
     add-cells
     mul-cells
     slice-write-cells-2

@@ -1,7 +1,8 @@
 -- `tables::writing::put_table` meets its contract. The invariant: the rows met so far are those of the search at this turn, and the rows
 -- passed have the cells that they have in the end.
 -- Assumes nothing.
-use Rattle.play.specs.Limits.{beliefLimit, rowSize}
+use Rattle.play.specs.Limits.{beliefLimit}
+use Rattle.play.specs.Cells.{rowSize}
 use borrow.Author.Needs.{needs}
 use Prim.Native.Nat.{_+_, _-_, _*_}
 use native.Mathlib.Omega.{arith}
@@ -12,10 +13,10 @@ use Rattle.tables.proofs.writing.put_table.Statement.{statement}
 use Rattle.tables.proofs.writing.put_table.Tie as tie
 
 abbrev Inv-loop : tie.InvT-loop
-Inv-loop moves finals picks n choices observations table₀ rows₀ m₀ i₀ table rows m i = Turn n choices observations moves finals table₀ i m rows table
+Inv-loop moves finals ranks n choices observations table₀ rows₀ m₀ i₀ table rows m i = Turn n choices observations moves finals table₀ i m rows table
 
 abbrev μ-loop : tie.MeasureT-loop
-μ-loop moves finals picks n choices observations table₀ rows₀ m₀ i₀ table rows m i = beliefLimit - i
+μ-loop moves finals ranks n choices observations table₀ rows₀ m₀ i₀ table rows m i = beliefLimit - i
 
 loop-holds : tie.Need-loop-holds Inv-loop μ-loop
 loop-holds c =
@@ -58,11 +59,24 @@ part-put-stop-end c = search needs
 put-stop-requires : tie.Need-put-stop-requires Inv-loop μ-loop
 put-stop-requires c κs = search needs
 
-shared-slice-read-put-row : tie.Need-shared-slice-read-put-row Inv-loop μ-loop
-shared-slice-read-put-row c =
+mul-smallest-choice : tie.Need-mul-smallest-choice Inv-loop μ-loop
+mul-smallest-choice c =
+    let p = c .before .before .before .before .before .before .before .before .pre in
+    let l = c .before .before .before .loop in
+    omega (arith, row-small _ _ _ _ _ (p .0) (p .1 .1 .1 .0) _ _ _ _ _ (l .inv) (c .before .before .loop-test .taken) _ refl)
+
+shared-slice-read-smallest-choice : tie.Need-shared-slice-read-smallest-choice Inv-loop μ-loop
+shared-slice-read-smallest-choice c =
     let p = c .before .before .before .before .before .before .before .before .before .pre in
     let l = c .before .before .before .before .loop in
     omega (arith, row-small _ _ _ _ _ (p .0) (p .1 .1 .1 .0) _ _ _ _ _ (l .inv) (c .before .before .before .loop-test .taken) _ refl, p .1 .0)
+
+smallest-choice-requires : tie.Need-smallest-choice-requires Inv-loop μ-loop
+smallest-choice-requires c κs =
+    let p = c .before .before .before .before .before .before .before .before .before .pre in
+    let l = c .before .before .before .before .loop in
+    let k = row-small _ _ _ _ _ (p .0) (p .1 .1 .1 .0) _ _ _ _ _ (l .inv) (c .before .before .before .loop-test .taken) _ refl in
+    (p .0 .moves-long, (p .1 .0, (p .0 .few-choices, (p .0 .few-observations, omega (arith, k)))))
 
 slice-aggregate-put-row : tie.Need-slice-aggregate-put-row Inv-loop μ-loop
 slice-aggregate-put-row c = search needs
@@ -84,10 +98,10 @@ part-put-row-end c = search needs
 
 put-row-requires : tie.Need-put-row-requires Inv-loop μ-loop
 put-row-requires c κs =
-    let p = c .before .before .before .before .before .before .before .before .before .before .before .pre in
-    let l = c .before .before .before .before .before .before .loop in
-    row-asked _ _ _ _ _ (p .0) (p .1 .1 .1 .0) _ _ _ _ _ (l .inv) (c .before .before .before .before .before .loop-test .taken) _ refl
-    _ (p .1 .1 .0) (c .before .before .before .if1 .left) _ refl (p .1 .1 .1 .1)
+    let p = c .before .before .before .before .before .before .before .before .before .before .before .before .pre in
+    let l = c .before .before .before .before .before .before .before .loop in
+    row-asked _ _ _ _ _ (p .0) (p .1 .1 .1 .0) _ _ _ _ _ (l .inv) (c .before .before .before .before .before .before .loop-test .taken) _ refl
+    _ (p .1 .1 .0) (c .before .before .before .before .if1 .left) _ (c .before .before .smallest-choice .ensures) (p .1 .1 .1 .1)
 
 add-i : tie.Need-add-i Inv-loop μ-loop
 add-i c = search needs
@@ -106,8 +120,8 @@ loop-again c =
     turn-stop _ _ _ _ _ (p .0) (p .1 .1 .1 .0) _ _ _ _ _ (l .inv) h _ refl
     _ _ _ refl wide (p .1 .1 .1 .1) (w .0 .taken) (w .2 .ensures) _ _ _ (w .5) (w .6) (w .7))
     (λ w.
-    turn-choice _ _ _ _ _ (p .0) (p .1 .1 .1 .0) _ _ _ _ _ (l .inv) h _ refl _ (p .1 .1 .0) (w .0 .left) _ refl
-    _ _ _ _ _ refl wide (p .1 .1 .1 .1) (w .4 .ensures) _ _ _ (w .8) (w .9) (w .10))
+    turn-choice _ _ _ _ _ (p .0) (p .1 .1 .1 .0) _ _ _ _ _ (l .inv) h _ refl _ (p .1 .1 .0) (w .0 .left) _ (w .2 .ensures)
+    _ _ _ _ _ refl wide (p .1 .1 .1 .1) (w .5 .ensures) _ _ _ (w .9) (w .10) (w .11))
     (c .if1 .came)
 
 same-length : tie.Need-same-length Inv-loop μ-loop
@@ -136,7 +150,9 @@ put-table-spec =
     part-put-stop-start
     part-put-stop-end
     put-stop-requires
-    shared-slice-read-put-row
+    mul-smallest-choice
+    shared-slice-read-smallest-choice
+    smallest-choice-requires
     slice-aggregate-put-row
     add-put-row
     mul-put-row

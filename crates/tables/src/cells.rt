@@ -1,0 +1,26 @@
+// The cells of a row, read by what they say.
+ghost use mathlib.Core.Path.{_≡_};
+ghost use Prim.Native.Nat.{_+_, _*_, _≤_, _<_};
+ghost use lib.ListN.{length};
+ghost use Rattle.play.specs.Limits.{sideLimit};
+ghost use Rattle.play.specs.Cells.{rowSize, firstCell, nextCell};
+use crate::sizes::CHOICE_AT;
+use crate::sizes::NEXT_AT;
+use crate::sizes::ROW;
+
+// A row's choice, or stop.
+pub fn first_cell(table: &[u16], row: usize) -> u16
+    requires { ⌜ row * rowSize + rowSize ≤ length (now table) ⌝ }
+    ensures { λ r. ⌜ r ≡ firstCell (now (table .entry)) row ⌝ }
+{
+    table[row * ROW + CHOICE_AT]
+}
+
+// A row's next row for observation s.
+pub fn next_cell(table: &[u16], row: usize, s: usize) -> u16
+    requires { ⌜ row * rowSize + rowSize ≤ length (now table) ⌝ }
+    requires { ⌜ s < sideLimit ⌝ }
+    ensures { λ r. ⌜ r ≡ nextCell (now (table .entry)) row s ⌝ }
+{
+    table[row * ROW + (NEXT_AT + s)]
+}
