@@ -4,8 +4,8 @@
 -- Assumes nothing.
 use Prim.Native.Nat.{ℕ, zero, suc, _+_, _*_, _/_, _%_, _^_, _≤_, _<_}
 use mathlib.Core.Path.{_≡_}
-use mathlib.Core.Bool.{Bool, false}
-use mathlib.Core.List.{List, map}
+use mathlib.Core.Bool.{Bool, false, cond}
+use mathlib.Core.List.{List, [], _∷_, _++_, map}
 use lib.Bits.{bitOr}
 use lib.Dec.{eqb}
 use lib.ListN.{length, getD, set, take, replicate}
@@ -103,6 +103,15 @@ RanBeliefs sets successors n pairs hiddens (closed bs) moves finals =
 RanBeliefs sets successors n pairs hiddens over moves finals = Unit {0}
 
 -- ---- as the code does it: the states of a belief are listed, in the first places of a list of members
+
+-- the numbers below n that pass a test, upward
+unfoldable pub passing : (ℕ → Bool) → ℕ → List ℕ
+passing ok zero = []
+passing ok (suc s) = passing ok s ++ cond (ok s) (s ∷ []) []
+
+-- the states of a belief, of n
+abbrev pub membersOf : ℕ → Belief → List ℕ
+membersOf n b = passing (has b) n
 
 -- the first `count` members are states, of n
 pub record Members (n : ℕ) (members : List ℕ) (count : ℕ) : Type 0 where

@@ -3,7 +3,8 @@ ghost use mathlib.Core.Path.{_≡_};
 ghost use Prim.Native.Nat.{ℕ, _+_, _*_, _/_, _≤_, _<_};
 ghost use lib.ListN.{length};
 ghost use Rattle.search.specs.Limits.{stateLimit, letterLimit, setSize};
-ghost use Rattle.beliefs.specs.BeliefMemory.{beliefSize, beliefIn, successorIn, Members, Leads, beliefOf, allAccept};
+ghost use Rattle.beliefs.specs.BeliefMemory.{beliefSize, beliefIn, successorIn, membersOf, Members, Leads, beliefOf, allAccept};
+ghost use Rattle.basics.specs.Lists.{written};
 ghost use Rattle.beliefs.specs.BeliefMemory.{withState, withHidden, afterMembers};
 use crate::sizes::BELIEF;
 use basics::clear;
@@ -69,6 +70,8 @@ pub(crate) fn put_members(mem: &[u8], i: usize, n: usize, members: &mut [u8]) ->
     requires { ⌜ i * beliefSize + beliefSize ≤ length (now mem) ⌝ }
     requires { ⌜ n ≤ stateLimit ⌝ }
     requires { ⌜ length (now members) ≡ stateLimit ⌝ }
+    ensures { λ r. ⌜ r ≡ length (membersOf n (beliefIn n (now (mem .entry)) i)) ⌝ }
+    ensures { λ _. ⌜ now (members .exit) ≡ written (membersOf n (beliefIn n (now (mem .entry)) i)) (now (members .entry)) ⌝ }
     ensures { λ r. ⌜ Members n (now (members .exit)) r ⌝ }
     ensures { λ r. ⌜ beliefOf n (now (members .exit)) r ≡ beliefIn n (now (mem .entry)) i ⌝ }
 {

@@ -13,7 +13,7 @@ ghost use Rattle.play.specs.Table.{listOf};
 ghost use Rattle.beliefs.specs.Twins.{Twins};
 ghost use Rattle.beliefs.specs.BeliefMemory.{beliefSize, hintSize, beliefIn, beliefsIn, HoldsBeliefs, Apart};
 ghost use Rattle.beliefs.specs.BeliefMemory.{Successors, triedFrom, Tried, countedBeliefs, movesOf, markOf, finalsOf, RanBeliefs};
-ghost use Rattle.beliefs.specs.BeliefMemory.{Members, Leads, beliefOf, afterMembers};
+ghost use Rattle.beliefs.specs.BeliefMemory.{membersOf, Members, Leads, beliefOf, afterMembers};
 use crate::believing::is_final;
 use crate::believing::put_after;
 use crate::believing::put_members;
@@ -136,6 +136,8 @@ fn mark_belief(
     requires { ⌜ n ≤ stateLimit ⌝ }
     requires { ⌜ length (now members) ≡ stateLimit ⌝ }
     requires { ⌜ i < length (now finals) ⌝ }
+    ensures { λ r. ⌜ r ≡ length (membersOf n (beliefIn n (now (mem .entry)) i)) ⌝ }
+    ensures { λ _. ⌜ now (members .exit) ≡ written (membersOf n (beliefIn n (now (mem .entry)) i)) (now (members .entry)) ⌝ }
     ensures { λ r. ⌜ Members n (now (members .exit)) r ⌝ }
     ensures { λ r. ⌜ beliefOf n (now (members .exit)) r ≡ beliefIn n (now (mem .entry)) i ⌝ }
     ensures { λ _. ⌜ now (finals .exit) ≡ set (now (finals .entry)) i (markOf (now (sets .entry)) n (beliefIn n (now (mem .entry)) i)) ⌝ }

@@ -5,25 +5,26 @@ use native.Mathlib.Numerals.{add-one}
 use native.Mathlib.Omega.{arith}
 use mathlib.Core.Path.{_≡_, refl, sym, ap, ap₂, _∙_, subst}
 use mathlib.Core.Logic.{_⊎_, inl, inr}
-use mathlib.Core.Bool.{Bool, true, false, not, _&&_, _||_, or-comm}
-use mathlib.Core.List.{List}
+use mathlib.Core.Bool.{Bool, true, false, cond, not, _&&_, _||_, or-comm}
+use mathlib.Core.List.{List, [], _∷_, _++_, append-nil}
 use lib.Bits.{bitAnd, and-mask}
 use lib.Dec.{eqb}
-use lib.ListN.{length, getD, set, replicate, length-set}
+use lib.ListN.{length, getD, set, drop, replicate, length-set, length-append}
 use lib.Seq.{getD-set-same, getD-set-other}
 use borrow.Author.Tests.{eqb-true, eq-eqb, ne-eqb}
 use Rattle.basics.specs.Bits.{bit}
 use Rattle.basics.specs.Bounded.{all, any}
-use Rattle.basics.specs.Lists.{tabulate}
+use Rattle.basics.specs.Lists.{tabulate, written}
 use Rattle.basics.proofs.BitsLaws.{bit-test, bit-low, low-lt}
 use Rattle.basics.proofs.Booleans.{test, clash, and-left, and-right, and-true, or-intro-left, or-intro-right}
 use Rattle.basics.proofs.BoundedLaws.{last-or-before, all-at, all-of, all-more, all-fails, all-not, any-suc, any-at, any-of, any-ext}
+use Rattle.basics.proofs.Filling.{put-next}
 use Rattle.basics.proofs.ListsLaws.{getD-tabulate, tabulate-ext}
 use Rattle.search.specs.Limits.{stateLimit, setSize}
 use Rattle.search.specs.Slots.{itemIn}
 use Rattle.play.specs.Belief.{has, every}
 use Rattle.beliefs.specs.BeliefMemory.{beliefSize, packBelief, beliefIn, successorIn, Successors, beliefAfter, acceptsIn}
-use Rattle.beliefs.specs.BeliefMemory.{Members, Leads, isMember, beliefOf, allAccept, withHidden, afterMembers}
+use Rattle.beliefs.specs.BeliefMemory.{passing, membersOf, Members, Leads, isMember, beliefOf, allAccept, withHidden, afterMembers}
 use Rattle.beliefs.proofs.LimitsLaws.{state-bits}
 use Rattle.beliefs.proofs.BeliefMemoryLaws.{Bits, bits-same, bits-unique, bits-none, bits-hidden, belief-bits, has-table, leadsTo, letter-lt}
 
@@ -150,50 +151,77 @@ module _ (successors members : List ℕ) (n count pairs hiddens q : ℕ) (few : 
 
 -- ---- what the functions do
 
--- `put_members`: of the first s states, those that pass a test are listed
-pub record Gathered (ok : ℕ → Bool) (s c : ℕ) (members : List ℕ) : Type 0 where
+passing-with : (ok : ℕ → Bool) (s : ℕ) → ok s ≡ true → passing ok (s + 1) ≡ passing ok s ++ (s ∷ [])
+unfolding passing
+passing-with ok s t = rw (add-one s, t)
+
+passing-without : (ok : ℕ → Bool) (s : ℕ) → ok s ≡ false → passing ok (s + 1) ≡ passing ok s
+unfolding passing
+passing-without ok s f = rw (add-one s, f) (append-nil (passing ok s))
+
+pub passing-ext : (ok ok′ : ℕ → Bool) (n : ℕ) → ((s : ℕ) → s < n → ok s ≡ ok′ s) → passing ok n ≡ passing ok′ n
+unfolding passing
+passing-ext ok ok′ zero e = refl
+passing-ext ok ok′ (suc n) e = ap₂ (λ l b. l ++ cond b (n ∷ []) []) (passing-ext ok ok′ n (λ s h. e s (omega arith))) (e n (omega arith))
+
+-- `put_members`: of the first s states, those that pass a test are listed in front of what stood there
+pub record Gathered (ok : ℕ → Bool) (old : List ℕ) (s c : ℕ) (members : List ℕ) : Type 0 where
   pub size : length members ≡ stateLimit
   pub few : c ≤ s
+  pub count : c ≡ length (passing ok s)
+  pub listed : members ≡ passing ok s ++ drop c old
   pub small : (i : ℕ) → i < c → getD members i 0 < s
   pub holds : (p : ℕ) → p < s → isMember members c p ≡ ok p
 
-pub gathered-none : (ok : ℕ → Bool) (members : List ℕ) → length members ≡ stateLimit → Gathered ok 0 0 members
-gathered-none ok members e = record { size = e; few = omega arith; small = λ i h. absurd (omega arith); holds = λ p h. absurd (omega arith) }
+pub gathered-none : (ok : ℕ → Bool) (members : List ℕ) → length members ≡ stateLimit → Gathered ok members 0 0 members
+unfolding passing
+gathered-none ok members e =
+    record { size = e; few = omega arith; count = refl; listed = refl; small = λ i h. absurd (omega arith); holds = λ p h. absurd (omega arith) }
 
-module _ {ok : ℕ → Bool} {s c : ℕ} {w : List ℕ} (g : Gathered ok s c w) where
-  pub gathered-there : s < stateLimit → ok s ≡ true → (v : List ℕ) (k : ℕ) → v ≡ set w c s → k ≡ c + 1 → Gathered ok (s + 1) k v
-  gathered-there h t v k e r =
+module _ {ok : ℕ → Bool} {old : List ℕ} {s c : ℕ} {w : List ℕ} (g : Gathered ok old s c w) where
+  pub gathered-there : s < stateLimit → length old ≡ stateLimit → ok s ≡ true → (v : List ℕ) (k : ℕ) → v ≡ set w c s → k ≡ c + 1
+      → Gathered ok old (s + 1) k v
+  gathered-there h size t v k e r =
       rw (e, r) (record {
         size = length-set w c s ∙ g .size;
         few = omega (arith, g .few);
+        count = omega (arith, g .count, ap length (passing-with ok s t) ∙ length-append (passing ok s) (s ∷ []));
+        listed = written-more;
         small = λ i l. small-at i (last-or-before c i l);
         holds = λ p l. holds-at p (last-or-before s p l);
       })
     where
+      written-more : set w c s ≡ passing ok (s + 1) ++ drop (c + 1) old
+      written-more =
+          ap (λ l. set l c s) (g .listed) ∙ put-next (passing ok s) old c s (sym (g .count)) (omega (arith, g .few, size))
+          ∙ ap (λ l. l ++ drop (c + 1) old) (sym (passing-with ok s t))
+
       new : getD (set w c s) c 0 ≡ s
       new = getD-set-same w c s 0 (omega (arith, g .few, g .size))
 
-      old : (i : ℕ) → i < c → getD (set w c s) i 0 ≡ getD w i 0
-      old i l = getD-set-other w c i s 0 (λ q. omega arith)
+      before : (i : ℕ) → i < c → getD (set w c s) i 0 ≡ getD w i 0
+      before i l = getD-set-other w c i s 0 (λ q. omega arith)
 
       small-at : (i : ℕ) → (i ≡ c) ⊎ (i < c) → getD (set w c s) i 0 < s + 1
       small-at i (inl q) = omega (arith, ap (λ j. getD (set w c s) j 0) q ∙ new)
-      small-at i (inr l) = omega (arith, old i l, g .small i l)
+      small-at i (inr l) = omega (arith, before i l, g .small i l)
 
       more : (p : ℕ) → isMember (set w c s) (c + 1) p ≡ (eqb s p || isMember w c p)
       more p =
           ap (λ j. isMember (set w c s) j p) (add-one c) ∙ member-more (set w c s) c p
-          ∙ ap₂ (λ x b. eqb x p || b) new (member-ext (set w c s) w c p old)
+          ∙ ap₂ (λ x b. eqb x p || b) new (member-ext (set w c s) w c p before)
 
       holds-at : (p : ℕ) → (p ≡ s) ⊎ (p < s) → isMember (set w c s) (c + 1) p ≡ ok p
       holds-at p (inl q) = more p ∙ or-intro-left (isMember w c p) (eq-eqb s p (sym q)) ∙ sym (ap ok q ∙ t)
       holds-at p (inr l) = more p ∙ ap (λ b. b || isMember w c p) (ne-eqb s p (λ q. omega arith)) ∙ g .holds p l
 
-  pub gathered-not : ok s ≡ false → (v : List ℕ) (k : ℕ) → v ≡ w → k ≡ c → Gathered ok (s + 1) k v
+  pub gathered-not : ok s ≡ false → (v : List ℕ) (k : ℕ) → v ≡ w → k ≡ c → Gathered ok old (s + 1) k v
   gathered-not f v k e r =
       rw (e, r) (record {
         size = g .size;
         few = omega (arith, g .few);
+        count = g .count ∙ sym (ap length (passing-without ok s f));
+        listed = g .listed ∙ sym (ap (λ l. l ++ drop c old) (passing-without ok s f));
         small = λ i l. omega (arith, g .small i l);
         holds = λ p l. holds-at p (last-or-before s p l);
       })
@@ -220,13 +248,23 @@ pub present-false : (mem : List ℕ) (i s : ℕ) → (bitAnd (getD mem (i * beli
 unfolding inBelief
 present-false mem i s ne = sym (bit-test (getD mem (i * beliefSize + s / 8) 0) (s % 8)) ∙ ne-eqb _ 1 ne
 
-pub gathered-all : (mem : List ℕ) (i n : ℕ) {s c : ℕ} {w : List ℕ} → Gathered (inBelief mem i) s c w → s ≡ n → n ≤ stateLimit
-    → Members n w c × (beliefOf n w c ≡ beliefIn n mem i)
+pub gathered-all : (mem : List ℕ) (i n : ℕ) {old : List ℕ} {s c : ℕ} {w : List ℕ} → Gathered (inBelief mem i) old s c w → s ≡ n → n ≤ stateLimit
+    → (c ≡ length (membersOf n (beliefIn n mem i))) × ((w ≡ written (membersOf n (beliefIn n mem i)) old)
+    × (Members n w c × (beliefOf n w c ≡ beliefIn n mem i)))
 unfolding beliefOf itemIn inBelief
-gathered-all mem i n {s} {c} {w} g e h = (
-  record { fits = omega (arith, g .few, g .size); small = λ j l. omega (arith, g .small j l) },
-  tabulate-ext n _ _ (λ p l. g .holds p (omega arith)),
-)
+gathered-all mem i n {old} {s} {c} {w} g e h =
+    let same : passing (inBelief mem i) s ≡ membersOf n (beliefIn n mem i) =
+    ap (passing (inBelief mem i)) e ∙ passing-ext _ _ n (λ p l. sym (getD-tabulate n (inBelief mem i) p false l)) in
+    let count : c ≡ length (membersOf n (beliefIn n mem i)) = g .count ∙ ap length same in (
+      count,
+      (
+        g .listed ∙ ap₂ (λ l k. l ++ drop k old) same count,
+        (
+          record { fits = omega (arith, g .few, g .size); small = λ j l. omega (arith, g .small j l) },
+          tabulate-ext n _ _ (λ p l. g .holds p (omega arith)),
+        ),
+      ),
+    )
 
 -- `is_final`
 low-bit : (x : ℕ) → bit x 0 ≡ eqb (bitAnd x 1) 1

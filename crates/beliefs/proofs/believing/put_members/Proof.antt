@@ -13,7 +13,7 @@ use Rattle.beliefs.proofs.believing.put_members.Statement.{statement}
 use Rattle.beliefs.proofs.believing.put_members.Tie as tie
 
 abbrev Inv-loop : tie.InvT-loop
-Inv-loop mem i n members₀ at c₀ s₀ members c s = (s ≤ n) × Gathered (inBelief mem i) s c members
+Inv-loop mem i n members₀ at c₀ s₀ members c s = (s ≤ n) × Gathered (inBelief mem i) members₀ s c members
 
 abbrev μ-loop : tie.MeasureT-loop
 μ-loop mem i n members₀ at c₀ s₀ members c s = n - s
@@ -60,7 +60,7 @@ loop-again c =
     let mem = a .mem .now in
     let inside : l .s < stateLimit = omega arith in (
       omega arith,
-      ⊎-elim (λ w. gathered-there (l .inv .1) inside (present-true mem (a .i) (l .s) (w .0 .taken)) _ _ (w .1) (w .2))
+      ⊎-elim (λ w. gathered-there (l .inv .1) inside (c .before .before .before .before .pre .1 .1) (present-true mem (a .i) (l .s) (w .0 .taken)) _ _ (w .1) (w .2))
           (λ w. gathered-not (l .inv .1) (present-false mem (a .i) (l .s) (w .0 .left)) _ _ (w .1) (w .2)) (c .if1 .came),
     )
 

@@ -19,7 +19,7 @@ is-final-requires : tie.Need-is-final-requires
 is-final-requires c κs =
     let s = c .before .before .before .before .before .before .before .before .before in
     members-fewer (s .args .n) (length (s .args .sets .now) / setSize) _ _ (omega (arith, s .pre .0))
-    (c .before .before .before .put-members .ensures .0)
+    (c .before .before .before .put-members .ensures .1 .1 .0)
 
 cast-finals : tie.Need-cast-finals
 cast-finals c = search needs
@@ -37,7 +37,19 @@ returns : tie.Need-returns
 returns c =
     let a = c .before .before .before .before .before .before .before .before .before .before .args in
     let listed = c .before .before .before .before .put-members .ensures in
-    (listed .0, (listed .1, ap (set (a .finals .now) (a .i)) (mark-is (a .sets .now) _ (a .n) _ _ _ (listed .0) (listed .1) (c .is-final .ensures))))
+    let are = listed .1 .1 in (
+      listed .0,
+      (
+        listed .1 .0,
+        (
+          are .0,
+          (
+            are .1,
+            ap (set (a .finals .now) (a .i)) (mark-is (a .sets .now) _ (a .n) _ _ _ (are .0) (are .1) (c .is-final .ensures)),
+          ),
+        ),
+      ),
+    )
 
 pub mark-belief-spec : {M : Type 1} → statement M
 mark-belief-spec =

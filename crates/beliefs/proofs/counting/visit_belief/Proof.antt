@@ -20,7 +20,7 @@ expand-belief-requires c κs =
     .before .pre .1 in
     let q = p .1 .1 .1 .1 in
     let r = q .1 .1 .1 .1 in
-    let made = c .before .before .before .before .before .before .before .mark-belief .ensures in (
+    let made = c .before .before .before .before .before .before .before .mark-belief .ensures .1 .1 in (
       p .0,
       (
         p .1 .0,
@@ -70,7 +70,7 @@ same-length-4 c = search needs
 returns : tie.Need-returns
 returns c =
     let made = c .before .before .before .before .before .before .before .before .before .before .before .before .before
-    .before .mark-belief .ensures in
+    .before .mark-belief .ensures .1 .1 in
     let tried = same-belief _ _ _ _ _ _ _ _ _ _ _ (made .1 .0) (c .before .before .before .before .before .before .expand-belief .ensures) in
     (tried .0, (tried .1, made .1 .1))
 
