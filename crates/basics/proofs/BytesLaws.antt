@@ -2,19 +2,34 @@
 -- Assumes nothing.
 use Prim.Native.Nat.{ℕ, suc, _+_, _≤_, _<_, zero}
 use native.Mathlib.Numerals.{add-one}
-use mathlib.Core.Path.{_≡_, refl, ap}
+use mathlib.Core.Path.{_≡_, refl, ap, ap₂}
 use mathlib.Core.Bool.{Bool, true, false, _&&_}
 use mathlib.Core.List.{List, [], _∷_}
-use borrow.Author.Tests.{eq-eqb, ne-eqb}
+use borrow.Author.Tests.{eq-eqb, ne-eqb, eqb-true}
 use lib.Dec.{eqb}
 use lib.ListN.{length, drop, getD, drop-of-length-le, length-drop}
 use lib.Seq.{drop-cons}
 use Rattle.basics.specs.Bytes.{sameBytes, run, past}
+use Rattle.basics.proofs.Booleans.{and-left, and-right, clash}
 use native.Mathlib.Omega.{arith}
 
 and-false : (b : Bool) → (b && false) ≡ false
 and-false true = refl
 and-false false = refl
+
+-- strings that are tested equal are equal
+pub same-bytes : (a b : List ℕ) → sameBytes a b ≡ true → a ≡ b
+unfolding sameBytes
+same-bytes [] [] e = refl
+same-bytes [] (y ∷ b) e = clash e refl
+same-bytes (x ∷ a) [] e = clash e refl
+same-bytes (x ∷ a) (y ∷ b) e =
+    ap₂ (λ z l. z ∷ l) (eqb-true x y (and-left (eqb x y) (sameBytes a b) e)) (same-bytes a b (and-right (eqb x y) (sameBytes a b) e))
+
+pub same-refl : (a : List ℕ) → sameBytes a a ≡ true
+unfolding sameBytes
+same-refl [] = refl
+same-refl (x ∷ a) = rw (eq-eqb x x refl) (same-refl a)
 
 pub lengths-differ : (a b : List ℕ) → (length a ≡ length b → ⊥) → sameBytes a b ≡ false
 unfolding sameBytes

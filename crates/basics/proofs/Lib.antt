@@ -18,6 +18,7 @@ pub mod ReachLaws
 pub mod SameSearch
 pub mod GrowingList
 pub mod BreadthFirst
+pub mod FirstMet
 -- bytes and text
 pub mod BytesLaws
 pub mod TextLaws

@@ -1,12 +1,13 @@
 -- Membership, and lists without repeats.
 -- Assumes nothing.
-use Prim.Native.Nat.{ℕ, zero, suc, _≤_, _<_}
+use Prim.Native.Nat.{ℕ, zero, suc, _≤_, _<_, suc-le-suc}
 use native.Mathlib.Nat.{not-suc-le-zero, le-of-suc-le-suc}
+use native.Mathlib.Decide.{decLt}
 use native.Mathlib.Omega.{arith}
 use mathlib.Core.Path.{_≡_, refl, sym, ap, _∙_, subst}
 use mathlib.Core.Logic.{_↔_, _⊎_, inl, inr}
 use mathlib.Core.List.{List, [], _∷_, _++_, List·Memᴰ·head, List·Memᴰ·tail, List·Memᴰ·not-nil, List·Memᴰ·cases-cons, Memᴰ·cast, List·Memᴰ·append-cases, List·Memᴰ·eq-of-singleton}
-use lib.ListN.{length, getD, take}
+use lib.ListN.{length, getD, set, take}
 use Rattle.basics.specs.Lists.{tabulate, below}
 use Rattle.basics.proofs.ListsLaws.{length-tabulate, getD-tabulate}
 use Rattle.basics.specs.Member.{_∈_, Distinct, distinct-nil, distinct-cons}
@@ -38,6 +39,14 @@ in-tabulate {A = A} n f x = (to, from)
 pub in-below : (n i : ℕ) → (i ∈ below n) ↔ (i < n)
 in-below n i = (λ m. let r = in-tabulate n (λ k. k) i .0 m in subst (λ k. k < n) (r .2) (r .1), λ h. in-tabulate n (λ k. k) i .1 (i, h, refl))
 
+-- an entry of a list with one entry put in place
+pub in-set : {A : Type 0} {x y : A} (xs : List A) (i : ℕ) → x ∈ set xs i y → (x ≡ y) ⊎ (x ∈ xs)
+in-set [] i m = inr m
+in-set (z ∷ xs) zero (List·Memᴰ·head e) = inl e
+in-set (z ∷ xs) zero (List·Memᴰ·tail m) = inr (List·Memᴰ·tail m)
+in-set (z ∷ xs) (suc i) (List·Memᴰ·head e) = inr (List·Memᴰ·head e)
+in-set (z ∷ xs) (suc i) (List·Memᴰ·tail m) = elim (in-set xs i m) [ inl e ↦ inl e | inr k ↦ inr (List·Memᴰ·tail k) ]
+
 module _ {A : Type 0} where
   pub distinct-snoc : {xs : List A} (x : A) → Distinct xs → ¬ (x ∈ xs) → Distinct (xs ++ (x ∷ []))
   distinct-snoc x distinct-nil n = distinct-cons (λ m. List·Memᴰ·not-nil m) distinct-nil
@@ -58,6 +67,32 @@ module _ {A : Type 0} where
   distinct-take zero d = distinct-nil
   distinct-take (suc n) distinct-nil = distinct-nil
   distinct-take (suc n) (distinct-cons {xs = ys} fresh d) = distinct-cons (λ m. fresh (in-take n ys m)) (distinct-take n d)
+
+  -- its entries differ ..
+  pub distinct-at : {xs : List A} → Distinct xs → (i j : ℕ) (e : A) → i < j → j < length xs → getD xs i e ≡ getD xs j e → ⊥
+  distinct-at distinct-nil i j e h l p = absurd (omega arith)
+  distinct-at (distinct-cons fresh d) zero zero e h l p = absurd (omega arith)
+  distinct-at (distinct-cons {xs = xs} fresh d) zero (suc j) e h l p = fresh (Memᴰ·cast p (getD-in xs j e (le-of-suc-le-suc l)))
+  distinct-at (distinct-cons fresh d) (suc i) zero e h l p = absurd (omega arith)
+  distinct-at (distinct-cons fresh d) (suc i) (suc j) e h l p = distinct-at d i j e (le-of-suc-le-suc h) (le-of-suc-le-suc l) p
+
+  pub distinct-index : {xs : List A} → Distinct xs → (i j : ℕ) (e : A) → i < length xs → j < length xs → getD xs i e ≡ getD xs j e → i ≡ j
+  distinct-index d i j e ib jb p =
+      elim (decLt i j) [
+        | yes l ↦ absurd (distinct-at d i j e l jb p)
+        | no k ↦ elim (decLt j i) [ yes l ↦ absurd (distinct-at d j i e l ib (sym p)) | no m ↦ omega arith ]
+      ]
+
+  -- .. and a list of different entries is one
+  pub distinct-tabulate : (n : ℕ) (f : ℕ → A) → ((i j : ℕ) → i < n → j < n → f i ≡ f j → i ≡ j) → Distinct (tabulate n f)
+  distinct-tabulate zero f one = distinct-nil
+  distinct-tabulate (suc n) f one =
+      distinct-cons
+      (λ m.
+      let (i, h, e) = in-tabulate n (λ k. f (suc k)) (f 0) .0 m in
+      let z : 0 ≡ suc i = one 0 (suc i) (omega arith) (suc-le-suc h) (sym e) in
+      absurd (omega arith))
+      (distinct-tabulate n (λ k. f (suc k)) (λ i j h l p. let z = one (suc i) (suc j) (suc-le-suc h) (suc-le-suc l) p in omega arith))
 
   -- ---- a list without repeats is no longer than one that holds all its entries
 

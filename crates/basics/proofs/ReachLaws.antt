@@ -16,7 +16,7 @@ use Rattle.basics.specs.Member.{_∈_, Distinct, distinct-nil, distinct-
 use Rattle.basics.specs.Reach.{Listing, closed, over, isIn, addNew, addAll, explore, reachable, Reached, reached-first, reached-step, Enumerates, AtLeast, Spelled, indexIn}
 use Rattle.basics.proofs.MemberLaws.{index-of, getD-in, distinct-snoc, in-take, distinct-take, distinct-length-le}
 
-cond-elim : {A : Type 0} (P : A → Type 0) (b : Bool) (x y : A) → (b ≡ true → P x) → (b ≡ false → P y) → P (cond b x y)
+pub cond-elim : {A : Type 0} (P : A → Type 0) (b : Bool) (x y : A) → (b ≡ true → P x) → (b ≡ false → P y) → P (cond b x y)
 cond-elim P true x y f g = f refl
 cond-elim P false x y f g = g refl
 

@@ -1,12 +1,11 @@
 -- Places that are apart: one alone can hold given bytes. The search for all beliefs keeps its places so.
 -- Assumes nothing.
-use Prim.Native.Nat.{ℕ, zero, suc, _+_, _*_, _≤_, _<_}
-use native.Mathlib.Nat.{le-of-suc-le-suc}
+use Prim.Native.Nat.{ℕ, _+_, _*_, _≤_, _<_}
 use native.Mathlib.Omega.{arith}
 use mathlib.Core.Path.{_≡_, sym, _∙_, subst}
 use mathlib.Core.Logic.{inl, inr}
 use mathlib.Core.Bool.{Bool, true, false}
-use mathlib.Core.List.{List, [], Memᴰ·cast, List·Memᴰ·not-nil}
+use mathlib.Core.List.{List, [], List·Memᴰ·not-nil}
 use lib.ListN.{length, getD}
 use Rattle.basics.specs.Says.{Says}
 use Rattle.search.specs.declared.searching.Explored.the-variants.{Found}
@@ -18,7 +17,7 @@ use Rattle.search.specs.ReachableSets.{sameSet}
 use Rattle.search.specs.Slots.{itemsIn, withItem, sameSlot, countUpTo, ExpandedItems}
 use Rattle.basics.specs.Successors.{grownOver}
 use Rattle.search.proofs.KeptItems.{count-found}
-use Rattle.basics.proofs.MemberLaws.{getD-in}
+use Rattle.basics.proofs.MemberLaws.{distinct-at}
 use Rattle.basics.proofs.BoundedLaws.{agree-at, agree-all, first-is}
 use Rattle.basics.proofs.ReachLaws.{added-all}
 use Rattle.search.proofs.ReachableSetsLaws.{sameSet-says}
@@ -51,14 +50,6 @@ pub distinct-next : (n limit : ℕ) (f : List Bool → ℕ → List Bool) (steps
 distinct-next n limit f steps xs s m row mem row′ d e z =
     let (few, is) = count-found limit (grownOver sameSet f steps xs s) m e in
     subst (λ k. Distinct (beliefsIn n mem k)) (sym is) (subst Distinct (sym (z .items-in few)) (distinct-grown f steps xs s d))
-
--- entries of such a list differ
-distinct-at : {A : Type 0} {xs : List A} → Distinct xs → (i j : ℕ) (e : A) → i < j → j < length xs → getD xs i e ≡ getD xs j e → ⊥
-distinct-at distinct-nil i j e h l p = absurd (omega arith)
-distinct-at (distinct-cons {xs = xs} fresh d) zero zero e h l p = absurd (omega arith)
-distinct-at (distinct-cons {xs = xs} fresh d) zero (suc j) e h l p = fresh (Memᴰ·cast p (getD-in xs j e (le-of-suc-le-suc l)))
-distinct-at (distinct-cons {xs = xs} fresh d) (suc i) zero e h l p = absurd (omega arith)
-distinct-at (distinct-cons {xs = xs} fresh d) (suc i) (suc j) e h l p = distinct-at d i j e (le-of-suc-le-suc h) (le-of-suc-le-suc l) p
 
 -- ---- places
 

@@ -1,17 +1,18 @@
--- What the solver claims of a table, carried to printer and cabinet.
+-- What the solver promises of a table, carried to printer and cabinet.
 -- Assumes nothing.
 use Prim.Native.Nat.{ℕ, _*_, _^_, _≤_, _<_}
 use native.Mathlib.Omega.{arith}
 use mathlib.Core.Path.{_≡_, sym, subst}
 use mathlib.Core.Bool.{true}
-use mathlib.Core.List.{List}
+use mathlib.Core.List.{List, [], _∷_}
 use lib.ListN.{length, take}
 use borrow.Author.Tests.{le-ltb}
+use Rattle.lines.specs.Refusal.{values}
 use Rattle.rules.specs.Denotes.{Denotes}
 use Rattle.rules.specs.Problem.{Problem}
 use Rattle.rules.proofs.DenotesLaws.{read-iff-denotes, one-problem}
-use Rattle.rules.proofs.WithinLimits.{Few, read-within}
-use Rattle.game.specs.declared.solving.Solved.the-variants.{Table}
+use Rattle.rules.specs.Within.{Few}
+use Rattle.rules.proofs.WithinLimits.{read-within}
 use Rattle.play.specs.Limits.{beliefLimit}
 use Rattle.play.specs.Cells.{rowSize}
 use Rattle.tables.specs.declared.shape.Shape.{Shape}
@@ -19,7 +20,8 @@ use Rattle.play.specs.Game.{Play}
 use Rattle.play.specs.Table.{tableStrategy, Laid}
 use Rattle.play.specs.Answer.{Solves}
 use Rattle.game.specs.Solution.{gameOf}
-use Rattle.game.specs.Claim.{Claim}
+use Rattle.game.specs.Claim.{Controller, SolvedAs}
+use Rattle.game.proofs.SolvedAsCases.{due-table}
 use Rattle.cabinet.specs.declared.position.Position.{Position}
 use Rattle.cabinet.specs.declared.printing.Printed.the-variants.{Text}
 use Rattle.printer.specs.Limits.{textSize}
@@ -31,20 +33,23 @@ use Rattle.printer.proofs.WellFormedLaws.{side-le}
 use Rattle.cabinet.proofs.LaidRows.{printable}
 use Rattle.cabinet.proofs.RunningLaws.{runs}
 
-module _ (source : List ℕ) (shape : Shape) (r : ℕ) (table : List ℕ) (claim : Claim source (Table shape r) table) (p : Problem)
+module _ (work room : ℕ) (source : List ℕ) (shape : Shape) (r : ℕ) (table : List ℕ)
+    (due : SolvedAs work room source (values (shape .rows ∷ shape .observed ∷ r ∷ [])) (take (shape .rows * rowSize) table)) (p : Problem)
     (denotes : Denotes source p) where
-  -- the claim, told of the problem that the text denotes
+  -- what is due, told of the problem that the text denotes
   abbrev Told : Problem → Type 0
-  Told q = (shape .observed ≡ q .signals .observed) × Solves beliefLimit (gameOf q) (shape .rows) r (take (shape .rows * rowSize) table)
+  Told q = (shape .observed ≡ q .signals .observed) × Controller q (shape .rows) r (take (shape .rows * rowSize) table)
 
   told : Told p
-  told = let (q, d, small, o, s) = claim in subst Told (one-problem source q p d denotes) (o, s)
+  told =
+      let (q, d, o, c) = due-table work room source (shape .rows) (shape .observed) r (take (shape .rows * rowSize) table) due in
+      subst Told (one-problem source q p d denotes) (o, c)
 
   declared : shape .observed ≡ p .signals .observed
   declared = told .0
 
   solves : Solves beliefLimit (gameOf p) (shape .rows) r (take (shape .rows * rowSize) table)
-  solves = told .1
+  solves = told .1 .solves
 
   few : Few (p .signals)
   few = read-within source p (read-iff-denotes source p .1 denotes) .few

@@ -1,6 +1,7 @@
 -- the calls
 pub mod PrintLaws
 pub mod PositionLaws
+pub mod AnswersDue
 pub mod ResponseLaws
 -- a table that the solver claims, printed and run
 pub mod LaidRows

@@ -1,34 +1,66 @@
 -- The theorems of this crate. Assumes nothing.
 use Prim.Native.Nat.{ℕ, _*_, _≤_}
 use mathlib.Core.Path.{_≡_}
-use mathlib.Core.List.{List}
+use mathlib.Core.Logic.{_↔_}
+use mathlib.Core.List.{List, [], _∷_}
 use lib.ListN.{length, take}
+use Rattle.lines.specs.Refusal.{Told, values}
 use Rattle.rules.specs.Denotes.{Denotes}
 use Rattle.rules.specs.Problem.{Problem}
-use Rattle.game.specs.declared.solving.Solved.the-variants.{Table}
 use Rattle.play.specs.Cells.{rowSize}
 use Rattle.tables.specs.declared.shape.Shape.{Shape}
 use Rattle.play.specs.Game.{Play}
 use Rattle.play.specs.Table.{tableStrategy}
 use Rattle.game.specs.Solution.{gameOf}
-use Rattle.game.specs.Claim.{Claim}
+use Rattle.game.specs.Claim.{SolvedAs}
 use Rattle.cabinet.specs.declared.position.Position.{Position}
 use Rattle.cabinet.specs.declared.printing.Printed.the-variants.{Text}
 use Rattle.printer.specs.Limits.{textSize}
 use Rattle.printer.specs.Text.{tableText}
-use Rattle.cabinet.specs.Print.{printedBy}
+use Rattle.cabinet.specs.Position.{startOf, stepOf, toldAnswer, StartedAs, SteppedAs}
+use Rattle.cabinet.specs.Print.{printedBy, bytesBy, toldPrinted, PrintedAs}
+use Rattle.cabinet.specs.Response.{respondedBy, bytesFor, RespondedAs}
 use Rattle.cabinet.specs.Running.{answerTo, Runs}
+use Rattle.cabinet.proofs.ResponseLaws
+use Rattle.cabinet.proofs.AnswersDue
 use Rattle.cabinet.proofs.ClaimedTable
 
--- of a table that the solver gives (`Claim` is what its contract says of it), for the problem p that the text denotes
-module _ (source : List ℕ) (shape : Shape) (r : ℕ) (table : List ℕ) (claim : Claim source (Table shape r) table) (p : Problem)
+-- ---- DEMAND 1 at the desk: for all lent memory the answers, in document 01's terms, and what is left are exactly those that are due, by the
+-- cases of `RespondedAs`, `PrintedAs`, `StartedAs` and `SteppedAs`
+
+-- the whole desk, from a problem's bytes to the bytes that are written: 12, or the text of the answer that is due to the problem
+pub responding : (work table text : ℕ) (source : List ℕ) (a : Told) (bytes : List ℕ)
+    → ((toldPrinted (respondedBy work table text source) ≡ a) × (bytesFor work table text source ≡ bytes)) ↔ RespondedAs work table text source a bytes
+responding = ResponseLaws.respond-iff
+
+-- printing: 12, 13, or the table's text
+pub printing : (t : List ℕ) (shape : Shape) (worst room : ℕ) (a : Told) (bytes : List ℕ)
+    → ((toldPrinted (printedBy t shape worst room) ≡ a) × (bytesBy t shape worst room ≡ bytes)) ↔ PrintedAs t shape worst room a bytes
+printing = AnswersDue.print-iff
+
+-- the start: 13, or row 0 and its choice
+pub starting : (t : List ℕ) (shape : Shape) (old : Position) (a : Told) (p : Position)
+    → ((toldAnswer (startOf t shape old .answer) ≡ a) × (startOf t shape old .position ≡ p)) ↔ StartedAs t shape old a p
+starting = AnswersDue.start-iff
+
+-- a step: 13, 14, 15 in this order, or the next row for the observation and its choice
+pub stepping : (t : List ℕ) (shape : Shape) (observation : ℕ) (old : Position) (a : Told) (p : Position)
+    → ((toldAnswer (stepOf t shape observation old .answer) ≡ a) × (stepOf t shape observation old .position ≡ p))
+    ↔ SteppedAs t shape observation old a p
+stepping = AnswersDue.step-iff
+
+-- ---- DEMAND 3 carried to the desk
+
+-- of a table that the solver gives (`SolvedAs` is what its contract says of it), for the problem p that the text denotes
+module _ (work room : ℕ) (source : List ℕ) (shape : Shape) (r : ℕ) (table : List ℕ)
+    (due : SolvedAs work room source (values (shape .rows ∷ shape .observed ∷ r ∷ [])) (take (shape .rows * rowSize) table)) (p : Problem)
     (denotes : Denotes source p) where
-  -- demand 3 carried to the running cabinet: started at any old position and stepped with the observations of any play, it makes the
+  -- the running cabinet: started at any old position and stepped with the observations of any play, it makes the
   -- strategy's choices, is refused nothing, and stops within the worst case with the formula true of the trace
   pub running : (old : Position) (play : Play (gameOf p))
       → Runs (gameOf p) (tableStrategy (take (shape .rows * rowSize) table)) r (answerTo table shape old) play
-  running = ClaimedTable.running source shape r table claim p denotes
+  running = ClaimedTable.running work room source shape r table due p denotes
 
   -- printing it into enough room is never refused
-  pub printing : (room : ℕ) → textSize ≤ room → printedBy table shape r room ≡ Text (length (tableText table shape r))
-  printing = ClaimedTable.printing source shape r table claim p denotes
+  pub printed : (room : ℕ) → textSize ≤ room → printedBy table shape r room ≡ Text (length (tableText table shape r))
+  printed = ClaimedTable.printing work room source shape r table due p denotes

@@ -17,26 +17,32 @@ use Rattle.cabinet.specs.declared.printing.Printed.the-variants.{Text, R
 use Rattle.printer.specs.Limits.{textSize}
 use Rattle.printer.specs.WellFormed.{isPrintable}
 use Rattle.printer.specs.Text.{tableText}
-use Rattle.cabinet.specs.Print.{printedBy, textAfter}
+use Rattle.cabinet.specs.Print.{printedBy, bytesBy, textAfter, toldPrinted, usedText, PrintedAs}
+use Rattle.cabinet.proofs.AnswersDue.{print-told}
 use Rattle.printer.proofs.WellFormedLaws.{printable-says}
 use Rattle.printer.proofs.TextLaws.{text-fits}
 
 module _ (t : List ℕ) (shape : Shape) (worst : ℕ) (text : List ℕ) where
   -- the answer r, with the text left as `after`, is what the call promises
   abbrev pub Prints : Printed → List ℕ → Type 0
-  Prints r after = (r ≡ printedBy t shape worst (length text)) × (after ≡ textAfter t shape worst text)
+  Prints r after =
+      (r ≡ printedBy t shape worst (length text))
+      × ((after ≡ textAfter t shape worst text) × PrintedAs t shape worst (length text) (toldPrinted r) (usedText r after))
+
+  prints : (r : Printed) (after : List ℕ) → r ≡ printedBy t shape worst (length text) → after ≡ textAfter t shape worst text → Prints r after
+  prints r after p q = (p, (q, print-told t shape worst text r after (p, q)))
 
   pub print-short : length text < textSize → Prints (Refused ShortMemory) text
-  unfolding printedBy textAfter
-  print-short h = let short = lt-ltb (length text) textSize h in (rw short refl, rw short refl)
+  unfolding printedBy bytesBy
+  print-short h = let short = lt-ltb (length text) textSize h in prints (Refused ShortMemory) text (rw short refl) (rw short refl)
 
   module _ (h : textSize ≤ length text) (a : Bool) (e : a ≡ isPrintable t shape worst) where
     pub print-refused : not a ≡ true → Prints (Refused BadTable) text
-    unfolding printedBy textAfter
+    unfolding printedBy bytesBy
     print-refused f =
         let room = le-ltb (length text) textSize h in
         let fails : isPrintable t shape worst ≡ false = sym e ∙ not-true a f in
-        (rw (room, fails) refl, rw (room, fails) refl)
+        prints (Refused BadTable) text (rw (room, fails) refl) (rw (room, fails) refl)
 
     module _ (f : not a ≡ false) where
       passes : isPrintable t shape worst ≡ true
@@ -50,7 +56,7 @@ module _ (t : List ℕ) (shape : Shape) (worst : ℕ) (text : List ℕ) where
 
       pub print-done : (n : ℕ) (after : List ℕ) → n ≡ length (tableText t shape worst) → after ≡ written (tableText t shape worst) text
           → Prints (Text n) after
-      unfolding printedBy textAfter
+      unfolding printedBy bytesBy
       print-done n after p q =
           let room = le-ltb (length text) textSize h in
-          (rw (room, passes) (ap Text p), rw (room, passes) q)
+          prints (Text n) after (rw (room, passes) (ap Text p)) (rw (room, passes) q)

@@ -1,36 +1,40 @@
 -- What is written for a problem's text, from what the calls below answer.
 -- Assumes nothing.
-use Prim.Native.Nat.{ℕ, _+_, _*_, _≤_}
+use Prim.Native.Nat.{ℕ, _+_, _*_, _≤_, _<_}
 use native.Mathlib.Omega.{arith}
 use mathlib.Core.Path.{_≡_, refl, sym, ap, _∙_, subst}
-use mathlib.Core.Logic.{inl, inr}
+use mathlib.Core.Logic.{_↔_, _⊎_, inl, inr}
 use mathlib.Core.Bool.{true, false}
-use mathlib.Core.List.{List}
+use mathlib.Core.List.{List, [], _∷_}
 use lib.Dec.{ltb}
 use lib.ListN.{length, take, drop, length-take, length-append}
 use lib.Seq.{take-take, take-at}
-use borrow.Author.Tests.{ltb-false}
+use borrow.Author.Tests.{ltb-true, ltb-false, lt-ltb}
 use Rattle.lines.specs.declared.refusal.Refusal.{Refusal}
 use Rattle.lines.specs.declared.refusal.Refusal.the-variants.{ShortMemory}
-use Rattle.rules.specs.Problem.{readProblem}
+use Rattle.lines.specs.Refusal.{Told, values, refused}
+use Rattle.rules.specs.Denotes.{Denotes}
+use Rattle.rules.specs.Problem.{Problem, readProblem}
 use Rattle.basics.proofs.Booleans.{or-left, or-right, test, clash, or-cases}
 use Rattle.game.specs.declared.solving.Solved.{Solved}
 use Rattle.game.specs.declared.solving.Solved.the-variants as solved
 use Rattle.play.specs.Limits.{beliefLimit}
-use Rattle.play.specs.Cells.{rowSize}
+use Rattle.play.specs.Cells.{rowSize, tableSize}
+use Rattle.rules.specs.Limits.{workSize}
 use Rattle.tables.specs.declared.shape.Shape.{Shape}
 use Rattle.basics.specs.Lists.{written}
-use Rattle.play.specs.Answer.{Solves}
-use Rattle.game.specs.Solution.{gameOf}
-use Rattle.game.specs.Claim.{isShort, solvedFrom, solvedBy, cellsFrom, tableAfter, workAfter, Claim}
-use Rattle.game.proofs.ClaimLaws.{cells-count}
+use Rattle.basics.specs.Says.{Says}
+use Rattle.basics.proofs.SaysLaws.{says-or}
+use Rattle.game.specs.Claim.{isShort, solvedFrom, solvedBy, toldSolved, cellsFrom, cellsBy, tableAfter, workAfter, usedRows, Controller, Short, SolvedAs}
+use Rattle.game.proofs.ClaimLaws.{short-says, not-short, due-read, answered-iff, Counted, due-counted, same-solved}
+use Rattle.game.proofs.SolvedAsCases.{due-table}
 use Rattle.cabinet.specs.declared.printing.Printed.{Printed}
 use Rattle.cabinet.specs.declared.printing.Printed.the-variants.{Text, Refused}
 use Rattle.printer.specs.Limits.{textSize}
 use Rattle.printer.specs.WellFormed.{isPrintable}
 use Rattle.printer.specs.Text.{tableText, refusalText}
-use Rattle.cabinet.specs.Print.{printedBy, textAfter}
-use Rattle.cabinet.specs.Response.{response, isTight, respondedBy, responseAfter, respondedTable, respondedWork}
+use Rattle.cabinet.specs.Print.{printedBy, bytesBy, textAfter, toldPrinted, usedText}
+use Rattle.cabinet.specs.Response.{solvedText, response, isTight, respondedBy, bytesFor, responseAfter, respondedTable, respondedWork, RespondedAs, short-memory, answered}
 use Rattle.cabinet.proofs.ClaimedTable.{passes}
 
 -- the whole call: its answer, and what it leaves in text, table and work memory
@@ -38,18 +42,24 @@ abbrev Responded : (source work table text : List ℕ) → Printed → (text′ 
 Responded source work table text r text′ table′ work′ =
     (r ≡ respondedBy (length work) (length table) (length text) source) × (text′ ≡ responseAfter (length work) (length table) source text)
     × (table′ ≡ respondedTable (length work) (length text) source table) × (work′ ≡ respondedWork (length table) (length text) work)
+    × RespondedAs (length work) (length table) (length text) source (toldPrinted r) (usedText r text′)
+
+tight-says : (work table text : ℕ) → Says (isTight work table text) (Short work table ⊎ (text < textSize))
+tight-says work table text = says-or (short-says work table) (ltb-true text textSize, lt-ltb text textSize)
 
 -- memory that is too short
 pub tight-right : (source work table text : List ℕ) → isTight (length work) (length table) (length text) ≡ true
     → Responded source work table text (Refused ShortMemory) text table work
-unfolding respondedBy responseAfter respondedTable respondedWork tableAfter workAfter
+unfolding respondedBy bytesFor responseAfter respondedTable respondedWork cellsBy workAfter
 tight-right source work table text e =
+    let due : RespondedAs (length work) (length table) (length text) source (refused 12 0) [] =
+    short-memory (tight-says (length work) (length table) (length text) .0 e) in
     elim (test (ltb (length text) textSize)) [
-      | inl t ↦ rw (e, t) (refl, refl, refl, refl)
+      | inl t ↦ rw (e, t) (refl, refl, refl, refl, due)
       | inr f ↦
           let short : isShort (length work) (length table) ≡ true =
           elim (or-cases (isShort (length work) (length table)) (ltb (length text) textSize) e) [ inl s ↦ s | inr t ↦ clash t f ] in
-          rw (e, f, short) (refl, refl, refl, refl)
+          rw (e, f, short) (refl, refl, refl, refl, due)
     ]
 
 -- what is written, by cases
@@ -62,6 +72,13 @@ module _ (source : List ℕ) where
       → response source ≡ tableText (cellsFrom (readProblem source)) shape r
   unfolding response
   response-table shape r h = rw h
+
+-- the cells of a table that is answered are those of its rows
+cells-count : (source : List ℕ) (shape : Shape) (r : ℕ) → solvedFrom (readProblem source) ≡ solved.Table shape r
+    → length (cellsFrom (readProblem source)) ≡ shape .rows * rowSize
+cells-count source shape r e =
+    subst (λ z. Counted (toldSolved z) (cellsFrom (readProblem source))) e
+    (due-counted workSize tableSize source _ _ (due-read source workSize tableSize (not-short workSize tableSize refl)))
 
 -- memory that is long enough
 pub text-long : (work table text : ℕ) → isTight work table text ≡ false → textSize ≤ text
@@ -81,13 +98,22 @@ module _ (source work table text : List ℕ) (e : isTight (length work) (length 
   is-solved = answer ∙ rw enough
 
   is-written : table′ ≡ written (cellsFrom (readProblem source)) table
-  unfolding tableAfter
+  unfolding cellsBy
   is-written = rows ∙ rw enough
+
+  -- what is written is the text of the answer that is due
+  response-due : RespondedAs (length work) (length table) (length text) source (values (length (response source) ∷ [])) (response source)
+  unfolding response
+  response-due =
+      answered (λ t. clash (tight-says (length work) (length table) (length text) .1 t) e) (solvedFrom (readProblem source)) (cellsFrom (readProblem source))
+      (due-read source (length work) (length table) (not-short (length work) (length table) enough))
 
   responded : (r : Printed) (text′ : List ℕ) → r ≡ Text (length (response source)) → text′ ≡ written (response source) text
       → Responded source work table text r text′ table′ work′
-  unfolding respondedBy responseAfter respondedTable respondedWork
-  responded r text′ p q = rw (e, long) (p, q, rows, cleared)
+  unfolding respondedBy bytesFor responseAfter respondedTable respondedWork
+  responded r text′ p q =
+      let own = take-at (response source) (drop (length (response source)) text) (length (response source)) refl in
+      rw (e, long) (p, q, rows, cleared, rw (p, q, own) response-due)
 
   -- the text of a refusal
   pub refusal-right : (x : Refusal) → s ≡ solved.Refused x → (r : Printed) (text′ : List ℕ) → r ≡ Text (length (refusalText x)) → text′ ≡ written
@@ -98,7 +124,8 @@ module _ (source work table text : List ℕ) (e : isTight (length work) (length 
       responded r text′ (p ∙ ap (λ l. Text (length l)) (sym is)) (q ∙ ap (λ l. written l text) (sym is))
 
   -- the text of a table: it is one that can be printed
-  module _ (shape : Shape) (r : ℕ) (h : s ≡ solved.Table shape r) (claim : Claim source s table′) where
+  module _ (shape : Shape) (r : ℕ) (h : s ≡ solved.Table shape r)
+      (due : SolvedAs (length work) (length table) source (toldSolved s) (usedRows s table′)) where
     -- how many cells its rows have
     abbrev size : ℕ
     size = shape .rows * rowSize
@@ -106,30 +133,34 @@ module _ (source work table text : List ℕ) (e : isTight (length work) (length 
     is-table : solvedFrom (readProblem source) ≡ solved.Table shape r
     is-table = sym is-solved ∙ h
 
+    table-due : SolvedAs (length work) (length table) source (values (shape .rows ∷ shape .observed ∷ r ∷ [])) (take size table′)
+    table-due = subst (λ z. SolvedAs (length work) (length table) source (toldSolved z) (usedRows z table′)) h due
+
+    controller : (p : Problem) × Denotes source p × (shape .observed ≡ p .signals .observed) × Controller p (shape .rows) r (take size table′)
+    controller = due-table (length work) (length table) source (shape .rows) (shape .observed) r (take size table′) table-due
+
     front : take size table′ ≡ cellsFrom (readProblem source)
     front = ap (take size) is-written ∙ take-at (cellsFrom (readProblem source)) _ size (cells-count source shape r is-table)
 
-    table-claim : Claim source (solved.Table shape r) table′
-    table-claim = subst (λ z. Claim source z table′) h claim
-
-    front-claim : Claim source (solved.Table shape r) (take size table′)
-    front-claim =
-        let (p, d, small, o, s) = table-claim in
-        (p, d, small, o, subst (Solves beliefLimit (gameOf p) (shape .rows) r) (sym (take-take size size table′ (omega arith))) s)
+    front-due : SolvedAs (length work) (length table) source (values (shape .rows ∷ shape .observed ∷ r ∷ [])) (take size (take size table′))
+    front-due =
+        subst (SolvedAs (length work) (length table) source (values (shape .rows ∷ shape .observed ∷ r ∷ []))) (sym (take-take size size table′ (omega arith)))
+        table-due
 
     -- its rows are within the table
     pub few-rows : shape .rows ≤ beliefLimit
-    few-rows = let (p, d, small, o, s) = table-claim in s .within
+    few-rows = let (p, d, o, c) = controller in c .solves .within
 
     pub rows-within : size ≤ length table′
-    rows-within = let (p, d, small, o, s) = table-claim in omega (arith, sym (length-take size table′) ∙ s .laid .long)
+    rows-within = let (p, d, o, c) = controller in omega (arith, sym (length-take size table′) ∙ c .isTable .long)
 
     can-print : isPrintable (take size table′) shape r ≡ true
-    can-print = let (p, d, small, o, s) = front-claim in passes source shape r (take size table′) front-claim p d
+    can-print =
+        let (p, d, o, c) = controller in passes (length work) (length table) source shape r (take size table′) front-due p d
 
     pub table-right : (q : Printed) (text′ : List ℕ) → q ≡ printedBy (take size table′) shape r (length text)
         → text′ ≡ textAfter (take size table′) shape r text → Responded source work table text q text′ table′ work′
-    unfolding printedBy textAfter
+    unfolding printedBy bytesBy
     table-right q text′ p t =
         let is : tableText (take size table′) shape r ≡ response source =
         ap (λ cells. tableText cells shape r) front ∙ sym (response-table source shape r is-table) in
@@ -138,7 +169,7 @@ module _ (source work table text : List ℕ) (e : isTight (length work) (length 
 -- what is written stands in the text
 pub text-within : (source : List ℕ) (work table : ℕ) (text : List ℕ) (r : Printed) (text′ : List ℕ) → r ≡ respondedBy work table (length text) source
     → text′ ≡ responseAfter work table source text → (n : ℕ) → r ≡ Text n → n ≤ length text′
-unfolding respondedBy responseAfter
+unfolding respondedBy bytesFor responseAfter
 text-within source work table text r text′ p q n h =
     elim (test (isTight work table (length text))) [
       | inl t ↦ let e = rw t at p in absurd (no-text ShortMemory n (sym e ∙ h))
@@ -156,3 +187,43 @@ text-within source work table text r text′ p q n h =
 
     same-text : (m n : ℕ) → Text m ≡ Text n → m ≡ n
     same-text m n e = cc
+
+-- ---- what is answered and written is what is due, and what is due is answered and written
+
+module _ (work table text : ℕ) (source : List ℕ) where
+  respond-due : RespondedAs work table text source (toldPrinted (respondedBy work table text source)) (bytesFor work table text source)
+  unfolding respondedBy bytesFor response
+  respond-due =
+      elim (test (isTight work table text)) [
+        | inl t ↦ rw t (short-memory (tight-says work table text .0 t))
+        | inr f ↦
+            rw f (answered (λ t. clash (tight-says work table text .1 t) f) (solvedFrom (readProblem source)) (cellsFrom (readProblem source))
+            (due-read source work table (not-short work table (or-left (isShort work table) (ltb text textSize) f))))
+      ]
+
+  response-is : (s : Solved) (cells : List ℕ) → SolvedAs work table source (toldSolved s) cells → isShort work table ≡ false
+      → response source ≡ solvedText cells s
+  unfolding response solvedBy cellsBy
+  response-is s cells d f =
+      let (a, c) = answered-iff source work table (toldSolved s) cells .1 d in
+      let same : solvedFrom (readProblem source) ≡ s = same-solved (solvedFrom (readProblem source)) s (rw f at a) in
+      let front : cellsFrom (readProblem source) ≡ cells = rw f at c in
+      rw (same, front) refl
+
+  respond-answered : (a : Told) (bytes : List ℕ) → RespondedAs work table text source a bytes
+      → (toldPrinted (respondedBy work table text source) ≡ a) × (bytesFor work table text source ≡ bytes)
+  unfolding respondedBy bytesFor
+  respond-answered a bytes (short-memory t) = rw (tight-says work table text .1 t) (refl, refl)
+  respond-answered a bytes (answered n s cells d) =
+      let loose : isTight work table text ≡ false =
+      elim (test (isTight work table text)) [ inl t ↦ absurd (n (tight-says work table text .0 t)) | inr f ↦ f ] in
+      let is : response source ≡ solvedText cells s = response-is s cells d (or-left (isShort work table) (ltb text textSize) loose) in
+      rw (loose, is) (refl, refl)
+
+  pub respond-iff : (a : Told) (bytes : List ℕ)
+      → ((toldPrinted (respondedBy work table text source) ≡ a) × (bytesFor work table text source ≡ bytes)) ↔ RespondedAs work table text source a bytes
+  respond-iff a bytes = (
+    λ e. subst (RespondedAs work table text source a) (e .1)
+        (subst (λ b. RespondedAs work table text source b (bytesFor work table text source)) (e .0) respond-due),
+    respond-answered a bytes,
+  )

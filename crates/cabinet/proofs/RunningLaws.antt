@@ -10,11 +10,11 @@ use lib.ListN.{take}
 use borrow.Author.Tests.{lt-ltb, eq-eqb}
 use Rattle.basics.specs.Limits.{kindLimit}
 use Rattle.rules.specs.Problem.{Problem}
-use Rattle.rules.proofs.WithinLimits.{Few}
+use Rattle.rules.specs.Within.{Few}
 use Rattle.play.specs.Limits.{beliefLimit, sideLimit}
 use Rattle.play.specs.Cells.{choiceAt, nextAt, rowSize, firstCell, isStop, nextCell}
 use Rattle.tables.specs.declared.shape.Shape.{Shape}
-use Rattle.play.specs.Game.{Game, Play, seen, Decision, choose, stop, GoesOn, choiceOf, Optimal}
+use Rattle.play.specs.Game.{Game, set, Play, seen, Decision, choose, stop, GoesOn, choiceOf, Optimal}
 use Rattle.play.specs.Table.{readFrom, tableStrategy, Laid}
 use Rattle.game.specs.Solution.{gameOf}
 use Rattle.basics.proofs.Booleans.{test}
@@ -29,11 +29,11 @@ use Rattle.printer.proofs.WellFormedLaws.{side-le}
 use Rattle.cabinet.proofs.LaidRows.{cell-taken, stop-taken, sized, goes-on, row-passes}
 
 -- the answer that tells a decision
-abbrev said : Decision → Answer
+abbrev said : Decision set → Answer
 said (choose c) = Choice c
 said stop = Stop
 
-stop-no-choice : (c : ℕ) → stop ≡ choose c → ⊥
+stop-no-choice : (c : ℕ) → _≡_ {A = Decision set} stop (choose c) → ⊥
 stop-no-choice c e = let z : _≡_ {A = ℕ} 0 1 = cc in absurd (omega arith)
 
 module _ (p : Problem) (few : Few (p .signals)) (shape : Shape) (declared : shape .observed ≡ p .signals .observed) (t : List ℕ)
@@ -111,10 +111,11 @@ module _ (p : Problem) (few : Few (p .signals)) (shape : Shape) (declared : shap
       ap (λ (a : Moved). stepAll t shape a (seen play j) .answer) (start-moves old) ∙ follows j play 0 some (λ k l. g k (omega arith)) in
       record {
         steps = m;
-        choices = λ j. choiceOf (tableStrategy T (seen play j));
+        choices = λ j. choiceOf (tableStrategy T (seen play j)) ((play j) .observation);
         goes = λ j b.
             let (c, q) = g j b in
-            let chosen : c ≡ choiceOf (tableStrategy T (seen play j)) = sym (ap choiceOf q) in
+            let chosen : c ≡ choiceOf (tableStrategy T (seen play j)) ((play j) .observation) =
+            sym (ap (λ (d : Decision set). choiceOf d ((play j) .observation)) q) in
             (answers j (omega arith) ∙ ap said q ∙ ap Choice chosen, q ∙ ap choose chosen);
         stops = (answers m (omega arith) ∙ ap said e, e);
         within = o .worst .at-most play m (e, g);

@@ -1,12 +1,14 @@
--- The cabinet: its position (place in document 01), and what its two calls answer and make of it.
+-- The cabinet: its position (place in document 01), what its two calls answer and make of it, and what is due.
 -- Assumes nothing.
-use Prim.Native.Nat.{ℕ, _^_}
-use mathlib.Core.Bool.{Bool, cond, _&&_}
-use mathlib.Core.List.{List}
+use Prim.Native.Nat.{ℕ, _^_, _≤_, _<_}
+use mathlib.Core.Path.{_≡_}
+use mathlib.Core.Bool.{Bool, true, false, cond, _&&_}
+use mathlib.Core.List.{List, [], _∷_}
 use lib.Dec.{eqb, ltb}
 use lib.ListN.{length}
 use Rattle.lines.specs.declared.refusal.Refusal.{Refusal}
 use Rattle.lines.specs.declared.refusal.Refusal.the-variants.{BadTable, Stopped, BadObservation}
+use Rattle.lines.specs.Refusal.{Told, values, refused, toldRefusal}
 use Rattle.play.specs.Cells.{stopCell, firstCell, isStop, nextCell}
 use Rattle.tables.specs.declared.shape.Shape.{Shape}
 use Rattle.cabinet.specs.declared.position.Position.{Position}
@@ -20,8 +22,11 @@ abbrev pub answerOf : ℕ → Answer
 answerOf c = cond (eqb c stopCell) Stop (Choice c)
 
 -- on a row: its first cell is the standing choice
+abbrev pub positionAt : List ℕ → ℕ → Position
+positionAt t row = record { row = row; choice = firstCell t row }
+
 abbrev pub moveTo : List ℕ → ℕ → Moved
-moveTo t row = record { position = record { row = row; choice = firstCell t row }; answer = answerOf (firstCell t row) }
+moveTo t row = record { position = positionAt t row; answer = answerOf (firstCell t row) }
 
 -- a refusal leaves the position as it was
 abbrev pub refusedAt : Position → Refusal → Moved
@@ -42,3 +47,27 @@ stepOf t shape observation p =
     (cond (isStop t (p .row)) (refusedAt p Stopped)
     (cond (ltb observation (2 ^ (shape .observed))) (moveTo t (nextCell t (p .row) observation)) (refusedAt p BadObservation)))
     (refusedAt p BadTable)
+
+-- ---- what is due: the answer in document 01's terms, and the position afterwards
+
+-- a choice, 65535 for stop; or a refusal's number and place
+abbrev pub toldAnswer : Answer → Told
+toldAnswer (Choice c) = values (c ∷ [])
+toldAnswer Stop = values (stopCell ∷ [])
+toldAnswer (Refused r) = toldRefusal r
+
+pub data StartedAs (t : List ℕ) (shape : Shape) (p : Position) : Told → Position → Type 0 where
+  bad-start : isStanding t shape 0 ≡ false → StartedAs t shape p (refused 13 0) p
+  started : isStanding t shape 0 ≡ true → StartedAs t shape p (values (firstCell t 0 ∷ [])) (positionAt t 0)
+
+-- the position stands on its row: number 13 is not met there, and the standing choice is the row's
+abbrev pub Holds : List ℕ → Shape → Position → Type 0
+Holds t shape p = (isStanding t shape (p .row) ≡ true) × (firstCell t (p .row) ≡ p .choice)
+
+pub data SteppedAs (t : List ℕ) (shape : Shape) (observation : ℕ) (p : Position) : Told → Position → Type 0 where
+  bad-place : (¬ Holds t shape p) → SteppedAs t shape observation p (refused 13 0) p
+  stopped : Holds t shape p → firstCell t (p .row) ≡ stopCell → SteppedAs t shape observation p (refused 14 0) p
+  bad-observation : Holds t shape p → (¬ (firstCell t (p .row) ≡ stopCell)) → 2 ^ (shape .observed) ≤ observation
+      → SteppedAs t shape observation p (refused 15 0) p
+  moved : Holds t shape p → (¬ (firstCell t (p .row) ≡ stopCell)) → observation < 2 ^ (shape .observed)
+      → SteppedAs t shape observation p (values (firstCell t (nextCell t (p .row) observation) ∷ [])) (positionAt t (nextCell t (p .row) observation))

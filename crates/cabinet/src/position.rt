@@ -3,7 +3,7 @@ ghost use mathlib.Core.Path.{_≡_};
 ghost use Prim.Native.Nat.{_+_, _*_, _≤_};
 ghost use lib.ListN.{length};
 ghost use Rattle.play.specs.Cells.{rowSize};
-ghost use Rattle.cabinet.specs.Position.{moveTo, refusedAt, isStanding, startOf, stepOf};
+ghost use Rattle.cabinet.specs.Position.{moveTo, refusedAt, isStanding, startOf, stepOf, toldAnswer, StartedAs, SteppedAs};
 use lines::Refusal;
 use printer::is_row;
 use printer::is_sized;
@@ -72,7 +72,8 @@ fn is_standing(table: &[u16], shape: Shape, row: usize) -> bool
 
 // Starts at row 0, whatever the old position. Refusal: 13.
 pub fn start_from(table: &[u16], shape: Shape, position: Position) -> Moved
-    ensures { λ m. ⌜ m ≡ startOf (now (table .entry)) shape position ⌝ }
+    ensures { λ m. ⌜ (m ≡ startOf (now (table .entry)) shape position)
+        × StartedAs (now (table .entry)) shape position (toldAnswer (m .answer)) (m .position) ⌝ }
 {
     if !is_standing(table, shape, 0) {
         return refuse(position, Refusal::BadTable);
@@ -82,7 +83,8 @@ pub fn start_from(table: &[u16], shape: Shape, position: Position) -> Moved
 
 // Moves to the next row for an observation. Refusals: 13, 14, 15.
 pub fn step_from(table: &[u16], shape: Shape, observation: usize, position: Position) -> Moved
-    ensures { λ m. ⌜ m ≡ stepOf (now (table .entry)) shape observation position ⌝ }
+    ensures { λ m. ⌜ (m ≡ stepOf (now (table .entry)) shape observation position)
+        × SteppedAs (now (table .entry)) shape observation position (toldAnswer (m .answer)) (m .position) ⌝ }
 {
     if !is_standing(table, shape, position.row) {
         return refuse(position, Refusal::BadTable);
@@ -104,7 +106,8 @@ pub fn step_from(table: &[u16], shape: Shape, observation: usize, position: Posi
 // `start_from` on a position that is lent.
 pub fn start(table: &[u16], shape: Shape, position: &mut Position) -> Answer
     ensures { λ r. ⌜ (r ≡ startOf (now (table .entry)) shape (now (position .entry)) .answer)
-        × (now (position .exit) ≡ startOf (now (table .entry)) shape (now (position .entry)) .position) ⌝ }
+        × (now (position .exit) ≡ startOf (now (table .entry)) shape (now (position .entry)) .position)
+        × StartedAs (now (table .entry)) shape (now (position .entry)) (toldAnswer r) (now (position .exit)) ⌝ }
 {
     let m = start_from(table, shape, *position);
     *position = m.position;
@@ -114,7 +117,8 @@ pub fn start(table: &[u16], shape: Shape, position: &mut Position) -> Answer
 // `step_from` on a position that is lent.
 pub fn step(table: &[u16], shape: Shape, observation: usize, position: &mut Position) -> Answer
     ensures { λ r. ⌜ (r ≡ stepOf (now (table .entry)) shape observation (now (position .entry)) .answer)
-        × (now (position .exit) ≡ stepOf (now (table .entry)) shape observation (now (position .entry)) .position) ⌝ }
+        × (now (position .exit) ≡ stepOf (now (table .entry)) shape observation (now (position .entry)) .position)
+        × SteppedAs (now (table .entry)) shape observation (now (position .entry)) (toldAnswer r) (now (position .exit)) ⌝ }
 {
     let m = step_from(table, shape, observation, *position);
     *position = m.position;

@@ -1,7 +1,7 @@
 // The printing call.
 ghost use mathlib.Core.Path.{_≡_};
 ghost use lib.ListN.{length};
-ghost use Rattle.cabinet.specs.Print.{printedBy, textAfter};
+ghost use Rattle.cabinet.specs.Print.{printedBy, textAfter, toldPrinted, usedText, PrintedAs};
 use lines::Refusal;
 use printer::TEXT_SIZE;
 use printer::is_printable;
@@ -18,6 +18,7 @@ pub enum Printed {
 pub fn print(table: &[u16], shape: Shape, worst: usize, text: &mut [u8]) -> Printed
     ensures answer { λ r. ⌜ r ≡ printedBy (now (table .entry)) shape worst (length (now (text .entry))) ⌝ }
     ensures bytes { λ _. ⌜ now (text .exit) ≡ textAfter (now (table .entry)) shape worst (now (text .entry)) ⌝ }
+    ensures due { λ r. ⌜ PrintedAs (now (table .entry)) shape worst (length (now (text .entry))) (toldPrinted r) (usedText r (now (text .exit))) ⌝ }
 {
     if text.len() < TEXT_SIZE {
         return Printed::Refused(Refusal::ShortMemory);

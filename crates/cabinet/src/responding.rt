@@ -1,7 +1,8 @@
 // From a problem's text to the text of its table, or of the refusal.
 ghost use mathlib.Core.Path.{_≡_};
 ghost use lib.ListN.{length};
-ghost use Rattle.cabinet.specs.Response.{respondedBy, responseAfter, respondedTable, respondedWork};
+ghost use Rattle.cabinet.specs.Print.{toldPrinted, usedText};
+ghost use Rattle.cabinet.specs.Response.{respondedBy, responseAfter, respondedTable, respondedWork, RespondedAs};
 use crate::printing::Printed;
 use crate::printing::print;
 use game::Solved;
@@ -22,6 +23,8 @@ pub fn respond(source: &[u8], work: &mut [u8], table: &mut [u16], text: &mut [u8
     ensures rows { λ _. ⌜ now (table .exit) ≡ respondedTable (length (now (work .entry))) (length (now (text .entry))) (now (source .entry))
         (now (table .entry)) ⌝ }
     ensures cleared { λ _. ⌜ now (work .exit) ≡ respondedWork (length (now (table .entry))) (length (now (text .entry))) (now (work .entry)) ⌝ }
+    ensures due { λ r. ⌜ RespondedAs (length (now (work .entry))) (length (now (table .entry))) (length (now (text .entry))) (now (source .entry))
+        (toldPrinted r) (usedText r (now (text .exit))) ⌝ }
 {
     if (work.len() < WORK_SIZE) | (table.len() < TABLE_SIZE) | (text.len() < TEXT_SIZE) {
         return Printed::Refused(Refusal::ShortMemory);

@@ -1,6 +1,4 @@
--- Examples by computation: a trace judged, accepted by the states, problems solved, a table printed.
-pub mod Judged
+-- The worked examples, by computation.
+pub mod Computed
 pub mod Accepted
-pub mod Solved
-pub mod Printed
 pub mod Main

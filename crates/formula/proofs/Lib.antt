@@ -1,5 +1,7 @@
 -- the evaluator is the published relation
 pub mod Agreement
+-- letters
+pub mod LetterLaws
 -- parts, and the operators among them
 pub mod OperatorBytes
 pub mod PartsLaws

@@ -1,127 +1,140 @@
--- The claim holds of every answer.
+-- What is answered is what is due: demand 3, both ways.
 -- Assumes nothing.
-use Prim.Native.Nat.{ℕ, suc, _*_}
+use Prim.Native.Nat.{ℕ, _*_}
 use native.Mathlib.Omega.{arith}
 use mathlib.Core.Path.{_≡_, refl, sym, ap, _∙_, subst}
-use mathlib.Core.List.{List, []}
-use lib.ListN.{length, drop}
-use lib.Seq.{take-at}
-use Rattle.lines.specs.declared.refusal.Refusal.{Refusal}
-use Rattle.lines.specs.declared.refusal.Refusal.the-variants as refusal
-use Rattle.rules.specs.Judge.{countsIn}
-use Rattle.rules.specs.Problem.{Problem, problemParts, Outcome, accepted, refused, readProblem}
+use mathlib.Core.Logic.{_↔_, inl, inr}
+use mathlib.Core.Bool.{false}
+use mathlib.Core.List.{List, [], _∷_}
+use lib.ListN.{length}
+use borrow.Author.Tests.{ltb-true, lt-ltb}
+use Rattle.basics.specs.Says.{Says}
+use Rattle.basics.proofs.Booleans.{test, clash}
+use Rattle.basics.proofs.SaysLaws.{says-or}
+use Rattle.lines.specs.Refusal.{Told, values, refused, numberOf, placeOf}
+use Rattle.lines.proofs.RefusalLaws.{same-told}
+use Rattle.rules.specs.Limits.{workSize}
+use Rattle.rules.specs.Problem.{Problem, Outcome, accepted, readProblem}
+use Rattle.rules.specs.Problem as reading
+use Rattle.rules.specs.Denotes.{Denotes}
 use Rattle.rules.proofs.DenotesLaws.{read-iff-denotes}
+use Rattle.rules.proofs.RefusesLaws.{refused-iff, told-refused}
+use Rattle.rules.specs.Within.{Few}
 use Rattle.rules.proofs.WithinLimits.{read-within}
-use Rattle.search.specs.Limits.{stateLimit}
-use Rattle.search.specs.PatternSet.{PatternSet}
-use Rattle.basics.specs.Reach.{Listing, closed, over, AtLeast}
-use Rattle.search.specs.ReachableSets.{sameSet}
-use Rattle.basics.proofs.ReachLaws.{over-iff, closed-not-over, same-listed}
-use Rattle.search.proofs.ReachableSetsLaws.{sameSet-says}
-use Rattle.states.proofs.StatesLaws.{states-over}
-use Rattle.tables.specs.declared.shape.Shape.{Shape}
+use Rattle.play.specs.Cells.{rowSize, tableSize}
+use Rattle.game.specs.declared.solving.Solved.{Solved}
 use Rattle.game.specs.declared.solving.Solved.the-variants.{Table, Refused}
-use Rattle.play.specs.Limits.{beliefLimit}
-use Rattle.play.specs.Cells.{rowSize}
-use Rattle.play.specs.Game.{Game}
-use Rattle.play.specs.Rank.{Arena}
-use Rattle.play.specs.Belief.{Belief}
-use Rattle.play.specs.Answer.{moves, positions, verdictOf, Verdict, solved, unrealizable, Solves, Right}
-use Rattle.game.specs.Solution.{gameOf, problemStates, beliefsOf, Solution, verdict, solutionOf, solutionFrom, solution}
-use Rattle.basics.specs.Lists.{written}
-use Rattle.game.specs.Claim.{solvedOf, solvedFrom, cellsOf, cellsFrom, ManyStates, ManyBeliefs, Small, Claim}
-use Rattle.game.proofs.StatesJudge.{belief-right}
+use Rattle.game.specs.Solution.{Solution, solution}
+use Rattle.game.specs.Claim.{solvedOf, solvedFrom, solvedBy, toldSolved, isShort, cellsOf, cellsFrom, cellsBy, Short, SolvedAs, short-memory, refused-text, too-many-states, too-many-beliefs, unrealizable, table}
+use Rattle.game.proofs.SolutionCases.{Solving, states, beliefs, none, solving, states-due, beliefs-due, none-due, table-due}
+use Rattle.game.proofs.SolutionCases as cases
 
--- what is answered for a problem, from its listed states
-abbrev solutionAt : Problem → Listing PatternSet → Solution
-solutionAt p = solutionFrom (problemParts p) (countsIn (p .signals))
+pub no-refusal : (l : List ℕ) (number place : ℕ) → values l ≡ refused number place → ⊥
+no-refusal l number place e = let z : _≡_ {A = ℕ} 0 1 = cc in absurd (omega arith)
 
-refused-no-table : (x : Refusal) (shape : Shape) (r : ℕ) → Refused x ≡ Table shape r → ⊥
-refused-no-table x shape r q = let z : _≡_ {A = ℕ} 0 1 = cc in absurd (omega arith)
+-- the test of the lengths
+pub short-says : (work room : ℕ) → Says (isShort work room) (Short work room)
+short-says work room = says-or (ltb-true work workSize, lt-ltb work workSize) (ltb-true room tableSize, lt-ltb room tableSize)
 
-module _ (source : List ℕ) (p : Problem) (read : readProblem source ≡ accepted p) (table : List ℕ) where
-  -- a verdict that is right makes the claim
-  claim-verdict : (v : Verdict) → Right beliefLimit (gameOf p) v → Small p
-      → Claim source (solvedOf (p .signals .observed) (verdict v)) (written (cellsOf (verdict v)) table)
-  claim-verdict (solved n r cells) s small =
-      let front = sym (take-at cells (drop (length cells) table) (n * rowSize) (s .laid .long)) in
-      (p, read-iff-denotes source p .0 read, small, refl, subst (Solves beliefLimit (gameOf p) n r) front s)
-  claim-verdict unrealizable u small = (p, read-iff-denotes source p .0 read, small, u)
+pub not-short : (work room : ℕ) → isShort work room ≡ false → ¬ Short work room
+not-short work room e s = clash (short-says work room .1 s) e
 
-  module _ (xs : List PatternSet) (listed : problemStates p ≡ closed xs) where
-    abbrev G : Game
-    G = gameOf p
+pub is-long : (work room : ℕ) → ¬ Short work room → isShort work room ≡ false
+is-long work room f = elim (test (isShort work room)) [ inl t ↦ absurd (f (short-says work room .0 t)) | inr e ↦ e ]
 
-    abbrev A : Arena
-    A = beliefsOf p xs
+module _ (source : List ℕ) where
+  few-signals : (p : Problem) → readProblem source ≡ accepted p → Few (p .signals)
+  few-signals p read = read-within source p read .few
 
-    abbrev all-beliefs : Listing Belief
-    all-beliefs = positions A sameSet (G .choices) (G .observations) beliefLimit
+  -- ---- what is answered is due
 
-    abbrev answer : List Belief → Verdict
-    answer all = verdictOf A sameSet (G .choices) (G .observations) (length all)
+  module _ (work room : ℕ) (long : ¬ Short work room) where
+    due-solution : (p : Problem) → Denotes source p → (s : Solution) → Solving p s
+        → SolvedAs work room source (toldSolved (solvedOf (p .signals .observed) s)) (cellsOf s)
+    due-solution p d s (states m) = too-many-states long p d m
+    due-solution p d s (beliefs f m) = too-many-beliefs long p d f m
+    due-solution p d s (none small u) = unrealizable long p d small u
+    due-solution p d s (cases.table small n r cells c one) = table long p d small n r cells c
 
-    -- "too many" is answered only where more beliefs than the limit can be reached ..
-    many : all-beliefs ≡ over → ManyBeliefs p
-    many e = record {
-      states = xs;
-      listed = listed;
-      many = over-iff sameSet sameSet-says (moves A sameSet (G .choices) (G .observations)) (A .start) beliefLimit .0 e;
-    }
+    pub due-read : SolvedAs work room source (toldSolved (solvedFrom (readProblem source))) (cellsFrom (readProblem source))
+    due-read = at (readProblem source) refl
+      where
+        at : (o : Outcome) → readProblem source ≡ o → SolvedAs work room source (toldSolved (solvedFrom o)) (cellsFrom o)
+        at (accepted p) e = due-solution p (read-iff-denotes source p .0 e) (solution p) (solving p (few-signals p e))
+        at (reading.refused r) e = refused-text long (numberOf r) (placeOf r) (refused-iff source r .0 e)
 
-    -- .. and everywhere there
-    many-told : ManyBeliefs p → all-beliefs ≡ over
-    many-told z =
-        let e = same-listed (z .states) xs (sym (z .listed) ∙ listed) in
-        over-iff sameSet sameSet-says (moves A sameSet (G .choices) (G .observations)) (A .start) beliefLimit .1
-        (subst (λ ys.
-        AtLeast (moves (beliefsOf p ys) sameSet (G .choices) (G .observations)) (beliefsOf p ys .start) (suc beliefLimit))
-        e (z .many))
+  pub due-call : (work room : ℕ) → SolvedAs work room source (toldSolved (solvedBy work room source)) (cellsBy work room source)
+  unfolding solvedBy cellsBy
+  due-call work room =
+      elim (test (isShort work room)) [
+        | inl t ↦ rw t (short-memory (short-says work room .0 t))
+        | inr f ↦ rw f (due-read work room (not-short work room f))
+      ]
 
-    few-states : ¬ ManyStates p
-    few-states z = closed-not-over xs (sym listed ∙ states-over (problemParts p) _ stateLimit .1 z)
+  -- ---- what is due is answered
 
-    -- the answer from the beliefs
-    claim-beliefs : (l : Listing Belief) → all-beliefs ≡ l
-        → let r = solutionOf A sameSet (G .choices) (G .observations) l in Claim source (solvedOf (p .signals .observed) r) (written (cellsOf r) table)
-    claim-beliefs (closed all) e =
-        claim-verdict (answer all) (belief-right p (read-within source p read .few) xs listed all e)
-        (few-states, λ z. closed-not-over all (sym e ∙ many-told z))
-    claim-beliefs over e = (p, read-iff-denotes source p .0 read, many e)
+  module _ (work room : ℕ) where
+    abbrev Answered : Told → List ℕ → Type 0
+    Answered a cells = (toldSolved (solvedBy work room source) ≡ a) × (cellsBy work room source ≡ cells)
 
-  -- every answer for a problem that is read
-  pub claim-right : Claim source (solvedOf (p .signals .observed) (solution p)) (written (cellsOf (solution p)) table)
-  claim-right = at (problemStates p) refl
-    where
-      at : (l : Listing PatternSet) → problemStates p ≡ l
-          → Claim source (solvedOf (p .signals .observed) (solutionAt p l)) (written (cellsOf (solutionAt p l)) table)
-      at (closed xs) e = claim-beliefs xs e (all-beliefs xs e) refl
-      at over e = (p, read-iff-denotes source p .0 read, states-over (problemParts p) _ stateLimit .0 e)
+    long-answered : (¬ Short work room) → (o : Outcome) → readProblem source ≡ o → Answered (toldSolved (solvedFrom o)) (cellsFrom o)
+    unfolding solvedBy cellsBy
+    long-answered f o e = rw (is-long work room f) (ap (λ z. toldSolved (solvedFrom z)) e, ap cellsFrom e)
 
--- a table has as many cells as its row count says
-verdict-cells : (limit : ℕ) (G : Game) (v : Verdict) (observed : ℕ) (shape : Shape) (r : ℕ) → Right limit G v
-    → solvedOf observed (verdict v) ≡ Table shape r → length (cellsOf (verdict v)) ≡ shape .rows * rowSize
-verdict-cells limit G (solved m q cells) observed shape r s e =
-    let z : record { rows = m; observed = observed } ≡ shape = cc in s .laid .long ∙ ap (λ (k : Shape). k .rows * rowSize) z
-verdict-cells limit G unrealizable observed shape r u e = absurd (refused-no-table refusal.Unrealizable shape r e)
+    pub solution-answered : (¬ Short work room) → (p : Problem) → Denotes source p → (s : Solution) → solution p ≡ s
+        → Answered (toldSolved (solvedOf (p .signals .observed) s)) (cellsOf s)
+    solution-answered f p d s e =
+        let (a, b) = long-answered f (accepted p) (read-iff-denotes source p .1 d) in
+        (a ∙ ap (λ z. toldSolved (solvedOf (p .signals .observed) z)) e, b ∙ ap cellsOf e)
 
-module _ (source : List ℕ) (shape : Shape) (r : ℕ) where
-  beliefs-cells : (p : Problem) (read : readProblem source ≡ accepted p) (xs : List PatternSet) (listed : problemStates p ≡ closed xs)
-      → (l : Listing Belief) → all-beliefs source p read [] xs listed ≡ l
-      → let s = solutionOf (A source p read [] xs listed) sameSet (gameOf p .choices) (gameOf p .observations) l in
-      solvedOf (p .signals .observed) s ≡ Table shape r → length (cellsOf s) ≡ shape .rows * rowSize
-  beliefs-cells p read xs listed (closed all) e = verdict-cells beliefLimit (gameOf p) (answer source p read [] xs listed all) (p .signals .observed) shape r
-      (belief-right p (read-within source p read .few) xs listed all e)
-  beliefs-cells p read xs listed over e = λ q. absurd (refused-no-table refusal.TooManyBeliefs shape r q)
+    pub solving-read : (p : Problem) → Denotes source p → Solving p (solution p)
+    solving-read p d = solving p (few-signals p (read-iff-denotes source p .1 d))
 
-  problem-cells : (p : Problem) → readProblem source ≡ accepted p → (l : Listing PatternSet) → problemStates p ≡ l
-      → solvedOf (p .signals .observed) (solutionAt p l) ≡ Table shape r → length (cellsOf (solutionAt p l)) ≡ shape .rows * rowSize
-  problem-cells p read (closed xs) e = beliefs-cells p read xs e (all-beliefs source p read [] xs e) refl
-  problem-cells p read over e = λ q. absurd (refused-no-table refusal.TooManyStates shape r q)
+    due-answered : (a : Told) (cells : List ℕ) → SolvedAs work room source a cells → Answered a cells
+    unfolding solvedBy cellsBy
+    due-answered a cells (short-memory s) = rw (short-says work room .1 s) (refl, refl)
+    due-answered a cells (refused-text f number place x) =
+        let (r, e, n, m) = told-refused source x in
+        let (told, written) = long-answered f (reading.refused r) e in
+        (told ∙ ap (λ k. refused k (placeOf r)) n ∙ ap (refused number) m, written)
+    due-answered a cells (too-many-states f p d m) = solution-answered f p d _ (states-due p (solution p) (solving-read p d) m)
+    due-answered a cells (too-many-beliefs f p d s m) = solution-answered f p d _ (beliefs-due p (solution p) (solving-read p d) s m)
+    due-answered a cells (unrealizable f p d small u) = solution-answered f p d _ (none-due p (solution p) (solving-read p d) small u)
+    due-answered a cells (table f p d small n r t c) = solution-answered f p d _ (table-due p (solution p) (solving-read p d) small n r t c)
 
-  pub cells-count : solvedFrom (readProblem source) ≡ Table shape r → length (cellsFrom (readProblem source)) ≡ shape .rows * rowSize
-  cells-count = at (readProblem source) refl
-    where
-      at : (o : Outcome) → readProblem source ≡ o → solvedFrom o ≡ Table shape r → length (cellsFrom o) ≡ shape .rows * rowSize
-      at (accepted p) read = problem-cells p read (problemStates p) refl
-      at (refused x) read = λ q. absurd (refused-no-table x shape r q)
+    -- demand 3: the answer and the cells are these exactly where they are due
+    pub answered-iff : (a : Told) (cells : List ℕ) → Answered a cells ↔ SolvedAs work room source a cells
+    answered-iff a cells = (
+      λ e. subst (λ c. SolvedAs work room source a c) (e .1) (subst (λ b. SolvedAs work room source b (cellsBy work room source)) (e .0) (due-call work room)),
+      due-answered a cells,
+    )
+
+-- ---- the cells that are due are those of the rows that the answer tells
+
+abbrev pub Counted : Told → List ℕ → Type 0
+Counted (values []) cells = ⊥
+Counted (values (n ∷ l)) cells = length cells ≡ n * rowSize
+Counted (refused number place) cells = cells ≡ []
+
+pub due-counted : (work room : ℕ) (source : List ℕ) (a : Told) (cells : List ℕ) → SolvedAs work room source a cells → Counted a cells
+due-counted work room source a cells (short-memory s) = refl
+due-counted work room source a cells (refused-text f number place x) = refl
+due-counted work room source a cells (too-many-states f p d m) = refl
+due-counted work room source a cells (too-many-beliefs f p d s m) = refl
+due-counted work room source a cells (unrealizable f p d small u) = refl
+due-counted work room source a cells (table f p d small n r t c) = c .isTable .long
+
+-- ---- an answer is known by its numbers and values
+
+pub same-solved : (s q : Solved) → toldSolved s ≡ toldSolved q → s ≡ q
+same-solved (Table shape r) (Table shape′ r′) e =
+    let rows : shape .rows ≡ shape′ .rows = cc in
+    let observed : shape .observed ≡ shape′ .observed = cc in
+    let worst : r ≡ r′ = cc in
+    rw (worst, rows, observed) refl
+same-solved (Table shape r) (Refused x) e = absurd (no-refusal (shape .rows ∷ shape .observed ∷ r ∷ []) (numberOf x) (placeOf x) e)
+same-solved (Refused x) (Table shape r) e = absurd (no-refusal (shape .rows ∷ shape .observed ∷ r ∷ []) (numberOf x) (placeOf x) (sym e))
+same-solved (Refused x) (Refused y) e =
+    let number : numberOf x ≡ numberOf y = cc in
+    let place : placeOf x ≡ placeOf y = cc in
+    ap Refused (same-told x y number place)

@@ -1,31 +1,91 @@
 -- The theorems of this crate. Assumes nothing.
-use Prim.Native.Nat.{ℕ, _<_, _≤_}
+use Prim.Native.Nat.{ℕ, _≤_, _<_}
 use mathlib.Core.Path.{_≡_}
-use mathlib.Core.Logic.{_↔_}
+use mathlib.Core.Logic.{_↔_, _⊎_}
 use mathlib.Core.Bool.{Bool, true, false}
-use mathlib.Core.List.{List}
+use mathlib.Core.List.{List, [], _∷_}
 use lib.ListN.{length}
-use Rattle.rules.specs.Problem.{Problem, readProblem}
 use Rattle.basics.specs.Says.{Says}
-use Rattle.basics.specs.Lists.{written}
-use Rattle.search.specs.PatternSet.{PatternSet}
 use Rattle.basics.specs.Reach.{closed}
+use Rattle.lines.specs.Refusal.{Told, values, refused}
+use Rattle.rules.specs.Limits.{workSize}
+use Rattle.rules.specs.Problem.{Problem}
+use Rattle.rules.specs.Satisfies.{Satisfies}
+use Rattle.rules.specs.Denotes.{Denotes}
+use Rattle.rules.specs.Refuses.{Refuses}
+use Rattle.search.specs.PatternSet.{PatternSet}
 use Rattle.play.specs.Limits.{sideLimit}
-use Rattle.play.specs.Cells.{stopCell}
-use Rattle.play.specs.Game.{Game}
+use Rattle.play.specs.Cells.{stopCell, tableSize}
+use Rattle.play.specs.Game.{Game, set, Play, Strategy, IsStrategy, Steps, run, Wins}
 use Rattle.play.specs.Rank.{Arena, RankOf, LeadsBelow, HasChoice, bestChoice}
 use Rattle.play.specs.History.{Knows}
+use Rattle.play.specs.Table.{tableStrategy}
 use Rattle.play.specs.Answer.{positions, verdictOf, Right}
 use Rattle.game.specs.Solution.{gameOf, problemStates, beliefsOf}
-use Rattle.game.specs.Claim.{solvedFrom, cellsFrom, Claim}
+use Rattle.game.specs.Believed.{ManyStates, ManyBeliefs}
+use Rattle.game.specs.Claim.{solvedBy, toldSolved, cellsBy, Controller, SolvedAs}
 use Rattle.play.proofs.LeastRanks
-use Rattle.game.proofs.StatesJudge
 use Rattle.play.proofs.AnswerLaws
-use Rattle.game.proofs.solving.WholeCall
+use Rattle.game.proofs.StatesJudge
+use Rattle.game.proofs.ClaimLaws
+use Rattle.game.proofs.SolvedAsCases
 
--- demand 3, for every text: what is answered for it and written to the table means what it should
-pub demand-3 : (source table : List ℕ) → Claim source (solvedFrom (readProblem source)) (written (cellsFrom (readProblem source)) table)
-demand-3 = WholeCall.meant
+-- ---- DEMAND 3, for every text and all lent memory: `answer` is what `solve` answers, in document 01's terms, and `cells` what it writes to
+-- the table
+
+module _ (source : List ℕ) (work table : ℕ) where
+  abbrev answer : Told
+  answer = toldSolved (solvedBy work table source)
+
+  abbrev cells : List ℕ
+  cells = cellsBy work table source
+
+  -- whole: they are these exactly where these are due. The cases of `SolvedAs` follow one by one
+  pub demand-3 : (a : Told) (t : List ℕ) → ((answer ≡ a) × (cells ≡ t)) ↔ SolvedAs work table source a t
+  demand-3 = ClaimLaws.answered-iff source work table
+
+  -- 12: the lent memory is too short
+  pub short-memory : (answer ≡ refused 12 0) ↔ ((work < workSize) ⊎ (table < tableSize))
+  short-memory = SolvedAsCases.short-memory source work table
+
+  module _ (enough : workSize ≤ work) (room : tableSize ≤ table) where
+    -- 1 to 8: the text denotes no problem, and this is why
+    pub refused-text : (number place : ℕ) → number ≤ 8 → (answer ≡ refused number place) ↔ Refuses source number place
+    refused-text = SolvedAsCases.refused-text source work table enough room
+
+    module _ (p : Problem) (denotes : Denotes source p) where
+      -- 9: more than 128 states can be reached
+      pub too-many-states : (answer ≡ refused 9 0) ↔ ManyStates p
+      too-many-states = SolvedAsCases.too-many-states source work table enough room p denotes
+
+      -- 10: 9 is not due, and more than 256 beliefs can be reached
+      pub too-many-beliefs : (answer ≡ refused 10 0) ↔ ((¬ ManyStates p) × ManyBeliefs p)
+      too-many-beliefs = SolvedAsCases.too-many-beliefs source work table enough room p denotes
+
+      module _ (few-states : ¬ ManyStates p) (few-beliefs : ¬ ManyBeliefs p) where
+        -- 11: no strategy wins
+        pub unrealizable : (answer ≡ refused 11 0) ↔ ((σ : Strategy set) → IsStrategy (gameOf p) σ → ¬ Wins (gameOf p) σ)
+        unrealizable = SolvedAsCases.unrealizable source work table enough room p denotes few-states few-beliefs
+
+        -- otherwise the table that document 01 lays down is written ..
+        pub otherwise : (¬ (answer ≡ refused 11 0)) → (n : ℕ) × (r : ℕ) × Controller p n r cells
+        otherwise = SolvedAsCases.otherwise source work table enough room p denotes few-states few-beliefs
+
+        -- .. with its row count, its observed signals and its worst case; and there is only one
+        pub controller : (n r : ℕ) (t : List ℕ)
+            → ((answer ≡ values (n ∷ p .signals .observed ∷ r ∷ [])) × (cells ≡ t)) ↔ Controller p n r t
+        controller = SolvedAsCases.controller source work table enough room p denotes few-states few-beliefs
+
+-- what the table is good for: from row 0, whatever the observed and the hidden signals do at each step, it stops, within the worst case,
+-- with a trace that satisfies the problem; one play takes as many steps; and every strategy that wins has a play of at least as many
+pub plays : (p : Problem) (n r : ℕ) (t : List ℕ) → Controller p n r t
+    → IsStrategy (gameOf p) (tableStrategy t)
+    × ((play : Play (gameOf p)) → (m : ℕ) × (m ≤ r) × Steps (tableStrategy t) play m × Satisfies (run (gameOf p) (tableStrategy t) play m) p)
+    × ((play : Play (gameOf p)) × Steps (tableStrategy t) play r)
+    × ((σ : Strategy set) → IsStrategy (gameOf p) σ → Wins (gameOf p) σ → (play : Play (gameOf p)) × (m : ℕ) × Steps σ play m × (r ≤ m))
+plays = SolvedAsCases.plays
+
+-- ---- the theory behind it
 
 -- for any game, any positions that know when a trace is sure to be true, and any limit that keeps their number: the table is an optimal
 -- strategy and the worst case its own, or no strategy wins

@@ -3,16 +3,19 @@
 use Prim.Native.Nat.{ℕ, suc, _<_}
 use native.Mathlib.Nat.{lt-of-le-of-lt}
 use native.Mathlib.Omega.{arith}
-use mathlib.Core.Path.{_≡_, refl, sym, ap, _∙_}
+use mathlib.Core.Path.{_≡_, refl, ap, _∙_}
+use mathlib.Core.Logic.{_↔_}
+use mathlib.Core.Bool.{true}
 use mathlib.Core.List.{List, [], _∷_, foldl}
 use lib.ListN.{length, getD}
 use lib.Pow.{pow-mono, pow-pos}
 use Rattle.basics.specs.Limits.{kindLimit}
 use Rattle.rules.specs.Judge.{countsIn}
 use Rattle.formula.specs.declared.parts.Part.{Part}
-use Rattle.rules.specs.Problem.{Problem, formulaIn, problemParts}
-use Rattle.formula.specs.Semantics.{holds}
-use Rattle.rules.proofs.WithinLimits.{Few}
+use Rattle.rules.specs.Problem.{Problem, problemParts}
+use Rattle.rules.specs.Satisfies.{Satisfies}
+use Rattle.rules.proofs.ProblemLaws.{means}
+use Rattle.rules.specs.Within.{Few}
 use Rattle.search.specs.Limits.{stateLimit}
 use Rattle.basics.specs.Member.{_∈_}
 use Rattle.obligations.specs.Letters.{lettersOf}
@@ -23,7 +26,7 @@ use Rattle.search.specs.ReachableSets.{sameSet, nextSets, reachableSets}
 use Rattle.states.specs.States.{startState, nextState, stateAfter, statesOf}
 use Rattle.basics.proofs.MemberLaws.{getD-in}
 use Rattle.search.proofs.ReachableSetsLaws.{sameSet-says}
-use Rattle.states.proofs.Acceptance.{accepts-iff-holds, start-state-rejects}
+use Rattle.states.proofs.Acceptance.{accepts-value, start-state-rejects}
 use Rattle.states.proofs.NumberedSuccessors.{successor-right}
 use Rattle.obligations.proofs.LettersLaws.{letter-listed}
 use Rattle.play.specs.Limits.{beliefLimit}
@@ -51,7 +54,7 @@ module _ (p : Problem) where
   letter-in : (c s x : ℕ) → c < G .choices → s < G .observations → x < G .hiddens → G .letter c s x ∈ alphabet
   letter-in c s x cb sb xb = letter-listed (countsIn (p .signals)) c s x cb sb xb
 
-  some-hidden : 0 < G .hiddens
+  pub some-hidden : 0 < G .hiddens
   some-hidden = pow-pos (p .signals .hidden)
 
   module _ (xs : List PatternSet) (listed : problemStates p ≡ closed xs) where
@@ -80,14 +83,19 @@ module _ (p : Problem) where
         let (b′, e) = step i b (m .0) (m .1) (x 0) (v .0) (v .1) (xb 0) in
         steps h (v .2) (rest x) (λ j. xb (suc j)) _ b′ ∙ ap (λ s. foldl (nextState ps) s (letters G h (rest x))) e
 
-    judges : (m : ℕ × ℕ) (h : History) → Possible (G .choices) (G .observations) (m ∷ h) → (x : ℕ → ℕ) → Hidden G x
-        → holds (formulaIn p) (letters G (m ∷ h) x) ≡ accepts (at (stateFrom M 0 (letters G (m ∷ h) x)))
+    -- the state of the number after letters is the state after them
+    pub state-at : (h : History) → Possible (G .choices) (G .observations) h → (x : ℕ → ℕ) → Hidden G x
+        → at (stateFrom M 0 (letters G h x)) ≡ stateAfter ps (letters G h x)
     unfolding stateAfter after nextState
-    judges m h v x xb =
-        sym (accepts-iff-holds (formulaIn p) (letters G (m ∷ h) x) (omega arith))
-        ∙ ap accepts (sym (steps (m ∷ h) v x xb 0 (first-state .0) ∙ ap (λ s. foldl (nextState ps) s (letters G (m ∷ h) x)) (first-state .1)))
+    state-at h v x xb = steps h v x xb 0 (first-state .0) ∙ ap (λ s. foldl (nextState ps) s (letters G h x)) (first-state .1)
 
-    states-judge : Judges G M
+    judges : (m : ℕ × ℕ) (h : History) → Possible (G .choices) (G .observations) (m ∷ h) → (x : ℕ → ℕ) → Hidden G x
+        → (accepts (at (stateFrom M 0 (letters G (m ∷ h) x))) ≡ true) ↔ Satisfies (letters G (m ∷ h) x) p
+    judges m h v x xb =
+        rw (ap accepts (state-at (m ∷ h) v x xb) ∙ accepts-value ps (G .letter (m .0) (m .1) (x 0)) (letters G h (rest x)))
+        (means p (letters G (m ∷ h) x) (omega arith))
+
+    pub states-judge : Judges G M
     states-judge =
         record {
           judges = judges;

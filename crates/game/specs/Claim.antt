@@ -1,50 +1,47 @@
--- What the whole call answers, what it leaves in lent memory, and what its answer means: demand 3, from a source's bytes to whole plays.
+-- What the whole call answers and leaves in lent memory, and what is due by document 01: demand 3, from a source's bytes to whole plays.
 -- Assumes nothing.
-use Prim.Native.Nat.{ℕ, suc, _*_}
-use mathlib.Core.Path.{_≡_}
+use Prim.Native.Nat.{ℕ, _*_, _<_}
+use mathlib.Core.Logic.{_⊎_}
 use mathlib.Core.Bool.{Bool, cond, _||_}
-use mathlib.Core.List.{List, []}
+use mathlib.Core.List.{List, [], _∷_}
 use lib.Dec.{ltb}
 use lib.ListN.{length, take, replicate}
+use Rattle.basics.specs.Lists.{written}
 use Rattle.lines.specs.declared.refusal.Refusal.the-variants as refusal
-use Rattle.rules.specs.Judge.{countsIn}
+use Rattle.lines.specs.Refusal.{Told, values, refused, toldRefusal}
 use Rattle.rules.specs.Limits.{workSize}
-use Rattle.rules.specs.Problem.{Problem, problemParts, Outcome as Reading, accepted, refused, readProblem}
+use Rattle.rules.specs.Problem.{Problem, Outcome as Reading, accepted, readProblem}
+use Rattle.rules.specs.Problem as reading
 use Rattle.rules.specs.Denotes.{Denotes}
-use Rattle.obligations.specs.Letters.{lettersOf}
-use Rattle.search.specs.Limits.{stateLimit}
-use Rattle.basics.specs.Member.{_∈_, Distinct}
-use Rattle.search.specs.PatternSet.{PatternSet}
-use Rattle.basics.specs.Reach.{closed, AtLeast}
-use Rattle.search.specs.ReachableSets.{sameSet}
-use Rattle.states.specs.States.{IsState}
+use Rattle.rules.specs.Refuses.{Refuses}
 use Rattle.tables.specs.declared.answering.Outcome.{Outcome}
 use Rattle.tables.specs.declared.answering.Outcome.the-variants as outcome
-use Rattle.game.specs.declared.solving.Solved.{Solved}
-use Rattle.game.specs.declared.solving.Solved.the-variants.{Table, Refused}
+use Rattle.tables.specs.Outcome.{outcomeOf}
 use Rattle.play.specs.Limits.{beliefLimit}
 use Rattle.play.specs.Cells.{rowSize, tableSize}
-use Rattle.play.specs.Game.{Unrealizable}
-use Rattle.basics.specs.Lists.{written}
-use Rattle.play.specs.Answer.{moves, cellsOf as verdictCells, Solves}
-use Rattle.tables.specs.Outcome.{outcomeOf}
-use Rattle.game.specs.Solution.{gameOf, problemStates, beliefsOf, Solution, tooManyStates, tooManyBeliefs, verdict, solution}
+use Rattle.play.specs.Game.{set, Unrealizable}
+use Rattle.play.specs.IsTable.{RankIs, IsTable}
+use Rattle.play.specs.Answer.{cellsOf as verdictCells, Solves}
+use Rattle.game.specs.declared.solving.Solved.{Solved}
+use Rattle.game.specs.declared.solving.Solved.the-variants.{Table, Refused}
+use Rattle.game.specs.Solution.{gameOf, Solution, tooManyStates, tooManyBeliefs, verdict, solution}
+use Rattle.game.specs.Believed.{SameBelief, FinalBelief, ManyStates, ManyBeliefs, Small}
 
 -- ---- the answer
 
 -- for an outcome, for a solution, each with the number of observed signals, for a text
-abbrev pub solvedAs : ℕ → Outcome → Solved
-solvedAs observed (outcome.Table n r) = Table (record { rows = n; observed = observed }) r
-solvedAs observed outcome.Unrealizable = Refused refusal.Unrealizable
+abbrev pub solvedWith : ℕ → Outcome → Solved
+solvedWith observed (outcome.Table n r) = Table (record { rows = n; observed = observed }) r
+solvedWith observed outcome.Unrealizable = Refused refusal.Unrealizable
 
 abbrev pub solvedOf : ℕ → Solution → Solved
-solvedOf observed (verdict v) = solvedAs observed (outcomeOf v)
+solvedOf observed (verdict v) = solvedWith observed (outcomeOf v)
 solvedOf observed tooManyBeliefs = Refused refusal.TooManyBeliefs
 solvedOf observed tooManyStates = Refused refusal.TooManyStates
 
 abbrev pub solvedFrom : Reading → Solved
 solvedFrom (accepted p) = solvedOf (p .signals .observed) (solution p)
-solvedFrom (refused r) = Refused r
+solvedFrom (reading.refused r) = Refused r
 
 -- lent memory that is too short
 abbrev pub isShort : ℕ → ℕ → Bool
@@ -53,9 +50,14 @@ isShort work table = ltb work workSize || ltb table tableSize
 unfoldable pub solvedBy : ℕ → ℕ → List ℕ → Solved
 solvedBy work table source = cond (isShort work table) (Refused refusal.ShortMemory) (solvedFrom (readProblem source))
 
+-- in document 01's terms: the row count, the number of observed signals and the worst case; or a refusal's number and place
+abbrev pub toldSolved : Solved → Told
+toldSolved (Table shape r) = values (shape .rows ∷ shape .observed ∷ r ∷ [])
+toldSolved (Refused x) = toldRefusal x
+
 -- ---- what is left in memory
 
--- only the used rows change
+-- the cells of a solution's rows
 abbrev pub cellsOf : Solution → List ℕ
 cellsOf (verdict v) = verdictCells v
 cellsOf tooManyBeliefs = []
@@ -63,57 +65,54 @@ cellsOf tooManyStates = []
 
 abbrev pub cellsFrom : Reading → List ℕ
 cellsFrom (accepted p) = cellsOf (solution p)
-cellsFrom (refused r) = []
+cellsFrom (reading.refused r) = []
 
-unfoldable pub tableAfter : ℕ → List ℕ → List ℕ → List ℕ
-tableAfter work source table = cond (isShort work (length table)) table (written (cellsFrom (readProblem source)) table)
+-- what is written to the table, at its front: only the used rows change
+unfoldable pub cellsBy : ℕ → ℕ → List ℕ → List ℕ
+cellsBy work table source = cond (isShort work table) [] (cellsFrom (readProblem source))
+
+abbrev pub tableAfter : ℕ → List ℕ → List ℕ → List ℕ
+tableAfter work source table = written (cellsBy work (length table) source) table
 
 unfoldable pub workAfter : ℕ → List ℕ → List ℕ
 workAfter table work = cond (isShort (length work) table) work (replicate (length work) 0)
 
--- ---- what it means
+-- the used rows of a table, by the answer
+abbrev pub usedRows : Solved → List ℕ → List ℕ
+usedRows (Table shape r) table = take (shape .rows * rowSize) table
+usedRows (Refused x) table = []
 
--- more than the limit of states can be reached
-abbrev pub ManyStates : Problem → Type 0
-ManyStates p =
-    (xs : List PatternSet) × (length xs ≡ suc stateLimit) × Distinct xs
-    × ((s : PatternSet) → s ∈ xs → IsState (problemParts p) (lettersOf (countsIn (p .signals))) s)
+-- ---- what is due
 
--- the states are within their limit, and more than the limit of beliefs can be reached
-pub record ManyBeliefs (p : Problem) : Type 0 where
-  pub states : List PatternSet
-  pub listed : problemStates p ≡ closed states
-  pub many :
-      AtLeast (moves (beliefsOf p states) sameSet (gameOf p .choices) (gameOf p .observations)) (beliefsOf p states .start) (suc beliefLimit)
+-- the table that document 01 lays down for a problem, of n rows and with worst case r
+pub record Controller (p : Problem) (n r : ℕ) (cells : List ℕ) : Type 0 where
+  -- one row per belief met: row 0 the start, rows numbered as first met, the smallest choice that leads below the row's rank, next rows
+  -- by the moves
+  pub isTable : IsTable (gameOf p .choices) (gameOf p .observations) (SameBelief p) (FinalBelief p) n cells
+  -- the worst case is the rank of the start
+  pub rank : RankIs (gameOf p .choices) (gameOf p .observations) (FinalBelief p) [] r
+  -- read as a strategy it wins, with exactly this worst case, and no strategy that wins has a smaller one
+  pub solves : Solves beliefLimit (gameOf p) n r cells
 
--- the limits of states and of beliefs are kept
-abbrev pub Small : Problem → Type 0
-Small p = (¬ ManyStates p) × (¬ ManyBeliefs p)
+-- lent memory that is too short
+abbrev pub Short : (work table : ℕ) → Type 0
+Short work table = (work < workSize) ⊎ (table < tableSize)
 
--- the text is no problem by the written grammar and its limits
-abbrev pub NoProblem : List ℕ → Type 0
-NoProblem source = (p : Problem) → ¬ Denotes source p
-
--- A table solves the game of a problem within the limits, and its shape tells the problem's observed signals. Unrealizable: no strategy
--- wins. The formula is the one that the source denotes by the written grammar. Each refusal is given only where it is due, so each is
--- given exactly there; the last four never are.
-abbrev pub Claim : List ℕ → Solved → List ℕ → Type 0
-Claim source (Table shape r) table =
-    (p : Problem) × Denotes source p × Small p × (shape .observed ≡ p .signals .observed)
-    × Solves beliefLimit (gameOf p) (shape .rows) r (take (shape .rows * rowSize) table)
-Claim source (Refused refusal.Unrealizable) table = (p : Problem) × Denotes source p × Small p × Unrealizable (gameOf p)
-Claim source (Refused refusal.TooManyStates) table = (p : Problem) × Denotes source p × ManyStates p
-Claim source (Refused refusal.TooManyBeliefs) table = (p : Problem) × Denotes source p × ManyBeliefs p
-Claim source (Refused refusal.LongSource) table = NoProblem source
-Claim source (Refused (refusal.BadLine n)) table = NoProblem source
-Claim source (Refused (refusal.NameTwice n)) table = NoProblem source
-Claim source (Refused (refusal.TooManySignals n)) table = NoProblem source
-Claim source (Refused (refusal.BadFormula n)) table = NoProblem source
-Claim source (Refused (refusal.UnknownName n)) table = NoProblem source
-Claim source (Refused (refusal.TooManyParts n)) table = NoProblem source
-Claim source (Refused refusal.NoFormula) table = NoProblem source
-Claim source (Refused refusal.ShortMemory) table = Unit {0}
-Claim source (Refused refusal.BadTable) table = ⊥
-Claim source (Refused refusal.Stopped) table = ⊥
-Claim source (Refused refusal.BadObservation) table = ⊥
-Claim source (Refused (refusal.BadTrace n)) table = ⊥
+-- DEMAND 3. What is due for a text where so many bytes of work memory and so many cells of a table are lent: the answer in document 01's
+-- terms, and the cells that are written.
+pub data SolvedAs (work table : ℕ) (source : List ℕ) : Told → List ℕ → Type 0 where
+  -- 12: lent memory is too short
+  short-memory : Short work table → SolvedAs work table source (refused 12 0) []
+  -- 1 to 8: the text denotes no problem
+  refused-text : (¬ Short work table) → (number place : ℕ) → Refuses source number place → SolvedAs work table source (refused number place) []
+  -- 9: more than 128 states can be reached
+  too-many-states : (¬ Short work table) → (p : Problem) → Denotes source p → ManyStates p → SolvedAs work table source (refused 9 0) []
+  -- 10: they are within 128, and more than 256 beliefs can be reached
+  too-many-beliefs : (¬ Short work table) → (p : Problem) → Denotes source p → (¬ ManyStates p) → ManyBeliefs p
+      → SolvedAs work table source (refused 10 0) []
+  -- 11: both are within their limits, and no strategy wins
+  unrealizable : (¬ Short work table) → (p : Problem) → Denotes source p → Small p → Unrealizable (gameOf p) set
+      → SolvedAs work table source (refused 11 0) []
+  -- the table, with its row count, the number of observed signals and its worst case
+  table : (¬ Short work table) → (p : Problem) → Denotes source p → Small p → (n r : ℕ) (cells : List ℕ) → Controller p n r cells
+      → SolvedAs work table source (values (n ∷ p .signals .observed ∷ r ∷ [])) cells

@@ -7,8 +7,8 @@ use lib.ListN.{length, getD}
 use Rattle.rules.specs.Judge.{countsIn}
 use Rattle.formula.specs.declared.parts.Part.{Part}
 use Rattle.formula.specs.Letter.{Counts, letterFrom}
-use Rattle.rules.specs.Problem.{Problem, formulaIn, problemParts}
-use Rattle.formula.specs.Semantics.{holds}
+use Rattle.rules.specs.Problem.{Problem, problemParts}
+use Rattle.rules.specs.Satisfies.{Satisfies}
 use Rattle.search.specs.Limits.{stateLimit}
 use Rattle.obligations.specs.Letters.{lettersOf}
 use Rattle.search.specs.PatternSet.{PatternSet, accepts}
@@ -21,7 +21,8 @@ use Rattle.play.specs.Rank.{Arena}
 use Rattle.play.specs.Belief.{Automaton, beliefs}
 use Rattle.play.specs.Answer.{Verdict, positions, verdictOf}
 
--- the controller sets the output signals; a step brings values of the observed and of the hidden ones
+-- the controller sets the output signals; a step brings values of the observed and of the hidden ones; a trace is true if it satisfies
+-- the problem
 abbrev pub gameOf : Problem → Game
 gameOf p =
     record {
@@ -29,7 +30,7 @@ gameOf p =
       observations = 2 ^ (p .signals .observed);
       hiddens = 2 ^ (p .signals .hidden);
       letter = letterFrom;
-      isTrue = holds (formulaIn p);
+      IsTrue = λ π. Satisfies π p;
     }
 
 -- listed states by number; the start is the first

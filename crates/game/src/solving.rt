@@ -11,7 +11,7 @@ ghost use Rattle.states.specs.Planes.{Sized};
 ghost use Rattle.play.specs.Cells.{tableSize};
 ghost use Rattle.basics.specs.Lists.{written};
 ghost use Rattle.game.specs.Solution.{partsSolution};
-ghost use Rattle.game.specs.Claim.{solvedAs, solvedOf, solvedFrom, solvedBy, cellsOf, cellsFrom, tableAfter, workAfter, Claim};
+ghost use Rattle.game.specs.Claim.{solvedWith, solvedOf, solvedFrom, solvedBy, toldSolved, cellsOf, cellsFrom, tableAfter, workAfter, usedRows, SolvedAs};
 ghost use Rattle.beliefs.specs.BeliefMemory.{Successors};
 ghost use Rattle.game.specs.StateMemory.{Widths, memorySolution};
 use basics::clear;
@@ -44,8 +44,8 @@ pub enum Solved {
 }
 
 // The same, as it is answered for a problem with so many observed signals.
-fn solved_as(observed: usize, r: Outcome) -> Solved
-    ensures { λ s. ⌜ s ≡ solvedAs observed r ⌝ }
+fn solved_with(observed: usize, r: Outcome) -> Solved
+    ensures { λ s. ⌜ s ≡ solvedWith observed r ⌝ }
 {
     match r {
         Outcome::Table { rows, worst_case } => Solved::Table {
@@ -90,7 +90,7 @@ fn solve_states(
         &mut moves,
         &mut finals,
     ) {
-        Explored::Found(k) => solved_as(
+        Explored::Found(k) => solved_with(
             observed,
             answer(&moves, &finals, k, choices, observations, table),
         ),
@@ -151,7 +151,8 @@ pub fn solve(source: &[u8], work: &mut [u8], table: &mut [u16]) -> Solved
     ensures answer { λ r. ⌜ r ≡ solvedBy (length (now (work .entry))) (length (now (table .entry))) (now (source .entry)) ⌝ }
     ensures rows { λ _. ⌜ now (table .exit) ≡ tableAfter (length (now (work .entry))) (now (source .entry)) (now (table .entry)) ⌝ }
     ensures cleared { λ _. ⌜ now (work .exit) ≡ workAfter (length (now (table .entry))) (now (work .entry)) ⌝ }
-    ensures meant { λ r. ⌜ Claim (now (source .entry)) r (now (table .exit)) ⌝ }
+    ensures due { λ r. ⌜ SolvedAs (length (now (work .entry))) (length (now (table .entry))) (now (source .entry)) (toldSolved r)
+        (usedRows r (now (table .exit))) ⌝ }
 {
     if (work.len() < WORK_SIZE) | (table.len() < TABLE_SIZE) {
         return Solved::Refused(Refusal::ShortMemory);

@@ -1,6 +1,6 @@
 -- Where a token ends. Assumes nothing.
 use Rattle.basics.proofs.BytesLaws.{past-in, past-more}
-use mathlib.Core.Path.{_≡_, refl, sym, _∙_}
+use mathlib.Core.Path.{_≡_, refl, sym, ap, _∙_}
 use mathlib.Core.Bool.{Bool, true, false, _&&_, cond}
 use mathlib.Core.List.{List}
 use Prim.Native.Nat.{ℕ, _+_, _≤_, _<_}
@@ -10,7 +10,7 @@ use lib.ListN.{length, getD}
 use lib.Dec.{eqb, ltb, leb}
 use Rattle.grammar.specs.declared.lex.Token.{Token}
 use Rattle.basics.specs.Bytes.{between, isSpace, wordByte, lower}
-use Rattle.grammar.specs.Lex.{endKind, noKind, impliesKind, skip, wordEnd, tokenFrom, tokenAt, wordKind}
+use Rattle.grammar.specs.Lex.{endKind, noKind, nameKind, impliesKind, skip, wordEnd, tokenFrom, tokenAt, wordKind}
 use Rattle.grammar.proofs.ParseCases.{false-true}
 
 -- the cases of a token, by the tests that a reader makes
@@ -76,6 +76,24 @@ from-cases P text i e w a s =
         go : (t : Bool) → ltb m n ≡ t → (t && b) ≡ true → m < n
         go true q _ = ltb-true _ _ q
         go false q z = false-true z
+
+-- a token stands behind the spaces, and a name's begins with a lowercase letter
+module _ (text : List ℕ) (at : ℕ) where
+  pub token-from : tokenAt text at .from ≡ skip text at
+  unfolding tokenAt
+  token-from = from-cases (λ t. t .from ≡ skip text at) text (skip text at) (λ _. refl) (λ _ _ k. refl) (λ _. refl) (λ _ k. refl)
+
+  pub name-letter : tokenAt text at .kind ≡ nameKind → lower (getD text (skip text at) 0) ≡ true
+  unfolding tokenAt tokenFrom lower
+  name-letter =
+      let b = getD text (skip text at) 0 in
+      let P : Token → Type 0 = λ t. t .kind ≡ nameKind → lower b ≡ true in
+      cond-elim P (leb (length text) (skip text at)) _ _ (λ _ z. absurd (omega arith)) (λ _.
+      cond-elim P (lower b) _ _ (λ l _. l) (λ _.
+      cond-elim P (eqb b 45) _ _ (λ _.
+      cond-elim P (ltb (skip text at + 1) (length text) && eqb (getD text (skip text at + 1) 0) 62) _ _
+      (λ _ z. absurd (omega arith)) (λ _ z. absurd (omega arith)))
+      (λ _. cond-elim P (eqb b 0) _ _ (λ _ z. absurd (omega arith)) (λ _ z. ap lower z))))
 
 -- a token ends within the text, and no token but the end is empty
 pub record Ends (text : List ℕ) (at : ℕ) (t : Token) : Type 0 where

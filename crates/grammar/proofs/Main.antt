@@ -1,13 +1,29 @@
--- The theorems of this crate: a formula's text is read exactly as the written grammar derives it, and so has one reading.
+-- The theorems of this crate: what the tokens of a formula's text are, and that it is read exactly as the written grammar derives it, and so has
+-- one reading.
 -- Assumes nothing.
-use Prim.Native.Nat.{ℕ}
+use Prim.Native.Nat.{ℕ, _≤_}
 use mathlib.Core.Path.{_≡_}
 use mathlib.Core.Logic.{_↔_}
-use mathlib.Core.List.{List}
+use mathlib.Core.List.{List, [], _∷_}
+use lib.ListN.{length}
+use Rattle.grammar.specs.Lex.{endKind, tokenAt, tokens}
 use Rattle.grammar.specs.Tree.{Tree}
 use Rattle.grammar.specs.Grammar.{Derived}
 use Rattle.grammar.specs.Parse.{none, some, parseFormula}
+use Rattle.grammar.proofs.Spelt
 use Rattle.grammar.proofs.ReadIffDerived
+
+-- ---- tokens
+
+-- the tokens from a place on: none at the end, and otherwise the first and those behind it
+module _ (text : List ℕ) (at : ℕ) (inside : at ≤ length text) where
+  pub tokens-end : tokenAt text at .kind ≡ endKind → tokens text at ≡ []
+  tokens-end = Spelt.tokens-end text at inside
+
+  pub tokens-more : ¬ (tokenAt text at .kind ≡ endKind) → tokens text at ≡ tokenAt text at ∷ tokens text (tokenAt text at .next)
+  tokens-more = Spelt.tokens-more text at inside
+
+-- ---- reading
 
 module _ (text : List ℕ) where
   -- what is read, the grammar derives

@@ -1,20 +1,23 @@
 -- The names in a text: their numbers, and whether all are declared, token by token.
 -- Assumes nothing.
-use Prim.Native.Nat.{ℕ, suc, _≤_, _<_}
+use Prim.Native.Nat.{ℕ, zero, suc, _≤_, _<_}
+use native.Mathlib.Nat.{le-of-suc-le-suc}
 use native.Mathlib.Omega.{arith}
-use mathlib.Core.Path.{_≡_, sym, subst, ap, _∙_}
+use mathlib.Core.Path.{_≡_, refl, sym, subst, ap, _∙_}
 use mathlib.Core.Bool.{Bool, true, false, cond}
-use mathlib.Core.List.{List, [], _∷_}
+use mathlib.Core.List.{List, [], _∷_, List·Memᴰ·head, List·Memᴰ·tail}
 use borrow.Author.Tests.{eq-eqb, ne-eqb, lt-ltb, le-ltb}
 use lib.Dec.{eqb}
-use lib.ListN.{length}
+use lib.ListN.{length, set}
 use Rattle.basics.specs.Limits.{indexLimit}
+use Rattle.basics.specs.Member.{_∈_}
 use Rattle.grammar.specs.declared.lex.Token.{Token}
 use Rattle.basics.specs.Bytes.{between, sameBytes}
 use Rattle.grammar.specs.Lex.{tokenAt, tokens, nameKind}
 use Rattle.grammar.specs.Names.{Name, bits, indexOf, namesIn, leafValue}
 use Rattle.grammar.proofs.Spelt.{tokens-end, tokens-more, falls}
 use Rattle.lines.specs.Effect.{Signals, allDeclared}
+use Rattle.basics.proofs.BytesLaws.{same-bytes, same-refl}
 use Rattle.lines.proofs.SignalSpans.{length-names}
 use Rattle.lines.proofs.TreeCodes.{Values}
 
@@ -28,6 +31,36 @@ indexOf-le name (x ∷ xs) = go (sameBytes x name) (indexOf-le name xs)
     go : (b : Bool) → indexOf name xs ≤ length xs → cond b 0 (suc (indexOf name xs)) ≤ suc (length xs)
     go true h = omega arith
     go false h = omega arith
+
+-- a name has a number exactly where it is an entry
+pub index-in : (name : Name) (xs : List Name) → indexOf name xs < length xs → name ∈ xs
+unfolding indexOf
+index-in name [] h = absurd (omega arith)
+index-in name (x ∷ xs) h = go (sameBytes x name) refl h (index-in name xs)
+  where
+    go : (b : Bool) → sameBytes x name ≡ b → cond b 0 (suc (indexOf name xs)) < suc (length xs) → (indexOf name xs < length xs → name ∈ xs) → name ∈ x ∷ xs
+    go true e h ih = List·Memᴰ·head (sym (same-bytes x name e))
+    go false e h ih = List·Memᴰ·tail (ih (le-of-suc-le-suc h))
+
+pub in-index : (name : Name) {xs : List Name} → name ∈ xs → indexOf name xs < length xs
+unfolding indexOf
+in-index name (List·Memᴰ·head {x = x} e) = rw (← e, same-refl name) (omega arith)
+in-index name (List·Memᴰ·tail {x = x} {xs = xs} m) = go (sameBytes x name) (in-index name m)
+  where
+    go : (b : Bool) → indexOf name xs < length xs → cond b 0 (suc (indexOf name xs)) < suc (length xs)
+    go true h = omega arith
+    go false h = omega (arith, h)
+
+-- a new name has the number of the place where it is put
+pub index-new : (name : Name) (xs : List Name) (i : ℕ) → i < length xs → ¬ (name ∈ xs) → indexOf name (set xs i name) ≡ i
+unfolding indexOf
+index-new name [] i h n = absurd (omega arith)
+index-new name (x ∷ xs) zero h n = rw (same-refl name)
+index-new name (x ∷ xs) (suc i) h n = go (sameBytes x name) refl (index-new name xs i (le-of-suc-le-suc h) (λ m. n (List·Memᴰ·tail m)))
+  where
+    go : (b : Bool) → sameBytes x name ≡ b → indexOf name (set xs i name) ≡ i → cond b 0 (suc (indexOf name (set xs i name))) ≡ suc i
+    go true e ih = absurd (n (List·Memᴰ·head (sym (same-bytes x name e))))
+    go false e ih = ap suc ih
 
 pub index-below : (source spans : List ℕ) (name : Name) (i : ℕ) → i ≡ indexOf name (namesIn source spans) → (i ≡ bits → ⊥) → i < bits
 index-below source spans name i e n = omega (arith, indexOf-le name (namesIn source spans), length-names source spans)

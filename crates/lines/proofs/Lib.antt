@@ -1,5 +1,8 @@
+-- a refusal is told by its number and its place
+pub mod RefusalLaws
 -- the fields of a line and what it says
 pub mod LinesLaws
+pub mod LineCases
 pub mod EffectLaws
 pub mod LineFields
 -- names and signals

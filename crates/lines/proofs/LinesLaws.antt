@@ -5,11 +5,14 @@ use native.Mathlib.Omega.{arith}
 use mathlib.Core.Path.{_≡_, refl, _∙_}
 use mathlib.Core.Bool.{Bool, true, false, not}
 use mathlib.Core.List.{List, [], _∷_}
-use lib.Dec.{eqb}
+use borrow.Author.Tests.{leb-true}
+use lib.Dec.{eqb, leb}
 use lib.ListN.{length, take, drop, length-drop, drop-of-length-le}
 use lib.Seq.{drop-drop}
-use Rattle.basics.specs.Bytes.{notLineEnd, run, past, between}
-use Rattle.lines.specs.Lines.{ended, unended, lineStart, lines}
+use Rattle.basics.specs.Bytes.{lower, wordByte, notLineEnd, run, past, between}
+use Rattle.basics.proofs.Booleans.{and-left, and-right}
+use Rattle.lines.specs.Limits.{nameLimit}
+use Rattle.lines.specs.Lines.{ended, unended, lineStart, lines, isName}
 
 -- the first line of a text that has byte 10, with r bytes before it
 split-ended : (s : List ℕ) (r : ℕ) → r ≡ run notLineEnd s → r < length s → lines s ≡ ended (take r s) ∷ lines (drop (suc r) s)
@@ -55,3 +58,11 @@ module _ (source : List ℕ) (at end : ℕ) (e : end ≡ past notLineEnd source 
   pub lines-unended : at < length source → end ≡ length source → lines (drop at source) ≡ unended (drop at source) ∷ []
   lines-unended h q =
       split-unended (drop at source) (omega (arith, length-drop at source)) (omega (arith, length-drop at source, run-is))
+
+-- a name is short
+pub name-short : (name : List ℕ) → isName name ≡ true → length name ≤ nameLimit
+unfolding isName
+name-short [] e = omega arith
+name-short (b ∷ s) e =
+    leb-true (length (b ∷ s)) nameLimit
+    (and-left (leb (length (b ∷ s)) nameLimit) _ (and-right (eqb (run wordByte s) (length s)) _ (and-right (lower b) _ e)))

@@ -1,12 +1,12 @@
 -- The lines of a problem's text (a sheet in document 01) and their two fields.
 -- Assumes nothing.
 use Prim.Native.Nat.{ℕ, _+_}
-use mathlib.Core.Bool.{Bool, true, false, _&&_, cond}
-use mathlib.Core.List.{List, [], _∷_}
+use mathlib.Core.Bool.{Bool, true, false, not, _&&_, _||_, cond}
+use mathlib.Core.List.{List, [], _∷_, _++_}
 use lib.Dec.{eqb, leb, ltb}
 use lib.ListN.{length, take, drop}
-use Rattle.basics.specs.Bytes.{notTab, run, bytesOf, sameBytes}
-use Rattle.grammar.specs.Lex.{tokenAt, nameKind}
+use Rattle.basics.specs.Bytes.{lower, wordByte, notTab, run, bytesOf, sameBytes}
+use Rattle.lines.specs.declared.problem.Kind.{Kind}
 use Rattle.lines.specs.declared.problem.Kind.the-variants.{Output, Observed, Hidden}
 use Rattle.lines.specs.declared.problem.Word.{Word}
 use Rattle.lines.specs.declared.problem.Word.the-variants.{Declare, Rule, Unknown}
@@ -29,6 +29,19 @@ lineStart false b ls = before b ls
 unfoldable pub lines : List ℕ → List SourceLine
 lines [] = []
 lines (b ∷ s) = lineStart (eqb b 10) b (lines s)
+
+-- ---- the lines that may be written: a word, a tab (byte 9) and a second field
+
+abbrev pub kindWord : Kind → List ℕ
+kindWord Output = bytesOf "out"
+kindWord Observed = bytesOf "see"
+kindWord Hidden = bytesOf "hid"
+
+abbrev pub declareLine : Kind → List ℕ → List ℕ
+declareLine k name = kindWord k ++ 9 ∷ name
+
+abbrev pub ruleLine : List ℕ → List ℕ
+ruleLine text = bytesOf "rule" ++ 9 ∷ text
 
 -- ---- the fields of a line, parted by its first tab
 
@@ -55,9 +68,12 @@ wordOf w =
 
 -- ---- the second field
 
--- a name: one token of the kind of names and nothing else, not too long
+-- a name: a lowercase letter, then lowercase letters, digits or `_`, not too many, and neither `true` nor `false`
 unfoldable pub isName : List ℕ → Bool
-isName s = eqb (tokenAt s 0 .kind) nameKind && (eqb (tokenAt s 0 .from) 0 && (eqb (tokenAt s 0 .next) (length s) && leb (length s) nameLimit))
+isName [] = false
+isName (b ∷ s) =
+    lower b && (eqb (run wordByte s) (length s) && (leb (length (b ∷ s)) nameLimit
+    && not (sameBytes (b ∷ s) (bytesOf "true") || sameBytes (b ∷ s) (bytesOf "false"))))
 
 -- a formula's text: some bytes, not too many, and no tab
 unfoldable pub isText : List ℕ → Bool

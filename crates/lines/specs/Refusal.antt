@@ -1,6 +1,7 @@
 -- What a call may say no to (document 01, "What the desk may say no to"): the number of each refusal and its place.
 -- Assumes nothing.
 use Prim.Native.Nat.{ℕ}
+use mathlib.Core.List.{List}
 use Rattle.lines.specs.declared.refusal.Refusal.{Refusal}
 use Rattle.lines.specs.declared.refusal.Refusal.the-variants.{LongSource, BadLine, NameTwice, TooManySignals, BadFormula, UnknownName, TooManyParts, NoFormula, TooManyStates, TooManyBeliefs, Unrealizable, ShortMemory, BadTable, Stopped, BadObservation, BadTrace}
 
@@ -40,3 +41,11 @@ placeOf BadTable = 0
 placeOf Stopped = 0
 placeOf BadObservation = 0
 placeOf (BadTrace n) = n
+
+-- an answer in the terms of document 01: its values, or a refusal's number and place
+pub data Told : Type 0 where
+  values : List ℕ → Told
+  refused : (number place : ℕ) → Told
+
+abbrev pub toldRefusal : Refusal → Told
+toldRefusal r = refused (numberOf r) (placeOf r)

@@ -18,7 +18,7 @@ use Rattle.basics.proofs.MemberLaws.{in-tabulate}
 use Rattle.basics.proofs.ReachLaws.{closed-lists}
 use Rattle.play.specs.Limits.{sideLimit}
 use Rattle.play.specs.Cells.{stopCell}
-use Rattle.play.specs.Game.{Game}
+use Rattle.play.specs.Game.{Game, set}
 use Rattle.play.specs.Rank.{Arena, best}
 use Rattle.play.specs.History.{Knows}
 use Rattle.play.specs.Table.{Laid, listOf, rows, rowOf, tableStrategy, tableCells}
@@ -26,7 +26,7 @@ use Rattle.play.specs.Answer.{moves, positions, startRank, Verdict, verd
 use Rattle.basics.proofs.BoundedLaws.{first-passes, first-least}
 use Rattle.play.proofs.RankLaws.{In, HasRank}
 use Rattle.play.proofs.FiniteArena.{Closed}
-use Rattle.play.proofs.Optimality.{set, answer, descends, solved as solve, no-rank-unrealizable, verdict}
+use Rattle.play.proofs.Optimality.{ordered, answer, descends, best-optimal, no-rank-unrealizable, verdict}
 use Rattle.play.proofs.LeastRanks.{takes-smallest}
 use Rattle.play.proofs.SameStrategy.{optimal-agree}
 use Rattle.play.proofs.RankedRows.{rows-listed, rows-ranked, rows-le, rank-lt-rows}
@@ -36,7 +36,7 @@ pub eqb-says : (a b : ℕ) → Says (eqb a b) (a ≡ b)
 eqb-says a b = (eqb-true a b, eq-eqb a b)
 
 -- the moves have every pair of a choice and an observation
-moves-cover : (A : Arena) (same : A .K → A .K → Bool) (choices observations : ℕ) (k : A .K) (c s : ℕ) → c < choices → s < observations
+pub moves-cover : (A : Arena) (same : A .K → A .K → Bool) (choices observations : ℕ) (k : A .K) (c s : ℕ) → c < choices → s < observations
     → A .move k c s ∈ moves A same choices observations k
 moves-cover A same choices observations k c s cb sb =
     in-tabulate (choices * observations) (λ q. A .move k (q % choices) (q / choices)) (A .move k c s) .1 (
@@ -49,7 +49,7 @@ moves-cover A same choices observations k c s cb sb =
 module _ (G : Game) (some-observation : 0 < G .observations) (some-hidden : 0 < G .hiddens) (few-choices : G .choices < stopCell)
     (few-observations : G .observations ≤ sideLimit)
     (A : Arena) (knows : Knows G A) (same : A .K → A .K → Bool) (says : (a b : A .K) → Says (same a b) (a ≡ b))
-    (all : List (A .K)) (closed-all : Closed (set G) A some-observation all) (start-in : A .start ∈ all) (n : ℕ) (fits : length all ≡ n) (limit : ℕ)
+    (all : List (A .K)) (closed-all : Closed (ordered set G) A some-observation all) (start-in : A .start ∈ all) (n : ℕ) (fits : length all ≡ n) (limit : ℕ)
     (within : n ≤ limit) where
   abbrev small : length all ≤ n
   small = omega (arith, fits)
@@ -65,24 +65,24 @@ module _ (G : Game) (some-observation : 0 < G .observations) (some-hidden : 0 < 
 
   answer-optimal : r < n → Right limit G (Verdict.solved rowCount r cells)
   answer-optimal ranked =
-      let start-rank : HasRank (set G) A (A .start) r = (
-        first-passes (λ q. In (set G) A q (A .start)) n ranked,
-        first-least (λ q. In (set G) A q (A .start)) n,
+      let start-rank : HasRank (ordered set G) A (A .start) r = (
+        first-passes (λ q. In (ordered set G) A q (A .start)) n ranked,
+        first-least (λ q. In (ordered set G) A q (A .start)) n,
       ) in
-      let (ks, e) = rows-listed (set G) A same says some-observation all closed-all start-in n small (answer A (G .choices) (G .observations) n)
+      let (ks, e) = rows-listed (ordered set G) A same says some-observation all closed-all start-in n small (answer A (G .choices) (G .observations) n)
       (descends A (G .choices) (G .observations) n) r ranked start-rank in
-      let ranked-rows = rows-ranked (set G) A same says some-observation all closed-all start-in n small (answer A (G .choices) (G .observations) n)
+      let ranked-rows = rows-ranked (ordered set G) A same says some-observation all closed-all start-in n small (answer A (G .choices) (G .observations) n)
       (descends A (G .choices) (G .observations) n) r ranked start-rank ks e in
-      let fewer = rows-le (set G) A same says some-observation all closed-all start-in n small (answer A (G .choices) (G .observations) n)
+      let fewer = rows-le (ordered set G) A same says some-observation all closed-all start-in n small (answer A (G .choices) (G .observations) n)
       (descends A (G .choices) (G .observations) n) r ranked start-rank ks e in
       record {
         optimal =
             optimal-agree G (tableStrategy cells) (best A (G .choices) (G .observations) n (A .start))
             (table-is-best A same says (G .choices) (G .observations) n few-choices few-observations ks e)
-            r (solve G some-observation some-hidden A knows all closed-all start-in n small ranked);
+            r (best-optimal G some-observation some-hidden A knows n r ranked start-rank);
         below =
             subst (λ l. r < length (listOf l)) (sym e)
-            (rank-lt-rows (set G) A same says some-observation all closed-all start-in n small (answer A (G .choices) (G .observations) n)
+            (rank-lt-rows (ordered set G) A same says some-observation all closed-all start-in n small (answer A (G .choices) (G .observations) n)
             (descends A (G .choices) (G .observations) n) r ranked start-rank ks e);
         within = subst (λ l. length (listOf l) ≤ limit) (sym e) (omega (arith, fewer));
         laid =
@@ -98,8 +98,8 @@ module _ (G : Game) (some-observation : 0 < G .observations) (some-hidden : 0 < 
       at : (b : Bool) → ltb r n ≡ b
           → Right limit G (cond b (Verdict.solved rowCount r cells) Verdict.unrealizable)
       at true e = answer-optimal (ltb-true r n e)
-      at false e = no-rank-unrealizable G some-observation some-hidden A knows all closed-all start-in n small
-          (none (verdict G some-observation some-hidden A knows all closed-all start-in n small))
+      at false e = no-rank-unrealizable G set some-observation some-hidden A knows all closed-all start-in n small
+          (none (verdict G set some-observation some-hidden A knows all closed-all start-in n small))
         where
           none : (r < length all) ⊎ (r ≡ n) → r ≡ n
           none (inl l) = absurd (omega (arith, ltb-false r n e))

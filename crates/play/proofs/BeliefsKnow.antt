@@ -28,7 +28,7 @@ module _ (G : Game) (M : Automaton) where
   -- the automaton judges runs, starts outside its accepting states, and stays in its numbers
   pub record Judges : Type 0 where
     pub judges : (m : ℕ × ℕ) (h : History) → Possible (G .choices) (G .observations) (m ∷ h) → (x : ℕ → ℕ) → Hidden G x
-        → G .isTrue (letters G (m ∷ h) x) ≡ M .accepts (stateFrom M (M .initial) (letters G (m ∷ h) x))
+        → (M .accepts (stateFrom M (M .initial) (letters G (m ∷ h) x)) ≡ true) ↔ G .IsTrue (letters G (m ∷ h) x)
     pub starts : M .accepts (M .initial) ≡ false
     pub initial-below : M .initial < M .states
     pub next-below : (s : ℕ) → s < M .states → (c r x : ℕ) → c < G .choices → r < G .observations → x < G .hiddens → M .next s (G .letter c r x) < M .states
@@ -102,7 +102,7 @@ module _ (G : Game) (M : Automaton) where
                 | inr f ↦ f
               ];
           law = λ m h v. (
-            λ t x xb. J .judges m h v x xb ∙ sure-first (m ∷ h) v .0 t x xb,
-            λ f. sure-first (m ∷ h) v .1 (λ x xb. sym (J .judges m h v x xb) ∙ f x xb),
+            λ t x xb. J .judges m h v x xb .0 (sure-first (m ∷ h) v .0 t x xb),
+            λ f. sure-first (m ∷ h) v .1 (λ x xb. J .judges m h v x xb .1 (f x xb)),
           );
         }

@@ -7,20 +7,20 @@ use mathlib.Core.Path.{_≡_, subst}
 use mathlib.Core.List.{List}
 use Rattle.play.specs.Game.{Game, Play}
 use Rattle.play.specs.Rank.{Arena}
-use Rattle.play.proofs.Order.{Order}
+use Rattle.play.proofs.StepOrder.{StepOrder}
 use Rattle.play.proofs.RankLaws.{HasRank}
 use Rattle.play.proofs.Plans.{Plan, PlanSteps, planRun, WinsFor, Tracks, Legal, idle, steps-unique}
 use Rattle.play.proofs.LowerBound.{lower}
 use Rattle.play.proofs.UpperBound.{follow, Descends, follow-legal, upper}
 
 -- a plan that wins with the least worst case, r
-pub record BestPlan (G : Game) (O : Order (G .choices) (G .observations)) (Φ : List ℕ → Type 0) (σ : Plan) (r : ℕ) : Type 0 where
+pub record BestPlan (G : Game) (O : StepOrder (G .choices) (G .observations)) (Φ : List ℕ → Type 0) (σ : Plan) (r : ℕ) : Type 0 where
   pub legal : Legal O σ
   pub wins : (p : Play G) → (n : ℕ) × PlanSteps G σ p n × Φ (planRun G σ p n) × (n ≤ r)
   pub reached : (p : Play G) × PlanSteps G σ p r
   pub least : (τ : Plan) → Legal O τ → WinsFor G Φ τ → (p : Play G) × (n : ℕ) × PlanSteps G τ p n × (r ≤ n)
 
-module _ (G : Game) (O : Order (G .choices) (G .observations)) (A : Arena) (some-observation : 0 < G .observations) (some-hidden : 0 < G .hiddens)
+module _ (G : Game) (O : StepOrder (G .choices) (G .observations)) (A : Arena) (some-observation : 0 < G .observations) (some-hidden : 0 < G .hiddens)
     (k : A .K) (Φ : List ℕ → Type 0) (T : Tracks G A k Φ) where
   pub plan-least : (r : ℕ) → HasRank O A k r → (τ : Plan) → Legal O τ → WinsFor G Φ τ → (p : Play G) × (n : ℕ) × PlanSteps G τ p n × (r ≤ n)
   plan-least zero a τ l win = let p = idle G some-observation some-hidden in let (n, st, φ) = win p in (p, n, st, zero-le)

@@ -10,7 +10,7 @@ use mathlib.Core.List.{List, [], _∷_, List·Memᴰ, List·Memᴰ·not-nil, Lis
 use lib.ListN.{length}
 use Rattle.play.specs.Rank.{Arena}
 use Rattle.basics.proofs.Booleans.{test, clash, or-right}
-use Rattle.play.proofs.Order.{Order}
+use Rattle.play.proofs.StepOrder.{StepOrder}
 use Rattle.play.proofs.RankLaws.{In, HasRank, within-suc, within-le, rank-of, unstopped, goes-on, next-rank}
 use Rattle.play.proofs.TrapsDefeat.{Trap}
 
@@ -39,7 +39,7 @@ pub count-length : {A : Type 0} (f : A → Bool) (l : List A) → count f l ≤ 
 count-length f [] = zero-le
 count-length f (a ∷ l) = elim (test (f a)) [ inl t ↦ rw t (omega (arith, count-length f l)) | inr e ↦ rw e (omega (arith, count-length f l)) ]
 
-module _ {choices observations : ℕ} (O : Order choices observations) (A : Arena) (some-observation : 0 < observations) (ks : List (A .K)) where
+module _ {choices observations : ℕ} (O : StepOrder choices observations) (A : Arena) (some-observation : 0 < observations) (ks : List (A .K)) where
   -- the list has every position that a move from an unstopped one of it leads to
   abbrev pub Closed : Type 0
   Closed =

@@ -10,7 +10,7 @@ use Rattle.basics.specs.Bounded.{all, firstThat}
 use Rattle.play.specs.Rank.{Arena, setFirst, RankOf, LeadsBelow, HasChoice, choiceWithin, bestChoice}
 use Rattle.basics.proofs.BoundedLaws.{any-at, any-of, all-at, all-of, first-of, first-least}
 use Rattle.basics.proofs.Booleans.{test, clash, or-cases, or-intro-right}
-use Rattle.play.proofs.Order.{setOrder}
+use Rattle.play.proofs.StepOrder.{setOrder}
 use Rattle.play.proofs.RankLaws.{In, within-le, rank-of, rank-searched}
 
 module _ (A : Arena) (choices observations : ℕ) (some-observation : 0 < observations) where

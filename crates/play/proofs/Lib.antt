@@ -1,5 +1,6 @@
--- orders of a step, and ranks
-pub mod Order
+-- histories; orders of a step, and ranks
+pub mod HistoryLaws
+pub mod StepOrder
 pub mod RankLaws
 pub mod LeastRanks
 -- plans, which see their step's observation if the order lets them: the best one, and why none does better
@@ -12,11 +13,17 @@ pub mod BestPlan
 pub mod Optimality
 -- beliefs
 pub mod BeliefsKnow
+pub mod Believed
 -- the table
 pub mod SameStrategy
 pub mod RankedRows
 pub mod CellsLaws
 pub mod TableLaws
+pub mod HistoryRanks
+pub mod OneTable
+pub mod TableIs
 -- the answer; positions by another name have the same
 pub mod AnswerLaws
 pub mod SameAnswer
+pub mod BeliefsByHistories
+pub mod AnswerTable

@@ -10,11 +10,11 @@ use mathlib.Core.List.{List, []}
 use Rattle.play.specs.Game.{Game, Play}
 use Rattle.play.specs.Rank.{Arena}
 use Rattle.basics.proofs.Booleans.{clash, or-left, or-right}
-use Rattle.play.proofs.Order.{Order}
+use Rattle.play.proofs.StepOrder.{StepOrder}
 use Rattle.play.proofs.RankLaws.{In}
 use Rattle.play.proofs.Plans.{_∷ˢ_, Plan, after, Goes, goes-or-final, PlanSteps, planRun, WinsFor, afterStep, Tracks, tracks-step, Legal, legal-after, reply, idle, wins-after}
 
-module _ (G : Game) (O : Order (G .choices) (G .observations)) (A : Arena) (some-observation : 0 < G .observations) (some-hidden : 0 < G .hiddens) where
+module _ (G : Game) (O : StepOrder (G .choices) (G .observations)) (A : Arena) (some-observation : 0 < G .observations) (some-hidden : 0 < G .hiddens) where
   -- at a position that does not stop, a plan that wins goes on
   pub goes : (k : A .K) (Φ : List ℕ → Type 0) → Tracks G A k Φ → A .final k ≡ false → (σ : Plan) → WinsFor G Φ σ → Goes (σ [])
   goes k Φ T f σ win = elim (goes-or-final (σ [])) [ inl o ↦ o | inr e ↦ stopped e (win (idle G some-observation some-hidden)) ]

@@ -1,22 +1,22 @@
--- The game of document 01: the theory of plans at the order `set`.
+-- The game of document 01, for either order of a step, by the theory of plans; and its best strategy for the order `set`.
 -- Assumes nothing.
 use Prim.Native.Nat.{ℕ, zero, suc, _≤_, _<_, pred}
 use native.Mathlib.Omega.{arith}
-use mathlib.Core.Path.{_≡_, refl, sym, ap, _∙_, subst, fun-ext}
+use mathlib.Core.Path.{_≡_, refl, sym, ap, subst, fun-ext}
 use mathlib.Core.Logic.{_⊎_, inl, inr}
-use mathlib.Core.Bool.{Bool, true, false, not, false≢true}
+use mathlib.Core.Bool.{Bool, true, false, not}
 use mathlib.Core.Option.{Option, none, some, Option·none-ne-some}
 use mathlib.Core.List.{List, [], _∷_, List·Memᴰ}
 use lib.ListN.{length}
 use borrow.Author.Tests.{not-true}
 use Rattle.basics.specs.Lists.{tabulate}
 use Rattle.basics.specs.Bounded.{all, firstThat}
-use Rattle.play.specs.Game.{Game, Play, seen, Decision, choose, stop, AllBelow, Strategy, IsStrategy, GoesOn, Steps, choiceOf, run, Wins, WorstCase, Optimal, Unrealizable}
-use Rattle.play.specs.Rank.{Arena, setFirst, rankBelow, choiceWithin, bestChoice, best}
+use Rattle.play.specs.Game.{Game, Order, set, read, Play, seen, Answer, chosen, Decision, choose, stop, AllBelow, Strategy, IsStrategy, Steps, choiceOf, run, Wins, WorstCase, Optimal, Unrealizable}
+use Rattle.play.specs.Rank.{Arena, rankBelow, choiceWithin, bestChoice, best}
 use Rattle.play.specs.History.{Knows}
-use Rattle.basics.proofs.BoundedLaws.{any-at, all-at, first-of, none-first, first-least, first-passes}
+use Rattle.basics.proofs.BoundedLaws.{any-at, all-at, first-of, none-first}
 use Rattle.basics.proofs.Booleans.{test, clash}
-use Rattle.play.proofs.Order.{Order, setOrder}
+use Rattle.play.proofs.StepOrder.{StepOrder, setOrder, orderOf}
 use Rattle.play.proofs.RankLaws.{In, HasRank, goes-on, rank-searched}
 use Rattle.play.proofs.Plans.{Plan, respond, Goes, stuck, PlanSteps, planRun, WinsFor, Tracks, Legal, steps-unique}
 use Rattle.play.proofs.UpperBound.{follow, Descends}
@@ -24,34 +24,42 @@ use Rattle.play.proofs.BestPlan.{BestPlan, plan-least, plan-best}
 use Rattle.play.proofs.TrapsDefeat.{Trap, no-win}
 use Rattle.play.proofs.FiniteArena.{Closed, Lost, lost-trap, ranked-or-lost}
 
--- a decision as a plan's: the same choice at every observation
-abbrev pub lift : Decision → Option (ℕ → ℕ)
-lift (choose c) = some (λ s. c)
+-- a decision as a plan's
+abbrev pub lift : {o : Order} → Decision o → Option (ℕ → ℕ)
+lift {o} (choose a) = some (chosen o a)
 lift stop = none
 
-abbrev pub planOf : Strategy → Plan
+abbrev pub planOf : {o : Order} → Strategy o → Plan
 planOf σ h = lift (σ h)
 
-respond-lift : (d : Decision) (s : ℕ) → respond (lift d) s ≡ choiceOf d
-respond-lift (choose c) s = refl
-respond-lift stop s = refl
+module _ (o : Order) where
+  respond-lift : (d : Decision o) (s : ℕ) → respond (lift d) s ≡ choiceOf d s
+  respond-lift (choose a) s = refl
+  respond-lift stop s = refl
 
-lift-stop : (d : Decision) → lift d ≡ none → d ≡ stop
-lift-stop (choose c) e = stuck {d = some (λ s. c)} e (λ s. c, refl)
-lift-stop stop e = refl
+  lift-stop : (d : Decision o) → lift d ≡ none → d ≡ stop
+  lift-stop (choose a) e = stuck {d = some (chosen o a)} e (chosen o a, refl)
+  lift-stop stop e = refl
 
-lift-goes : (d : Decision) → Goes (lift d) → (c : ℕ) × (d ≡ choose c)
-lift-goes (choose c) o = (c, refl)
-lift-goes stop o = stuck refl o
+  lift-goes : (d : Decision o) → Goes (lift d) → (a : Answer o) × (d ≡ choose a)
+  lift-goes (choose a) g = (a, refl)
+  lift-goes stop g = stuck refl g
 
-lift-legal : (n m : ℕ) (d : Decision) → ((c : ℕ) → d ≡ choose c → c < n) → (g : ℕ → ℕ) → lift d ≡ some g → setOrder n m .Allowed g
-lift-legal n m (choose c) l g e = (c, l c refl, λ s. ap (λ (d : Option (ℕ → ℕ)). respond d s) (sym e))
-lift-legal n m stop l g e = absurd (Option·none-ne-some g e)
+-- what is asked of an answer is what the order allows
+answer-allowed : (o : Order) (n m : ℕ) → 0 < m → (a : Answer o) → ((s : ℕ) → s < m → chosen o a s < n) → orderOf o n m .Allowed (chosen o a)
+answer-allowed set n m positive c l = (c, l 0 positive, λ s. refl)
+answer-allowed read n m positive g l = l
+
+lift-legal : (o : Order) (n m : ℕ) → 0 < m → (d : Decision o) → ((a : Answer o) → d ≡ choose a → (s : ℕ) → s < m → chosen o a s < n)
+    → (g : ℕ → ℕ) → lift d ≡ some g → orderOf o n m .Allowed g
+lift-legal o n m some-observation (choose a) l g e =
+    subst (orderOf o n m .Allowed) (fun-ext (λ s. ap (λ (d : Option (ℕ → ℕ)). respond d s) e)) (answer-allowed o n m some-observation a (l a refl))
+lift-legal o n m some-observation stop l g e = absurd (Option·none-ne-some g e)
 
 -- the strategy that takes the smallest choice that works is a plan that follows answers which descend
 module _ (A : Arena) (choices observations n : ℕ) where
-  abbrev O : Order choices observations
-  O = setOrder choices observations
+  abbrev S : StepOrder choices observations
+  S = setOrder choices observations
 
   abbrev pub answer : A .K → ℕ → ℕ
   answer k s = bestChoice A choices observations n k
@@ -62,51 +70,48 @@ module _ (A : Arena) (choices observations n : ℕ) where
   best-follows (s ∷ h) k =
       elim (test (A .final k)) [ inl t ↦ rw (t, best, follow) | inr f ↦ rw (f, best, follow) (best-follows h (A .move k (answer k s) s)) ]
 
-  pub descends : Descends (setOrder choices observations) A answer n
+  pub descends : Descends S A answer n
   descends k r small a =
-      let works : ℕ → Bool = λ c. all observations (λ s. In O A r (A .move k c s)) in
-      let (c, b, t) = any-at choices works (goes-on O A k r a) in
+      let works : ℕ → Bool = λ c. all observations (λ s. In S A r (A .move k c s)) in
+      let (c, b, t) = any-at choices works (goes-on S A k r a) in
       let (cb, right) = first-of works choices c b t in
       let e : answer k 0 ≡ firstThat works choices = ap (λ (q : ℕ). choiceWithin A choices observations (pred q) k)
-      (rank-searched O A n (suc r) k small a) in (
+      (rank-searched S A n (suc r) k small a) in (
         (firstThat works choices, cb, λ s. e),
-        λ s h. subst (λ (c : ℕ). In O A r (A .move k c s) ≡ true) (sym e)
-            (all-at observations (λ s. In O A r (A .move k (firstThat works choices) s)) right s h),
+        λ s h. subst (λ (c : ℕ). In S A r (A .move k c s) ≡ true) (sym e)
+            (all-at observations (λ s. In S A r (A .move k (firstThat works choices) s)) right s h),
       )
 
--- the order of a game
-abbrev pub set : (G : Game) → Order (G .choices) (G .observations)
-set G = setOrder (G .choices) (G .observations)
+-- the order of a game's steps
+abbrev pub ordered : (o : Order) (G : Game) → StepOrder (G .choices) (G .observations)
+ordered o G = orderOf o (G .choices) (G .observations)
 
-module _ (G : Game) (A : Arena) (n : ℕ) where
-  best-plan : 0 < G .observations → 0 < G .hiddens → (k : A .K) (Φ : List ℕ → Type 0) → Tracks G A k Φ → (r : ℕ) → r < n → HasRank (set G) A k r
-      → BestPlan G (set G) Φ (planOf (best A (G .choices) (G .observations) n k)) r
-  best-plan some-observation some-hidden k Φ T r small a =
-      subst (λ (σ : Plan). BestPlan G (set G) Φ σ r) (sym (fun-ext (λ h. best-follows A (G .choices) (G .observations) n h k)))
-      (plan-best G (set G) A some-observation some-hidden k Φ T
-      (answer A (G .choices) (G .observations) n) n (descends A (G .choices) (G .observations) n) r small a)
+-- the goal: a run, which has a step at least, that is true
+abbrev pub TrueRun : Game → List ℕ → Type 0
+TrueRun G [] = ⊥
+TrueRun G (a ∷ w) = G .IsTrue (a ∷ w)
 
-module _ (G : Game) where
-  plan-run : (σ : Strategy) (p : Play G) (n : ℕ) → planRun G (planOf σ) p n ≡ run G σ p n
+pub true-run : (G : Game) (w : List ℕ) → TrueRun G w → G .IsTrue w
+true-run G [] e = absurd e
+true-run G (a ∷ w) e = e
+
+module _ (G : Game) {o : Order} where
+  plan-run : (σ : Strategy o) (p : Play G) (n : ℕ) → planRun G (planOf σ) p n ≡ run G σ p n
   plan-run σ p n =
-      ap (tabulate n) (fun-ext (λ i. ap (λ (c : ℕ). G .letter c ((p i) .observation) ((p i) .hidden)) (respond-lift (σ (seen p i)) ((p i) .observation))))
+      ap (tabulate n)
+      (fun-ext (λ i. ap (λ (c : ℕ). G .letter c ((p i) .observation) ((p i) .hidden)) (respond-lift o (σ (seen p i)) ((p i) .observation))))
 
-  plan-goes : (σ : Strategy) (p : Play G) (n : ℕ) → GoesOn σ p n → (m : ℕ) → m < n → Goes (planOf σ (seen p m))
-  plan-goes σ p n o m h = let (c, e) = o m h in (λ s. c, ap lift e)
+  plan-steps : (σ : Strategy o) (p : Play G) (n : ℕ) → Steps σ p n → PlanSteps G (planOf σ) p n
+  plan-steps σ p n st = (ap lift (st .0), λ m h. let (a, e) = st .1 m h in (chosen o a, ap lift e))
 
-  plan-steps : (σ : Strategy) (p : Play G) (n : ℕ) → Steps σ p n → PlanSteps G (planOf σ) p n
-  plan-steps σ p n st = (ap lift (st .0), plan-goes σ p n (st .1))
+  steps-plan : (σ : Strategy o) (p : Play G) (n : ℕ) → PlanSteps G (planOf σ) p n → Steps σ p n
+  steps-plan σ p n st = (lift-stop o _ (st .0), λ m h. lift-goes o _ (st .1 m h))
 
-  steps-plan : (σ : Strategy) (p : Play G) (n : ℕ) → PlanSteps G (planOf σ) p n → Steps σ p n
-  steps-plan σ p n st = (lift-stop _ (st .0), λ m h. lift-goes _ (st .1 m h))
+  plan-choices : (σ : Strategy o) → Legal (ordered o G) (planOf σ) → (h : List ℕ) → AllBelow (G .observations) h → (a : Answer o) → σ h ≡ choose a
+      → (s : ℕ) → s < G .observations → chosen o a s < G .choices
+  plan-choices σ l h v a e = ordered o G .below (chosen o a) (l h v (chosen o a) (ap lift e))
 
-  plan-legal : (σ : Strategy) → IsStrategy G σ → Legal (set G) (planOf σ)
-  plan-legal σ is h v g e = lift-legal (G .choices) (G .observations) (σ h) (is .legal h v) g e
-
-  plan-choices : (σ : Strategy) → Legal (set G) (planOf σ) → (h : List ℕ) → AllBelow (G .observations) h → (c : ℕ) → σ h ≡ choose c → c < G .choices
-  plan-choices σ l h v c e = let (c′, b, same) = l h v (λ s. c) (ap lift e) in omega (arith, same 0)
-
-  plan-worst : (σ : Strategy) (r : ℕ) (Φ : List ℕ → Type 0) → BestPlan G (set G) Φ (planOf σ) r → WorstCase G σ r
+  plan-worst : (σ : Strategy o) (r : ℕ) (Φ : List ℕ → Type 0) → BestPlan G (ordered o G) Φ (planOf σ) r → WorstCase G σ r
   plan-worst σ r Φ b =
       record {
         at-most = λ p m st.
@@ -116,98 +121,96 @@ module _ (G : Game) where
         reached = (b .reached .0, steps-plan σ (b .reached .0) r (b .reached .1));
       }
 
-  -- the goal: a run, which has a step at least, that is true
-  abbrev pub trueRun : List ℕ → Bool
-  trueRun [] = false
-  trueRun (a ∷ w) = G .isTrue (a ∷ w)
-
-  abbrev pub TrueRun : List ℕ → Type 0
-  TrueRun w = trueRun w ≡ true
-
-  pub true-run : (w : List ℕ) → TrueRun w → G .isTrue w ≡ true
-  true-run [] e = absurd (false≢true e)
-  true-run (a ∷ w) e = e
-
-  wins-plan : (σ : Strategy) → IsStrategy G σ → Wins G σ → WinsFor G TrueRun (planOf σ)
+  wins-plan : (σ : Strategy o) → IsStrategy G σ → Wins G σ → WinsFor G (TrueRun G) (planOf σ)
   wins-plan σ is win p = go (win p)
     where
-      go : (n : ℕ) × Steps σ p n × (G .isTrue (run G σ p n) ≡ true) → (n : ℕ) × PlanSteps G (planOf σ) p n × TrueRun (planRun G (planOf σ) p n)
-      go (zero, st, t) = stuck (ap lift (st .0)) (λ s. is .opens .0, ap lift (is .opens .1))
-      go (suc n, st, t) = (suc n, plan-steps σ p (suc n) st, subst TrueRun (sym (plan-run σ p (suc n))) t)
+      go : (n : ℕ) × Steps σ p n × G .IsTrue (run G σ p n) → (n : ℕ) × PlanSteps G (planOf σ) p n × TrueRun G (planRun G (planOf σ) p n)
+      go (zero, st, t) = stuck (ap lift (st .0)) (chosen o (is .opens .0), ap lift (is .opens .1))
+      go (suc n, st, t) = (suc n, plan-steps σ p (suc n) st, subst (TrueRun G) (sym (plan-run σ p (suc n))) t)
 
-  module _ (some-observation : 0 < G .observations) (some-hidden : 0 < G .hiddens) (A : Arena) (knows : Knows G A) where
-    pub tracks : Tracks G A (A .start) TrueRun
-    tracks [] v = (λ t. clash t (knows .starts), λ f. absurd (false≢true (f (λ i. 0) (λ i. some-hidden))))
-    tracks (m ∷ h) v = knows .law m h v
+module _ (G : Game) (o : Order) (some-observation : 0 < G .observations) (some-hidden : 0 < G .hiddens) (A : Arena) (knows : Knows G A) where
+  abbrev O : StepOrder (G .choices) (G .observations)
+  O = ordered o G
 
-    -- (b) every strategy that wins has a play of at least as many steps as the rank of the start
-    pub least-worst : (r : ℕ) → HasRank (set G) A (A .start) r → (σ : Strategy) → IsStrategy G σ → Wins G σ
-        → (p : Play G) × (n : ℕ) × Steps σ p n × (r ≤ n)
-    least-worst r a σ is win =
-        let (p, n, st, h) =
-        plan-least G (set G) A some-observation some-hidden (A .start) TrueRun tracks r a (planOf σ) (plan-legal σ is) (wins-plan σ is win) in
-        (p, n, steps-plan σ p n st, h)
+  plan-legal : (σ : Strategy o) → IsStrategy G σ → Legal O (planOf σ)
+  plan-legal σ is h v g e = lift-legal o (G .choices) (G .observations) some-observation (σ h) (is .legal h v) g e
 
-    -- (c) from a trap no strategy wins
-    module _ (P : A .K → Type 0) (trap : Trap (set G) A P) (caught : P (A .start)) where
-      pub unrealizable : Unrealizable G
-      unrealizable σ is win =
-          no-win G (set G) A P trap some-observation some-hidden (A .start) caught TrueRun tracks (planOf σ) (plan-legal σ is) (wins-plan σ is win)
+  pub tracks : Tracks G A (A .start) (TrueRun G)
+  tracks [] v = (λ t. clash t (knows .starts), λ f. absurd (f (λ i. 0) (λ i. some-hidden)))
+  tracks (m ∷ h) v = knows .law m h v
 
-    -- (a) if the start has rank r, the strategy of the smallest choices that work wins, its worst case is r, and that is the least worst case
-    pub optimal-solves : (n r : ℕ) → r < n → HasRank (set G) A (A .start) r → Optimal G (best A (G .choices) (G .observations) n (A .start)) r
-    optimal-solves n r small a =
-        let σ : Strategy = best A (G .choices) (G .observations) n (A .start) in
-        let b = best-plan G A n some-observation some-hidden (A .start) TrueRun tracks r small a in
-        record {
-          isStrategy = record {
-            opens = (answer A (G .choices) (G .observations) n (A .start) 0, rw (knows .starts, best));
-            legal = plan-choices σ (b .legal);
-          };
-          wins = λ p. let (m, st, t, h) = b .wins p in (m, steps-plan σ p m st, ap (G .isTrue) (sym (plan-run σ p m)) ∙ true-run _ t);
-          worst = plan-worst σ r TrueRun b;
-          least = least-worst r a;
-        }
+  -- (a) a strategy that is best as a plan, for the rank of the start, is optimal
+  pub plan-optimal : (σ : Strategy o) → ((a : Answer o) × (σ [] ≡ choose a)) → (r : ℕ) → HasRank O A (A .start) r
+      → BestPlan G O (TrueRun G) (planOf σ) r → Optimal G σ r
+  plan-optimal σ opens r a b =
+      record {
+        isStrategy = record { opens = opens; legal = plan-choices G σ (b .legal) };
+        wins = λ p. let (m, st, t, h) = b .wins p in (m, steps-plan G σ p m st, subst (G .IsTrue) (plan-run G σ p m) (true-run G _ t));
+        worst = plan-worst G σ r (TrueRun G) b;
+        least = λ τ is win.
+            let (p, n, st, h) =
+            plan-least G O A some-observation some-hidden (A .start) (TrueRun G) tracks r a (planOf τ) (plan-legal τ is) (wins-plan G τ is win) in
+            (p, n, steps-plan G τ p n st, h);
+      }
 
-    -- (d) finitely many positions, at most n: the start has a rank below n, and the game is solved, or it has none, and no strategy wins
-    module _ (ks : List (A .K)) (closed : Closed (set G) A some-observation ks) (listed : List·Memᴰ (A .start) ks) (n : ℕ) (fits : length ks ≤ n) where
-      -- the rank of the start, searched below n
-      abbrev start-rank : ℕ
-      start-rank = rankBelow A (setFirst (G .choices) (G .observations)) n (A .start)
+  -- (b) from a trap no strategy wins
+  pub trapped-unrealizable : (P : A .K → Type 0) → Trap O A P → P (A .start) → Unrealizable G o
+  trapped-unrealizable P trap caught σ is win =
+      no-win G O A P trap some-observation some-hidden (A .start) caught (TrueRun G) tracks (planOf σ) (plan-legal σ is) (wins-plan G σ is win)
 
-      pub solved : start-rank < n → Optimal G (best A (G .choices) (G .observations) n (A .start)) start-rank
-      solved h =
-          optimal-solves n start-rank h (first-passes (λ r. In (set G) A r (A .start)) n h, first-least (λ r. In (set G) A r (A .start)) n)
+  -- (c) finitely many positions, at most n: the start has a rank below n, or it has none, and no strategy wins
+  module _ (ks : List (A .K)) (closed : Closed O A some-observation ks) (listed : List·Memᴰ (A .start) ks) (n : ℕ) (fits : length ks ≤ n) where
+    -- the rank of the start, searched below n
+    abbrev start-rank : ℕ
+    start-rank = rankBelow A (O .can) n (A .start)
 
-      no-rank : start-rank ≡ n → (r : ℕ) → In (set G) A r (A .start) ≡ false
-      no-rank e =
-          elim (ranked-or-lost (set G) A some-observation ks closed (A .start) listed) [
-            | inl ranked ↦
-                let (r, b, a) = ranked in
-                let z = rank-searched (set G) A n r (A .start) (omega arith) a in
-                absurd (omega arith)
-            | inr l ↦ l .1
-          ]
+    no-rank : start-rank ≡ n → (r : ℕ) → In O A r (A .start) ≡ false
+    no-rank e =
+        elim (ranked-or-lost O A some-observation ks closed (A .start) listed) [
+          | inl ranked ↦
+              let (r, b, a) = ranked in
+              let z = rank-searched O A n r (A .start) (omega arith) a in
+              absurd (omega arith)
+          | inr l ↦ l .1
+        ]
 
-      -- against each answer some observation leads to a position without a rank
-      abbrev bad : A .K → (ℕ → ℕ) → ℕ → Bool
-      bad k g s = not (In (set G) A n (A .move k (g s) s))
+    -- against each answer some observation leads to a position without a rank
+    abbrev bad : A .K → (ℕ → ℕ) → ℕ → Bool
+    bad k g s = not (In O A n (A .move k (g s) s))
 
-      trap : Trap (set G) A (Lost (set G) A some-observation ks closed)
-      trap =
-          lost-trap (set G) A some-observation ks closed n fits (λ k g. firstThat (bad k g) (G .observations))
-          (λ k g al f.
-          let (s, h, w) = set G .refute (λ c s. In (set G) A n (A .move k c s)) f g al in
-          let (b, t) = first-of (bad k g) (G .observations) s h (ap not w) in
-          (b, not-true (In (set G) A n (A .move k (g (firstThat (bad k g) (G .observations))) (firstThat (bad k g) (G .observations)))) t))
+    trap : Trap O A (Lost O A some-observation ks closed)
+    trap =
+        lost-trap O A some-observation ks closed n fits (λ k g. firstThat (bad k g) (G .observations))
+        (λ k g al f.
+        let (s, h, w) = O .refute (λ c s. In O A n (A .move k c s)) f g al in
+        let (b, t) = first-of (bad k g) (G .observations) s h (ap not w) in
+        (b, not-true (In O A n (A .move k (g (firstThat (bad k g) (G .observations))) (firstThat (bad k g) (G .observations)))) t))
 
-      pub no-rank-unrealizable : start-rank ≡ n → Unrealizable G
-      no-rank-unrealizable e = unrealizable (Lost (set G) A some-observation ks closed) trap (listed, no-rank e)
+    pub no-rank-unrealizable : start-rank ≡ n → Unrealizable G o
+    no-rank-unrealizable e = trapped-unrealizable (Lost O A some-observation ks closed) trap (listed, no-rank e)
 
-      -- one of the two is the case, and the rank is below the number of positions
-      pub verdict : (start-rank < length ks) ⊎ (start-rank ≡ n)
-      verdict =
-          elim (ranked-or-lost (set G) A some-observation ks closed (A .start) listed) [
-            | inl ranked ↦ inl (let (r, b, a) = ranked in rw (rank-searched (set G) A n r (A .start) (omega arith) a) b)
-            | inr l ↦ inr (none-first (λ r. In (set G) A r (A .start)) n (λ r h. l .1 r))
-          ]
+    -- one of the two is the case, and the rank is below the number of positions
+    pub verdict : (start-rank < length ks) ⊎ (start-rank ≡ n)
+    verdict =
+        elim (ranked-or-lost O A some-observation ks closed (A .start) listed) [
+          | inl ranked ↦ inl (let (r, b, a) = ranked in rw (rank-searched O A n r (A .start) (omega arith) a) b)
+          | inr l ↦ inr (none-first (λ r. In O A r (A .start)) n (λ r h. l .1 r))
+        ]
+
+-- ---- the order `set`: the strategy of the smallest choices that work
+
+module _ (G : Game) (some-observation : 0 < G .observations) (some-hidden : 0 < G .hiddens) (A : Arena) (knows : Knows G A) (n : ℕ) where
+  abbrev σ : Strategy set
+  σ = best A (G .choices) (G .observations) n (A .start)
+
+  best-plan : (r : ℕ) → r < n → HasRank (ordered set G) A (A .start) r → BestPlan G (ordered set G) (TrueRun G) (planOf σ) r
+  best-plan r small a =
+      subst (λ (τ : Plan). BestPlan G (ordered set G) (TrueRun G) τ r) (sym (fun-ext (λ h. best-follows A (G .choices) (G .observations) n h (A .start))))
+      (plan-best G (ordered set G) A some-observation some-hidden (A .start) (TrueRun G) (tracks G set some-observation some-hidden A knows)
+      (answer A (G .choices) (G .observations) n) n (descends A (G .choices) (G .observations) n) r small a)
+
+  -- if the start has a rank below n it wins, its worst case is that rank, and no worst case is smaller
+  pub best-optimal : (r : ℕ) → r < n → HasRank (ordered set G) A (A .start) r → Optimal G σ r
+  best-optimal r small a =
+      plan-optimal G set some-observation some-hidden A knows σ
+      (answer A (G .choices) (G .observations) n (A .start) 0, rw (knows .starts, best)) r a (best-plan r small a)

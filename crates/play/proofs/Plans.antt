@@ -14,7 +14,7 @@ use Rattle.basics.specs.Lists.{tabulate}
 use Rattle.play.specs.Game.{Game, Reply, Play, seen, AllBelow}
 use Rattle.play.specs.Rank.{Arena}
 use Rattle.play.specs.History.{History, Possible, know, Hidden, letters}
-use Rattle.play.proofs.Order.{Order}
+use Rattle.play.proofs.StepOrder.{StepOrder}
 
 -- ---- plans: strategies that answer each list of past observations by a choice for every observation of the step, or stop
 
@@ -57,7 +57,7 @@ pub goes-or-final : (d : Option (ℕ → ℕ)) → Goes d ⊎ (d ≡ none)
 goes-or-final none = inr refl
 goes-or-final (some g) = inl (g, refl)
 
-module _ {choices observations : ℕ} (O : Order choices observations) where
+module _ {choices observations : ℕ} (O : StepOrder choices observations) where
   -- every answer of the plan is allowed
   abbrev pub Legal : Plan → Type 0
   Legal σ = (h : List ℕ) → AllBelow observations h → (g : ℕ → ℕ) → σ h ≡ some g → O .Allowed g

@@ -11,9 +11,9 @@ use Rattle.basics.specs.Bounded.{firstThat}
 use Rattle.play.specs.Rank.{Arena, within, Rank, rankBelow}
 use Rattle.basics.proofs.BoundedLaws.{first-of, first-is, first-least}
 use Rattle.basics.proofs.Booleans.{test, clash, or-cases, or-right, or-intro-left, or-intro-right}
-use Rattle.play.proofs.Order.{Order, can-mono}
+use Rattle.play.proofs.StepOrder.{StepOrder, can-mono}
 
-module _ {choices observations : ℕ} (O : Order choices observations) (A : Arena) where
+module _ {choices observations : ℕ} (O : StepOrder choices observations) (A : Arena) where
   -- the ranks of this section
   abbrev pub In : ℕ → A .K → Bool
   In r k = within A (O .can) r k

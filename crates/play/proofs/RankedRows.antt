@@ -15,7 +15,7 @@ use Rattle.basics.proofs.ReachLaws.{closed-lists, over-iff, index-right, closed
 use Rattle.play.specs.Rank.{Arena}
 use Rattle.play.specs.Table.{followersBy}
 use Rattle.basics.proofs.Booleans.{test, clash}
-use Rattle.play.proofs.Order.{Order}
+use Rattle.play.proofs.StepOrder.{StepOrder}
 use Rattle.play.proofs.RankLaws.{HasRank, rank-of, unstopped}
 use Rattle.play.proofs.UpperBound.{Descends}
 use Rattle.play.proofs.FiniteArena.{Closed, rank-lt-listed}
@@ -33,7 +33,7 @@ module _ (A : Arena) (answer : A .K → ℕ → ℕ) (observations : ℕ) (k : A
   mem-followers : A .final k ≡ false → (s : ℕ) → s < observations → to s ∈ followersBy A answer observations k
   mem-followers f s b = rw (f, followersBy) (in-tabulate observations to (to s) .1 (s, b, refl))
 
-  followers-mem : (j : A .K) → j ∈ followersBy A answer observations k → (A .final k ≡ false) × (s : ℕ) × (s < observations) × (to s ≡ j)
+  pub followers-mem : (j : A .K) → j ∈ followersBy A answer observations k → (A .final k ≡ false) × (s : ℕ) × (s < observations) × (to s ≡ j)
   followers-mem j m =
       elim (test (A .final k)) [
         | inl t ↦ absurd (List·Memᴰ·not-nil (rw (t, followersBy) at m))
@@ -64,7 +64,7 @@ module _ (A : Arena) (same : A .K → A .K → Bool) (says : (a b : A .K) → Sa
       index-right same says (A .move (row i) (answer (row i) s) s) rows (A .start) (next-in (row i) (getD-in rows i (A .start) h) f s b)
 
 -- positions that are met, and ranked below n; `Met` is kept by moves from positions that are not final
-module _ {choices observations : ℕ} (O : Order choices observations) (A : Arena) (Met : A .K → Type 0)
+module _ {choices observations : ℕ} (O : StepOrder choices observations) (A : Arena) (Met : A .K → Type 0)
     (met-next : (k : A .K) → Met k → A .final k ≡ false → (c : ℕ) → c < choices → (s : ℕ) → s < observations → Met (A .move k c s))
     (n : ℕ) (answer : A .K → ℕ → ℕ) (down : Descends O A answer n) where
   abbrev pub MetRanked : A .K → Type 0
@@ -80,7 +80,7 @@ module _ {choices observations : ℕ} (O : Order choices observations) (A : Aren
       let cb = O .below (answer k) al s sb in
       (cb, (met-next k m f (answer k s) cb s sb, q′, omega arith, a′))
 
-module _ {choices observations : ℕ} (O : Order choices observations) (A : Arena) (same : A .K → A .K → Bool) (says : (a b : A .K) → Says (same a b) (a ≡ b))
+module _ {choices observations : ℕ} (O : StepOrder choices observations) (A : Arena) (same : A .K → A .K → Bool) (says : (a b : A .K) → Says (same a b) (a ≡ b))
     (some-observation : 0 < observations) (all : List (A .K)) (closed-all : Closed O A some-observation all) (start-in : A .start ∈ all)
     (n : ℕ) (fits : length all ≤ n) (answer : A .K → ℕ → ℕ) (down : Descends O A answer n)
     (r : ℕ) (small : r < n) (start-rank : HasRank O A (A .start) r) where

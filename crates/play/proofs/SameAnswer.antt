@@ -17,7 +17,7 @@ use Rattle.play.specs.Rank.{Arena, within, rankBelow, choiceWithin, best
 use Rattle.play.specs.Cells.{choiceRow}
 use Rattle.play.specs.Table.{listOf, followersBy, rowsBy, rows, rowOf, tableCells}
 use Rattle.play.specs.Answer.{Verdict, solved, unrealizable, startRank, verdictOf}
-use Rattle.play.proofs.Order.{Order, can-ext, setOrder}
+use Rattle.play.proofs.StepOrder.{StepOrder, can-ext, setOrder}
 use Rattle.play.proofs.RankLaws.{In}
 use Rattle.play.proofs.Optimality.{answer, descends}
 use Rattle.play.proofs.RankedRows.{MetRanked, ranked-answer}
@@ -65,7 +65,7 @@ module _ {A B : Arena} {sameA : A .K → A .K → Bool} {sameB : B .K → B .K �
     pub rank-image : (n : ℕ) (k : A .K) → Met k → rankBelow A can n k ≡ rankBelow B can n (named k)
     rank-image n k m = first-ext n _ _ (λ r l. within-image r k m)
 
-  abbrev O : Order choices observations
+  abbrev O : StepOrder choices observations
   O = setOrder choices observations
 
   pub choice-image : (n : ℕ) (k : A .K) → Met k → A .final k ≡ false

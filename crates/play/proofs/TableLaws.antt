@@ -60,12 +60,12 @@ module _ (A : Arena) (same : A .K → A .K → Bool) (says : (a b : A .K) → Sa
   cell-is : (i j : ℕ) → i < length ks → j < rowSize → cell table i j ≡ getD (row (at i)) j 0
   cell-is i j h b = getD-rows rowSize row (row-width A same choices observations n ks) ks (A .start) i j h b
 
-  stop-row : (i : ℕ) → i < length ks → A .final (at i) ≡ true → isStop table i ≡ true
+  pub stop-row : (i : ℕ) → i < length ks → A .final (at i) ≡ true → isStop table i ≡ true
   stop-row i h t =
       ap (λ (c : ℕ). eqb c stopCell) (cell-is i choiceAt h (omega arith) ∙ ap (λ (r : List ℕ). getD r choiceAt 0)
       (row-stop A same choices observations n ks (at i) t) ∙ stop-first)
 
-  choice-cell : (i : ℕ) → i < length ks → A .final (at i) ≡ false → firstCell table i ≡ choice (at i)
+  pub choice-cell : (i : ℕ) → i < length ks → A .final (at i) ≡ false → firstCell table i ≡ choice (at i)
   choice-cell i h f = cell-is i choiceAt h (omega arith) ∙ ap (λ (r : List ℕ). getD r choiceAt 0) (row-goes A same choices observations n ks (at i) f)
       ∙ choice-first observations _ _
 
@@ -79,7 +79,7 @@ module _ (A : Arena) (same : A .K → A .K → Bool) (says : (a b : A .K) → Sa
         | inr g ↦ g
       ]
 
-  stop-cell : (i : ℕ) → i < length ks → A .final (at i) ≡ true → (s : ℕ) → s < sideLimit → nextCell table i s ≡ 0
+  pub stop-cell : (i : ℕ) → i < length ks → A .final (at i) ≡ true → (s : ℕ) → s < sideLimit → nextCell table i s ≡ 0
   stop-cell i h t s b = cell-is i (nextAt s) h (omega arith) ∙ ap (λ (r : List ℕ). getD r (nextAt s) 0) (row-stop A same choices observations n ks (at i) t)
       ∙ stop-next s
 
@@ -91,11 +91,11 @@ module _ (A : Arena) (same : A .K → A .K → Bool) (says : (a b : A .K) → Sa
       → nextCell table i s ≡ indexIn same (A .move (at i) (choice (at i)) s) ks
   next-cell i h f s b = goes-cell i (nextAt s) h f (omega arith) ∙ choice-next observations _ _ s (omega arith) b
 
-  unused-cell : (i : ℕ) → i < length ks → A .final (at i) ≡ false → (s : ℕ) → observations ≤ s → s < sideLimit → nextCell table i s ≡ 0
+  pub unused-cell : (i : ℕ) → i < length ks → A .final (at i) ≡ false → (s : ℕ) → observations ≤ s → s < sideLimit → nextCell table i s ≡ 0
   unused-cell i h f s o b = goes-cell i (nextAt s) h f (omega arith) ∙ choice-unused observations _ _ s b o
 
   -- the row that an observation leads to is that of the next position
-  next-row : (i : ℕ) → i < length ks → A .final (at i) ≡ false → (s : ℕ) → s < observations
+  pub next-row : (i : ℕ) → i < length ks → A .final (at i) ≡ false → (s : ℕ) → s < observations
       → (nextCell table i s < length ks) × (at (nextCell table i s) ≡ A .move (at i) (choice (at i)) s)
   next-row i h f s b =
       subst (λ (j : ℕ). (j < length ks) × (getD ks j (A .start) ≡ A .move (at i) (choice (at i)) s)) (sym (next-cell i h f s b))

@@ -12,10 +12,10 @@ use Rattle.play.specs.Game.{Game, Play, seen}
 use Rattle.play.specs.Rank.{Arena}
 use Rattle.play.specs.History.{Possible, know}
 use Rattle.basics.proofs.Booleans.{clash}
-use Rattle.play.proofs.Order.{Order}
+use Rattle.play.proofs.StepOrder.{StepOrder}
 use Rattle.play.proofs.Plans.{rest, Plan, after, respond, Goes, stuck, PlanSteps, planRun, history, WinsFor, hiding, Tracks, Legal, legal-after, steps-unique, run-letters}
 
-module _ (G : Game) (O : Order (G .choices) (G .observations)) where
+module _ (G : Game) (O : StepOrder (G .choices) (G .observations)) where
   -- the choices and observations so far are possible ones
   pub possible : (n : ℕ) (σ : Plan) → Legal O σ → (p : Play G) → ((m : ℕ) → m < n → Goes (σ (seen p m)))
       → Possible (G .choices) (G .observations) (history G σ p n)
@@ -42,14 +42,14 @@ module _ (G : Game) (O : Order (G .choices) (G .observations)) where
         subst Φ (run-letters G σ (hiding G p x b) n) (subst (λ (m : ℕ). Φ (planRun G σ (hiding G p x b) m)) e φ)))
         unsure
 
-pub record Trap {choices observations : ℕ} (O : Order choices observations) (A : Arena) (P : A .K → Type 0) : Type 0 where
+pub record Trap {choices observations : ℕ} (O : StepOrder choices observations) (A : Arena) (P : A .K → Type 0) : Type 0 where
   pub unstopped : (k : A .K) → P k → A .final k ≡ false
   -- the observation against an answer
   pub foil : A .K → (ℕ → ℕ) → ℕ
   pub foil-below : (k : A .K) → P k → (g : ℕ → ℕ) → O .Allowed g → foil k g < observations
   pub stays : (k : A .K) → P k → (g : ℕ → ℕ) → O .Allowed g → P (A .move k (g (foil k g)) (foil k g))
 
-module _ (G : Game) (O : Order (G .choices) (G .observations)) (A : Arena) where
+module _ (G : Game) (O : StepOrder (G .choices) (G .observations)) (A : Arena) where
   module _ (P : A .K → Type 0) (trap : Trap O A P) where
     -- a play whose observations are those of the trap, as long as the plan goes on
     abbrev pub Foils : A .K → Plan → Play G → Type 0

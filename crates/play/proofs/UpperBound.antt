@@ -11,7 +11,7 @@ use mathlib.Core.List.{List, [], _∷_}
 use Rattle.play.specs.Game.{Game, Play}
 use Rattle.play.specs.Rank.{Arena}
 use Rattle.basics.proofs.Booleans.{test, clash}
-use Rattle.play.proofs.Order.{Order}
+use Rattle.play.proofs.StepOrder.{StepOrder}
 use Rattle.play.proofs.RankLaws.{In, HasRank, within-le, rank-of}
 use Rattle.play.proofs.Plans.{rest, Plan, after, respond, PlanSteps, planRun, afterStep, Tracks, tracks-step, Legal}
 
@@ -32,7 +32,7 @@ module _ (A : Arena) (answer : A .K → ℕ → ℕ) where
   pub follow-on : (k : A .K) → A .final k ≡ false → (s : ℕ) → after (follow A answer k) s ≡ follow A answer (A .move k (answer k s) s)
   follow-on k f s = fun-ext (λ h. rw (f, follow))
 
-module _ {choices observations : ℕ} (O : Order choices observations) (A : Arena) (answer : A .K → ℕ → ℕ) where
+module _ {choices observations : ℕ} (O : StepOrder choices observations) (A : Arena) (answer : A .K → ℕ → ℕ) where
   -- the answer at a position of a rank below n leads below that rank
   abbrev pub Descends : ℕ → Type 0
   Descends n =
@@ -67,7 +67,7 @@ module _ {choices observations : ℕ} (O : Order choices observations) (A : Aren
               (sym (ap (λ (σ : Plan). σ h) (follow-on A answer k f s)) ∙ e)
         ]
 
-module _ (G : Game) (O : Order (G .choices) (G .observations)) (A : Arena) (answer : A .K → ℕ → ℕ) (n : ℕ) (down : Descends O A answer n)
+module _ (G : Game) (O : StepOrder (G .choices) (G .observations)) (A : Arena) (answer : A .K → ℕ → ℕ) (n : ℕ) (down : Descends O A answer n)
     (some-hidden : 0 < G .hiddens) where
   -- what a play of the plan comes to, in at most r steps
   abbrev pub Within : ℕ → A .K → (List ℕ → Type 0) → Play G → Type 0

@@ -7,7 +7,7 @@ use lib.Dec.{ltb}
 use lib.ListN.{length}
 use Rattle.basics.specs.Lists.{tabulate}
 use Rattle.basics.specs.Reach.{Listing, reachable}
-use Rattle.play.specs.Game.{Game, Optimal, Unrealizable}
+use Rattle.play.specs.Game.{Game, set, Optimal, Unrealizable}
 use Rattle.play.specs.Rank.{Arena, setFirst, rankBelow}
 use Rattle.play.specs.Table.{tableStrategy, Laid, rows, tableCells}
 
@@ -51,4 +51,4 @@ pub record Solves (limit : ℕ) (G : Game) (n r : ℕ) (cells : List ℕ) : Type
 -- what a verdict promises: the table solves the game, or no strategy wins
 abbrev pub Right : ℕ → Game → Verdict → Type 0
 Right limit G (solved n r cells) = Solves limit G n r cells
-Right limit G unrealizable = Unrealizable G
+Right limit G unrealizable = Unrealizable G set

@@ -1,21 +1,24 @@
 -- The game: strategies, plays, runs and winning, as "The game" of document 01 defines them, for any numbers of choices, observations
--- (readings there) and hidden values, any way to make a letter of them, and any meaning of traces.
+-- (readings there) and hidden values, any way to make a letter of them, any meaning of traces, and either order of a step.
 -- Assumes nothing.
 use Prim.Native.Nat.{ℕ, _≤_, _<_}
 use mathlib.Core.Path.{_≡_}
-use mathlib.Core.Bool.{Bool, true}
 use mathlib.Core.List.{List, [], _∷_}
 use Rattle.basics.specs.Lists.{tabulate}
 
-pub record Game : Type 0 where
+pub record Game : Type 1 where
   -- a choice, an observation and a hidden value are numbers below these
   pub choices : ℕ
   pub observations : ℕ
   pub hiddens : ℕ
   -- the letter of one step, from its choice, its observation and its hidden value
   pub letter : ℕ → ℕ → ℕ → ℕ
-  -- whether a trace, the list of its letters, is true
-  pub isTrue : List ℕ → Bool
+  -- what makes a trace, the list of its letters, true
+  pub IsTrue : List ℕ → Type 0
+
+-- the order of a step: the choice is set before the observation is read, or after it
+pub data Order : Type 0 where
+  set read : Order
 
 -- what one step of a play brings: any values of the observed and of the hidden signals
 pub record Reply (G : Game) : Type 0 where
@@ -32,9 +35,19 @@ Play G = ℕ → Reply G
 abbrev pub seen : {G : Game} → Play G → ℕ → List ℕ
 seen p n = tabulate n (λ i. (p i) .observation)
 
-pub data Decision : Type 0 where
-  choose : ℕ → Decision
-  stop : Decision
+-- what a strategy answers at a step that it takes: one choice, which cannot depend on the observation; or one for each observation
+abbrev pub Answer : Order → Type 0
+Answer set = ℕ
+Answer read = ℕ → ℕ
+
+-- the choice at an observation
+abbrev pub chosen : (o : Order) → Answer o → ℕ → ℕ
+chosen set c s = c
+chosen read g s = g s
+
+pub data Decision (o : Order) : Type 0 where
+  choose : Answer o → Decision o
+  stop : Decision o
 
 -- every number of the list is below n
 abbrev pub AllBelow : ℕ → List ℕ → Type 0
@@ -42,36 +55,37 @@ AllBelow n [] = Unit {0}
 AllBelow n (s ∷ h) = (s < n) × AllBelow n h
 
 -- a strategy maps each finite list of past observations to a choice or to "stop" ..
-abbrev pub Strategy : Type 0
-Strategy = List ℕ → Decision
+abbrev pub Strategy : Order → Type 0
+Strategy o = List ℕ → Decision o
 
 -- .. the empty list gets a choice
-pub record IsStrategy (G : Game) (σ : Strategy) : Type 0 where
-  pub opens : (c : ℕ) × (σ [] ≡ choose c)
-  pub legal : (h : List ℕ) → AllBelow (G .observations) h → (c : ℕ) → σ h ≡ choose c → c < G .choices
+pub record IsStrategy (G : Game) {o : Order} (σ : Strategy o) : Type 0 where
+  pub opens : (a : Answer o) × (σ [] ≡ choose a)
+  pub legal : (h : List ℕ) → AllBelow (G .observations) h → (a : Answer o) → σ h ≡ choose a
+      → (s : ℕ) → s < G .observations → chosen o a s < G .choices
 
-module _ {G : Game} (σ : Strategy) (p : Play G) where
+module _ {G : Game} {o : Order} (σ : Strategy o) (p : Play G) where
   -- the play goes on for n steps at least
   abbrev pub GoesOn : ℕ → Type 0
-  GoesOn n = (m : ℕ) → m < n → (c : ℕ) × (σ (seen p m) ≡ choose c)
+  GoesOn n = (m : ℕ) → m < n → (a : Answer o) × (σ (seen p m) ≡ choose a)
 
   -- the play stops as soon as the list of its observations so far is mapped to "stop": it takes n steps
   abbrev pub Steps : ℕ → Type 0
   Steps n = (σ (seen p n) ≡ stop) × GoesOn n
 
-abbrev pub choiceOf : Decision → ℕ
-choiceOf (choose c) = c
-choiceOf stop = 0
+abbrev pub choiceOf : {o : Order} → Decision o → ℕ → ℕ
+choiceOf {o} (choose a) s = chosen o a s
+choiceOf stop s = 0
 
-module _ (G : Game) (σ : Strategy) where
+module _ (G : Game) {o : Order} (σ : Strategy o) where
   -- the letters of a play's first n steps: the strategy adds its choice, made from the observations before the step, to each pair.
   -- The trace (document 01's run) of a play that takes n steps is `run p n`
   abbrev pub run : Play G → ℕ → List ℕ
-  run p n = tabulate n (λ i. G .letter (choiceOf (σ (seen p i))) ((p i) .observation) ((p i) .hidden))
+  run p n = tabulate n (λ i. G .letter (choiceOf (σ (seen p i)) ((p i) .observation)) ((p i) .observation) ((p i) .hidden))
 
   -- a strategy wins if every play stops after finitely many steps with a true trace
   abbrev pub Wins : Type 0
-  Wins = (p : Play G) → (n : ℕ) × Steps σ p n × (G .isTrue (run p n) ≡ true)
+  Wins = (p : Play G) → (n : ℕ) × Steps σ p n × G .IsTrue (run p n)
 
   -- its worst case is the most steps that any of its plays takes
   pub record WorstCase (r : ℕ) : Type 0 where
@@ -79,12 +93,12 @@ module _ (G : Game) (σ : Strategy) where
     pub reached : (p : Play G) × Steps σ p r
 
 -- a strategy that wins with the least worst case, r
-pub record Optimal (G : Game) (σ : Strategy) (r : ℕ) : Type 0 where
+pub record Optimal (G : Game) {o : Order} (σ : Strategy o) (r : ℕ) : Type 0 where
   pub isStrategy : IsStrategy G σ
   pub wins : Wins G σ
   pub worst : WorstCase G σ r
-  pub least : (τ : Strategy) → IsStrategy G τ → Wins G τ → (p : Play G) × (n : ℕ) × Steps τ p n × (r ≤ n)
+  pub least : (τ : Strategy o) → IsStrategy G τ → Wins G τ → (p : Play G) × (n : ℕ) × Steps τ p n × (r ≤ n)
 
--- no strategy wins (unwinnable in document 01)
-abbrev pub Unrealizable : Game → Type 0
-Unrealizable G = (σ : Strategy) → IsStrategy G σ → Wins G σ → ⊥
+-- no strategy of the order wins (unwinnable in document 01)
+abbrev pub Unrealizable : Game → Order → Type 0
+Unrealizable G o = (σ : Strategy o) → IsStrategy G σ → ¬ Wins G σ

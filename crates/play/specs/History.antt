@@ -4,13 +4,17 @@ use Prim.Native.Nat.{ℕ, suc, _<_}
 use mathlib.Core.Path.{_≡_}
 use mathlib.Core.Logic.{_↔_}
 use mathlib.Core.Bool.{true, false}
-use mathlib.Core.List.{List, [], _∷_}
+use mathlib.Core.List.{List, [], _∷_, _++_}
 use Rattle.play.specs.Game.{Game}
 use Rattle.play.specs.Rank.{Arena}
 
 -- the choice and the observation of each step so far, oldest first
 abbrev pub History : Type 0
 History = List (ℕ × ℕ)
+
+-- and one step more: choice c, then observation s
+abbrev pub onward : History → ℕ → ℕ → History
+onward h c s = h ++ ((c, s) ∷ [])
 
 -- its choices are choices and its observations observations
 abbrev pub Possible : (choices observations : ℕ) → History → Type 0
@@ -21,6 +25,12 @@ Possible choices observations (m ∷ h) = (m .0 < choices) × (m .1 < observatio
 abbrev pub know : (A : Arena) → A .K → History → A .K
 know A k [] = k
 know A k (m ∷ h) = know A (A .move k (m .0) (m .1)) h
+
+-- there are at least n beliefs: n histories of those that count, no two of which lead to the same
+pub record AtLeastBeliefs (Counts : History → Type 0) (Same : History → History → Type 0) (n : ℕ) : Type 0 where
+  pub history : ℕ → History
+  pub counts : (i : ℕ) → i < n → Counts (history i)
+  pub different : (i j : ℕ) → i < n → j < n → Same (history i) (history j) → i ≡ j
 
 module _ (G : Game) where
   -- hidden values, one a step
@@ -36,4 +46,4 @@ module _ (G : Game) where
   pub record Knows (A : Arena) : Type 0 where
     pub starts : A .final (A .start) ≡ false
     pub law : (m : ℕ × ℕ) (h : History) → Possible (G .choices) (G .observations) (m ∷ h)
-        → (A .final (know A (A .start) (m ∷ h)) ≡ true) ↔ ((x : ℕ → ℕ) → Hidden x → G .isTrue (letters (m ∷ h) x) ≡ true)
+        → (A .final (know A (A .start) (m ∷ h)) ≡ true) ↔ ((x : ℕ → ℕ) → Hidden x → G .IsTrue (letters (m ∷ h) x))

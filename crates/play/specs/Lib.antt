@@ -8,4 +8,5 @@ pub mod History
 pub mod Belief
 pub mod Cells
 pub mod Table
+pub mod IsTable
 pub mod Answer

@@ -5,7 +5,7 @@ use mathlib.Core.Path.{_≡_}
 use mathlib.Core.Bool.{Bool, true, false, _||_}
 use mathlib.Core.List.{List, [], _∷_}
 use Rattle.basics.specs.Bounded.{all, any, firstThat}
-use Rattle.play.specs.Game.{Decision, choose, stop}
+use Rattle.play.specs.Game.{set, Decision, choose, stop}
 
 -- what the controller can know: positions, as beliefs are; the first of them, the next one after a choice and an observation, and
 -- where it may stop
@@ -55,6 +55,6 @@ module _ (A : Arena) (choices observations : ℕ) where
   bestChoice n k = choiceWithin (pred (rankBelow A (setFirst choices observations) n k)) k
 
   -- the strategy that takes it at each position, and stops from a final position on; the observations are those since position k
-  abbrev pub best : ℕ → A .K → List ℕ → Decision
+  abbrev pub best : ℕ → A .K → List ℕ → Decision set
   best n k [] = elim (A .final k) [ true ↦ stop | false ↦ choose (bestChoice n k) ]
   best n k (s ∷ h) = elim (A .final k) [ true ↦ stop | false ↦ best n (A .move k (bestChoice n k) s) h ]

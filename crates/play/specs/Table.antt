@@ -10,17 +10,17 @@ use Rattle.basics.specs.Lists.{tabulate}
 use Rattle.basics.specs.Reach.{Listing, closed, over, indexIn, reachable}
 use Rattle.play.specs.Limits.{sideLimit}
 use Rattle.play.specs.Cells.{rowSize, firstCell, isStop, nextCell, stopRow, choiceRow}
-use Rattle.play.specs.Game.{choose, stop, Strategy}
+use Rattle.play.specs.Game.{set, choose, stop, Strategy}
 use Rattle.play.specs.Rank.{Arena, bestChoice}
 
 -- read as a strategy, from a row: the table moves with each observation to the next row for it, and answers the row's choice, or
 -- "stop" from a stop row on
-abbrev pub readFrom : List ℕ → ℕ → Strategy
+abbrev pub readFrom : List ℕ → ℕ → Strategy set
 readFrom t row [] = elim (isStop t row) [ true ↦ stop | false ↦ choose (firstCell t row) ]
 readFrom t row (s ∷ h) = elim (isStop t row) [ true ↦ stop | false ↦ readFrom t (nextCell t row s) h ]
 
 -- row 0 is the start
-abbrev pub tableStrategy : List ℕ → Strategy
+abbrev pub tableStrategy : List ℕ → Strategy set
 tableStrategy t = readFrom t 0
 
 -- the cells of row i of n: a stop row has no next rows; another has a choice, and a next row for each observation. Unused cells are 0

@@ -2,39 +2,35 @@
 use Prim.Native.Nat.{ℕ, _≤_, _<_}
 use native.Mathlib.Omega.{arith}
 use mathlib.Core.Path.{_≡_, refl, sym, ap, _∙_, subst}
-use mathlib.Core.Bool.{Bool, true, false, _||_, false≢true, cond}
-use mathlib.Core.Option.{Option, none, some}
 use mathlib.Core.List.{List}
-use borrow.Author.Tests.{eqb-false, lt-ltb, le-ltb}
-use lib.Dec.{eqb, ltb}
+use borrow.Author.Tests.{lt-ltb, le-ltb}
 use lib.ListN.{length, take, replicate, length-map, length-replicate}
 use Rattle.lines.specs.declared.refusal.Refusal.{Refusal}
-use Rattle.lines.specs.declared.refusal.Refusal.the-variants.{ShortMemory, BadTrace}
+use Rattle.lines.specs.declared.refusal.Refusal.the-variants.{ShortMemory}
 use Rattle.lines.specs.declared.problem.Sizes.{Sizes}
 use Rattle.lines.specs.declared.problem.Reading.{Reading}
 use Rattle.lines.specs.declared.problem.Reading.the-variants as reading
 use Rattle.rules.specs.declared.judging.Verdict.{Verdict}
-use Rattle.rules.specs.declared.judging.Verdict.the-variants.{True, False, Refused}
+use Rattle.rules.specs.declared.judging.Verdict.the-variants.{Refused}
 use Rattle.basics.specs.Limits.{kindLimit}
 use Rattle.formula.specs.Limits.{partLimit}
-use Rattle.rules.specs.Limits.{traceLimit, workSize}
+use Rattle.rules.specs.Limits.{workSize}
 use Rattle.formula.specs.Formula.{Formula}
 use Rattle.formula.specs.Semantics.{Trace, holds}
 use Rattle.formula.specs.Parts.{lastOf, AllReady}
 use Rattle.formula.specs.Codes.{codeOf, codesOf, partsIn}
 use Rattle.formula.specs.Values.{valueOn}
 use Rattle.rules.specs.Problem.{Problem, formulaIn, problemParts, Outcome, accepted, refused, readProblem}
-use Rattle.rules.specs.Denotes.{Denotes}
 use Rattle.rules.specs.Reading.{sizesOf, readingOf, partsOfOutcome}
-use Rattle.rules.specs.Trace.{countsOf, orBadStep, badStep, verdictOn}
-use Rattle.formula.specs.Letter.{Counts}
-use Rattle.rules.specs.Judge.{countsIn, judgedBy, judged, workAfter, Means}
-use Rattle.rules.proofs.SatisfiesLaws.{holds-iff-satisfies}
+use Rattle.rules.specs.Trace.{countsOf, verdictOn}
+use Rattle.rules.specs.Judge.{judgedBy, judged, workAfter, toldVerdict, JudgedAs}
 use Rattle.rules.proofs.ProblemLaws.{parts-counted, some-part, formed}
 use Rattle.lines.proofs.MemoryLaws.{stored-front}
 use Rattle.rules.proofs.TraceLaws.{verdict-holds}
-use Rattle.rules.proofs.WithinLimits.{Within, read-within}
-use Rattle.rules.proofs.DenotesLaws.{read-denotes}
+use Rattle.rules.proofs.WithinLimits.{read-within, read-held}
+use Rattle.rules.specs.Within.{Within}
+use Rattle.formula.proofs.CodesLaws.{Held}
+use Rattle.rules.proofs.JudgedAsLaws.{judged-as}
 use Rattle.rules.proofs.ReadingLaws.{not-refused, same-sizes, same-refusal}
 
 -- a refusal is handed on
@@ -47,17 +43,18 @@ pub record Taken (o : Outcome) (s : Sizes) (codes : List ℕ) : Type 0 where
   pub problem : Problem
   pub is : o ≡ accepted problem
   pub within : Within problem
+  pub held : Held (problemParts problem)
   pub sizes : s ≡ sizesOf problem
   pub front : take (s .parts) codes ≡ codesOf (problemParts problem)
 
 -- what `read` leaves in a list that was all zero
 pub taken : (source : List ℕ) (s : Sizes) (r : Reading) → r ≡ readingOf (readProblem source) → r ≡ reading.Accepted s
     → (q : List ℕ) → q ≡ partsOfOutcome (readProblem source) (replicate partLimit 0) → Taken (readProblem source) s q
-taken source s r e h q i = go (readProblem source) (sym e ∙ h) i (read-within source)
+taken source s r e h q i = go (readProblem source) (sym e ∙ h) i (read-within source) (read-held source)
   where
     go : (o : Outcome) → readingOf o ≡ reading.Accepted s → q ≡ partsOfOutcome o (replicate partLimit 0)
-        → ((x : Problem) → o ≡ accepted x → Within x) → Taken o s q
-    go (accepted x) h i within =
+        → ((x : Problem) → o ≡ accepted x → Within x) → ((x : Problem) → o ≡ accepted x → Held (problemParts x)) → Taken o s q
+    go (accepted x) h i within held =
         let w = within x refl in
         let z = sym (same-sizes (sizesOf x) s h) in
         let n : length (problemParts x) ≡ s .parts = parts-counted x ∙ sym (ap (λ (t : Sizes). t .parts) z) in
@@ -66,11 +63,12 @@ taken source s r e h q i = go (readProblem source) (sym e ∙ h) i (read-within 
           problem = x;
           is = refl;
           within = w;
+          held = held x refl;
           sizes = z;
           front = ap (λ t. take (s .parts) t) i
               ∙ stored-front (problemParts x) (s .parts) (replicate partLimit 0) n (omega (arith, length-replicate {A = ℕ} partLimit 0));
         }
-    go (refused x) h i within = not-refused x s h
+    go (refused x) h i within held = not-refused x s h
 
 module _ {o : Outcome} {s : Sizes} {codes : List ℕ} (t : Taken o s codes) where
   abbrev φ : Formula
@@ -91,7 +89,7 @@ module _ {o : Outcome} {s : Sizes} {codes : List ℕ} (t : Taken o s codes) wher
 
   -- the numbers hold the formula's parts
   pub taken-parts : partsIn (take (s .parts) codes) ≡ problemParts (t .problem)
-  taken-parts = ap partsIn (t .front) ∙ t .within .held
+  taken-parts = ap partsIn (t .front) ∙ t .held
 
   -- and they stand as the states need them
   pub taken-ready : AllReady (partsIn (take (s .parts) codes))
@@ -103,37 +101,25 @@ module _ {o : Outcome} {s : Sizes} {codes : List ℕ} (t : Taken o s codes) wher
       rw (t .is) (e ∙ ap (λ ps. verdictOn (countsOf s) π (valueOn ps π (lastOf ps))) taken-parts ∙ verdict-holds (countsOf s) π φ
       ∙ ap (λ (x : Sizes). verdictOn (countsOf x) π (holds φ π)) (t .sizes))
 
--- ---- what a verdict means
-
--- a trace that is not refused has steps, and its verdict is the formula's value
-verdict-means : (source : List ℕ) (p : Problem) → Denotes source p → (c : Counts) (π : Trace) → Means source π (verdictOn c π (holds (formulaIn p) π))
-unfolding verdictOn
-verdict-means source p d c π = by-length (eqb (length π) 0) refl (ltb traceLimit (length π)) (badStep c 1 π) (holds (formulaIn p) π) refl
-  where
-    by-length : (a : Bool) → eqb (length π) 0 ≡ a → (b : Bool) (n : Option ℕ) (v : Bool) → holds (formulaIn p) π ≡ v
-        → Means source π (cond (a || b) (Refused (BadTrace 0)) (orBadStep n (cond v True False)))
-    by-length true e b n v h = tt
-    by-length false e true n v h = tt
-    by-length false e false (some n) v h = tt
-    by-length false e false none true h = (p, d, holds-iff-satisfies p π (omega (arith, eqb-false (length π) 0 e)) .0 h)
-    by-length false e false none false h =
-        (p, d, λ z. false≢true (sym h ∙ holds-iff-satisfies p π (omega (arith, eqb-false (length π) 0 e)) .1 z))
-
-pub judged-means : (source : List ℕ) (π : Trace) → Means source π (judgedBy (readProblem source) π)
-judged-means source π = go (readProblem source) refl
-  where
-    go : (o : Outcome) → readProblem source ≡ o → Means source π (judgedBy o π)
-    go (accepted p) e = verdict-means source p (read-denotes source p e) (countsIn (p .signals)) π
-    go (refused r) e = tt
-
 -- ---- the call
 
 module _ (source work : List ℕ) (π : Trace) where
-  pub short-memory : length work < workSize → (Refused ShortMemory ≡ judged (length work) source π) × (work ≡ workAfter work) × Unit {0}
+  abbrev Judged : Verdict → Type 0
+  Judged v = (v ≡ judged (length work) source π) × JudgedAs (length work) source π (toldVerdict v)
+
+  judged-told : (v : Verdict) → v ≡ judged (length work) source π → Judged v
+  judged-told v e = (e, subst (λ u. JudgedAs (length work) source π (toldVerdict u)) (sym e) (judged-as (length work) source π))
+
+  pub short-memory : length work < workSize
+      → (Refused ShortMemory ≡ judged (length work) source π) × (work ≡ workAfter work) × JudgedAs (length work) source π (toldVerdict (Refused ShortMemory))
   unfolding judged
-  short-memory h = rw (lt-ltb (length work) workSize h) (refl, refl, tt)
+  short-memory h =
+      let j = judged-told (Refused ShortMemory) (rw (lt-ltb (length work) workSize h)) in
+      (j .0, rw (lt-ltb (length work) workSize h) refl, j .1)
 
   pub long-memory : workSize ≤ length work → (v : Verdict) → v ≡ judgedBy (readProblem source) π → (n : ℕ) → n ≡ length work
-      → (v ≡ judged (length work) source π) × (replicate n 0 ≡ workAfter work) × Means source π v
+      → (v ≡ judged (length work) source π) × (replicate n 0 ≡ workAfter work) × JudgedAs (length work) source π (toldVerdict v)
   unfolding judged
-  long-memory h v e n m = rw (le-ltb (length work) workSize h, e, m) (refl, refl, judged-means source π)
+  long-memory h v e n m =
+      let j = judged-told v (e ∙ rw (le-ltb (length work) workSize h) refl) in
+      (j .0, rw (le-ltb (length work) workSize h, m) refl, j .1)

@@ -1,13 +1,17 @@
 -- reading a problem: what it denotes, within which limits, and which numbers it may be refused with
 pub mod SatisfiesLaws
-pub mod DenotesLaws
 pub mod JoinedFormulas
+pub mod LineTests
+pub mod LineMeaning
+pub mod DenotesLaws
+pub mod RefusesLaws
 pub mod ProblemLaws
 pub mod WithinLimits
 pub mod ReadingNumbers
 pub mod ReadingLaws
 -- judging a trace
 pub mod TraceLaws
+pub mod JudgedAsLaws
 pub mod JudgeLaws
 -- the front page
 pub mod Main

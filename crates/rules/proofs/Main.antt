@@ -1,24 +1,98 @@
 -- The theorems of this crate. Assumes nothing.
-use Prim.Native.Nat.{ℕ, _<_}
+use Prim.Native.Nat.{ℕ, _+_, _≤_, _<_}
 use mathlib.Core.Path.{_≡_}
-use mathlib.Core.Logic.{_↔_}
+use mathlib.Core.Logic.{_↔_, _⊎_}
 use mathlib.Core.Bool.{true}
 use mathlib.Core.List.{List}
 use lib.ListN.{length}
+use Rattle.grammar.specs.Names.{Name, indexOf}
 use Rattle.formula.specs.Formula.{Formula}
+use Rattle.formula.specs.Letter.{Counts, IsLetter, isLetter}
 use Rattle.formula.specs.Semantics.{Trace, Sat, holds}
 use Rattle.formula.specs.Parts.{lastOf}
 use Rattle.formula.specs.Values.{valueOn}
-use Rattle.rules.specs.Problem.{Problem, formulaIn, problemParts, accepted, readProblem}
+use Rattle.basics.specs.Limits.{kindLimit}
+use Rattle.lines.specs.declared.refusal.Refusal.{Refusal}
+use Rattle.lines.specs.declared.refusal.Refusal.the-variants.{BadTrace}
+use Rattle.lines.specs.declared.problem.Kind.{Kind}
+use Rattle.lines.specs.Limits.{nameLimit}
+use Rattle.lines.specs.Refusal.{numberOf, placeOf, Told}
+use Rattle.lines.specs.Effect.{Signals, count, firstBit, withSignal}
+use Rattle.rules.specs.declared.judging.Verdict.the-variants.{True, False, Refused}
+use Rattle.rules.specs.Limits.{workSize}
+use Rattle.rules.specs.Problem.{Problem, formulaIn, problemParts, accepted, refused, readProblem}
 use Rattle.rules.specs.Satisfies.{Satisfies}
-use Rattle.rules.specs.Denotes.{Denotes}
-use Rattle.rules.specs.Judge.{judgedBy, Means}
+use Rattle.rules.specs.Within.{Few, Named, Within}
+use Rattle.rules.specs.Denotes.{IsDeclared, Denotes}
+use Rattle.rules.specs.Refuses.{Refuses}
+use Rattle.rules.specs.Trace.{RightLength, IsTrace, FirstBad}
+use Rattle.rules.specs.Judge.{countsIn, judged, toldVerdict, JudgedAs}
 use Rattle.formula.proofs.Agreement
+use Rattle.formula.proofs.LetterLaws
 use Rattle.rules.proofs.SatisfiesLaws
 use Rattle.rules.proofs.ProblemLaws
 use Rattle.rules.proofs.DenotesLaws
+use Rattle.rules.proofs.RefusesLaws
 use Rattle.rules.proofs.WithinLimits
-use Rattle.rules.proofs.JudgeLaws
+use Rattle.rules.proofs.JudgedAsLaws
+
+-- ---- a problem's text
+
+module _ (source : List ℕ) where
+  -- a problem is read exactly where the text denotes it by the written grammar
+  pub reading : (p : Problem) → (readProblem source ≡ accepted p) ↔ Denotes source p
+  reading = DenotesLaws.read-iff-denotes source
+
+  -- and a refusal is given exactly where document 01's table has its number and its place
+  pub refusing : (r : Refusal) → (readProblem source ≡ refused r) ↔ Refuses source (numberOf r) (placeOf r)
+  refusing = RefusesLaws.refused-iff source
+
+  -- a text denotes a problem or is refused, and not both
+  pub denotes-or-refuses : ((p : Problem) × Denotes source p) ⊎ ((number place : ℕ) × Refuses source number place)
+  denotes-or-refuses = RefusesLaws.denotes-or-refuses source
+
+  pub not-both : (p : Problem) (number place : ℕ) → Denotes source p → ¬ Refuses source number place
+  not-both = RefusesLaws.not-both source
+
+  -- it denotes one problem, or has one refusal
+  pub one-problem : (p q : Problem) → Denotes source p → Denotes source q → p ≡ q
+  one-problem = DenotesLaws.one-problem source
+
+  pub one-refusal : (n m number place : ℕ) → Refuses source n m → Refuses source number place → (n ≡ number) × (m ≡ place)
+  one-refusal = RefusesLaws.one-refusal source
+
+  -- a problem that is read is within the limits
+  pub limits : (p : Problem) → readProblem source ≡ accepted p → Within p
+  limits = WithinLimits.read-within source
+
+-- so a name over 12 bytes is unknown
+pub long-name : (g : Signals) → Named g → (name : Name) → nameLimit < length name → ¬ IsDeclared g name
+long-name = WithinLimits.long-unknown
+
+-- a signal gets the next bit of its kind
+pub next-bit : (g : Signals) → Named g → (k : Kind) (name : Name) → ¬ IsDeclared g name → Few (withSignal k name g)
+    → indexOf name (withSignal k name g .names) ≡ firstBit k + count k g
+next-bit = WithinLimits.next-bit
+
+-- ---- judging
+
+-- a trace is judged exactly as document 01 asks, refusals included
+pub judging : (work : ℕ) (source : List ℕ) (π : Trace) (a : Told) → (toldVerdict (judged work source π) ≡ a) ↔ JudgedAs work source π a
+judging = JudgedAsLaws.judged-iff
+
+-- verdict by verdict, in enough memory
+module _ (work : ℕ) (source : List ℕ) (π : Trace) (enough : workSize ≤ work) where
+  pub judged-true : (judged work source π ≡ True) ↔ ((p : Problem) × Denotes source p × IsTrace (countsIn (p .signals)) π × Satisfies π p)
+  judged-true = JudgedAsLaws.true-iff work source π enough
+
+  pub judged-false : (judged work source π ≡ False) ↔ ((p : Problem) × Denotes source p × IsTrace (countsIn (p .signals)) π × (¬ Satisfies π p))
+  judged-false = JudgedAsLaws.false-iff work source π enough
+
+  pub judged-bad : (step : ℕ) → (judged work source π ≡ Refused (BadTrace step))
+      ↔ ((p : Problem) × Denotes source p × (((step ≡ 0) × ¬ RightLength π) ⊎ (RightLength π × FirstBad (countsIn (p .signals)) π step)))
+  judged-bad = JudgedAsLaws.bad-trace-iff work source π enough
+
+-- ---- what is executed
 
 -- the evaluator is the published relation
 pub evaluator : (φ : Formula) (π : Trace) → 0 < length π → (holds φ π ≡ true) ↔ Sat π 0 φ
@@ -33,18 +107,7 @@ pub parts : (p : Problem) (π : Trace) → 0 < length π
     → (valueOn (problemParts p) π (lastOf (problemParts p)) ≡ true) ↔ Satisfies π p
 parts = ProblemLaws.means
 
--- a problem is read exactly where its text denotes it by the written grammar
-pub reading : (source : List ℕ) (p : Problem) → (readProblem source ≡ accepted p) ↔ Denotes source p
-reading = DenotesLaws.read-iff-denotes
-
--- a text denotes one problem
-pub one-problem : (source : List ℕ) (p q : Problem) → Denotes source p → Denotes source q → p ≡ q
-one-problem = DenotesLaws.one-problem
-
--- a problem that is read is within the limits
-pub limits : (source : List ℕ) (p : Problem) → readProblem source ≡ accepted p → WithinLimits.Within p
-limits = WithinLimits.read-within
-
--- a verdict is true or false exactly as the trace satisfies the problem that the text denotes
-pub verdict : (source : List ℕ) (π : Trace) → Means source π (judgedBy (readProblem source) π)
-verdict = JudgeLaws.judged-means
+-- the test of a letter finds every bit without a signal
+pub letters : (c : Counts) → (c .outputs ≤ kindLimit) × (c .observed ≤ kindLimit) × (c .hidden ≤ kindLimit) → (a : ℕ)
+    → (isLetter c a ≡ true) ↔ IsLetter c a
+letters = LetterLaws.letter-iff

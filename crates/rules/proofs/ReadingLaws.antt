@@ -25,7 +25,7 @@ use Rattle.formula.specs.Limits.{partLimit}
 use Rattle.formula.specs.Formula.{Formula, size, operators}
 use Rattle.lines.specs.Lines.{lines, tabPlace, hasTab}
 use Rattle.rules.specs.Problem.{rule, joined, joinedLines, sizeIn, operatorsIn, Draft, partCount, operatorCount, Outcome, accepted, refused, finish, withDeclared, withFormula, after, readLines, blank, readProblem}
-use Rattle.lines.specs.Effect.{firstBit, isFull, joint, isLarge, Effect, declares, states, refuses, withSignal}
+use Rattle.lines.specs.Effect.{firstBit, isFull, joint, Effect, declares, states, refuses, withSignal}
 use Rattle.lines.specs.Memory.{signalsIn, countIn, moreSignals, moreParts, addedParts, storedFrom, spanned, readingAfter, spansAfter, partsAfter, Kept, lineEffect, LineRead}
 use Rattle.rules.specs.Reading.{readingOf, PartsRead, partsOfOutcome}
 use Rattle.basics.proofs.BytesLaws.{past-in}
@@ -197,11 +197,10 @@ module _ {source p₀ : List ℕ} {at line : ℕ} {s : Sizes} {spans p : List �
         -- the memory after a formula
         states-going : (φ : Formula) → effect ≡ states φ → (t : Sizes) → r ≡ Accepted t → Going source p₀ (end + 1) (line + 1) t spans′ p′
         states-going φ i t q =
-            let b = stating line (between source at end) (signalsIn source s spans) (s .parts) (s .operators) φ i in
             let kept = g .kept in
             let f : Option Formula = joinedLines (g .draft .lines) in
             let joined-now : joinedLines (g .draft .lines ++ (rule φ ∷ [])) ≡ some (joined f φ) = joined-more (g .draft .lines) φ in
-            let small : isLarge (s .parts) (s .operators) φ ≡ false = subst (λ x. isLarge (s .parts) (s .operators) x ≡ false) (b .is) (b .small) in
+            let small = stating line (between source at end) (signalsIn source s spans) (s .parts) (s .operators) φ i in
             let sizes : moreParts (size φ) (operators φ) s ≡ t = same-sizes _ t (sym (ap (λ f. readingAfter f s) i) ∙ sym (d .reading) ∙ q) in
             let here : spans′ ≡ spans = d .spans-left ∙ ap (λ f. spansAfter f s (at + tabPlace (between source at end) + 1) end spans) i in
             let left : p′ ≡ storedFrom (addedParts φ (s .parts)) (s .parts) p = d .parts-left ∙ ap (λ f. partsAfter f s p) i in

@@ -1,78 +1,66 @@
 -- What reading keeps within the limits of document 01. Assumes nothing.
-use Rattle.basics.proofs.Booleans.{or-left, or-right}
 use Prim.Native.Nat.{ℕ, _+_, _≤_, _<_}
 use native.Mathlib.Omega.{arith}
 use mathlib.Core.Path.{_≡_, refl, sym, ap, subst, _∙_}
-use mathlib.Core.Bool.{false}
 use mathlib.Core.Option.{Option, none, some}
-use mathlib.Core.List.{List}
-use borrow.Author.Tests.{ltb-false, eqb-false}
-use lib.Dec.{eqb, ltb}
-use lib.ListN.{length, length-set}
-use Rattle.grammar.specs.Names.{bits}
+use mathlib.Core.Logic.{_⊎_, inl, inr}
+use mathlib.Core.List.{List, []}
+use lib.ListN.{length, replicate, length-set, getD-replicate}
+use Rattle.basics.specs.Member.{_∈_}
+use Rattle.basics.proofs.MemberLaws.{index-of, in-set}
+use Rattle.grammar.specs.Names.{Name, bits, indexOf}
 use Rattle.formula.specs.declared.formula.Op.the-variants as op
 use Rattle.lines.specs.declared.problem.Kind.{Kind}
 use Rattle.lines.specs.declared.problem.Kind.the-variants.{Output, Observed, Hidden}
-use Rattle.basics.specs.Limits.{kindLimit, signalLimit, operatorLimit}
+use Rattle.basics.specs.Limits.{operatorLimit}
 use Rattle.formula.specs.Limits.{partLimit}
 use Rattle.formula.specs.Formula.{Formula, size, operators}
 use Rattle.formula.specs.Parts.{partsFrom, partsOf}
+use Rattle.lines.specs.Limits.{nameLimit}
 use Rattle.lines.specs.Lines.{SourceLine}
-use Rattle.rules.specs.Problem.{joined, joinedLines, sizeIn, operatorsIn, Draft, partCount, operatorCount, Problem, formulaIn, problemParts, accepted, readProblem}
-use Rattle.lines.specs.Effect.{Signals, count, isFull, withSignal, joint}
-use Rattle.rules.specs.Denotes.{Reads, declared, stated, Make, done, next}
+use Rattle.rules.specs.Problem.{joined, joinedLines, sizeIn, operatorsIn, Draft, partCount, operatorCount, Problem, problemParts, accepted, blank, readProblem}
+use Rattle.lines.specs.Effect.{Signals, count, firstBit, withSignal}
+use Rattle.rules.specs.Within.{Few, Within}
+use Rattle.rules.specs.Within.{Named}
+use Rattle.rules.specs.Denotes.{IsDeclared, Reads, declared, stated, Make, done, next}
 use Rattle.formula.proofs.CodesLaws.{Held, Coded, held-binary}
 use Rattle.lines.proofs.TreeCodes.{coded-formula}
-use Rattle.lines.proofs.DeclaredNames.{leaf-values}
-use Rattle.rules.proofs.JoinedFormulas.{size-joined, operators-joined, joined-more, joined-some}
+use Rattle.lines.proofs.LinesLaws.{name-short}
+use Rattle.lines.proofs.DeclaredNames.{index-new, leaf-values}
+use Rattle.rules.proofs.JoinedFormulas.{joined-more, joined-some}
+use Rattle.rules.proofs.LineTests.{names-more}
 use Rattle.rules.proofs.DenotesLaws.{read-denotes}
 
--- few enough signals of each kind, and in all
-pub record Few (g : Signals) : Type 0 where
-  pub outputs : g .outputs ≤ kindLimit
-  pub observed : g .observed ≤ kindLimit
-  pub hidden : g .hidden ≤ kindLimit
-  pub total : g .outputs + g .observed + g .hidden ≤ signalLimit
+-- ---- signals
 
-module _ (g : Signals) (few : Few g) where
-  pub room : (k : Kind) → isFull k g ≡ false → count k g < kindLimit
-  room Output f = let n = eqb-false (g .outputs) kindLimit (or-left (eqb (g .outputs) kindLimit) _ f) in omega (arith, n, few .outputs)
-  room Observed f = let n = eqb-false (g .observed) kindLimit (or-left (eqb (g .observed) kindLimit) _ f) in omega (arith, n, few .observed)
-  room Hidden f = let n = eqb-false (g .hidden) kindLimit (or-left (eqb (g .hidden) kindLimit) _ f) in omega (arith, n, few .hidden)
+module _ (g : Signals) (named : Named g) where
+  named-more : (k : Kind) (name : Name) → length name ≤ nameLimit → Named (withSignal k name g)
+  named-more k name h =
+      record {
+        all = ap length (names-more k name g) ∙ length-set (g .names) (firstBit k + count k g) name ∙ named .all;
+        short = λ x m. short x (in-set (g .names) (firstBit k + count k g) (subst (λ l. x ∈ l) (names-more k name g) m));
+      }
+    where
+      short : (x : Name) → (x ≡ name) ⊎ (x ∈ g .names) → length x ≤ nameLimit
+      short x (inl e) = rw e h
+      short x (inr m) = named .short x m
 
-  spare : (k : Kind) → isFull k g ≡ false → g .outputs + g .observed + g .hidden < signalLimit
-  spare k f =
-      let n = eqb-false (g .outputs + g .observed + g .hidden) signalLimit (or-right (eqb (count k g) kindLimit) _ f) in
-      omega (arith, n, few .total)
+  -- a longer name is declared nowhere
+  pub long-unknown : (name : Name) → nameLimit < length name → ¬ IsDeclared g name
+  long-unknown name h m = omega (arith, named .short name m, h)
 
-  few-more : (k : Kind) (name : List ℕ) → isFull k g ≡ false → Few (withSignal k name g)
-  few-more Output name f = let n = room Output f in record {
-    outputs = omega (arith, n);
-    observed = few .observed;
-    hidden = few .hidden;
-    total = omega
-        (arith, spare Output f);
-  }
-  few-more Observed name f = let n = room Observed f in record {
-    outputs = few .outputs;
-    observed = omega (arith, n);
-    hidden = few .hidden;
-    total =
-        omega (arith, spare Observed f);
-  }
-  few-more Hidden name f = let n = room Hidden f in record {
-    outputs = few .outputs;
-    observed = few .observed;
-    hidden = omega (arith, n);
-    total =
-        omega (arith, spare Hidden f);
-  }
+  -- a signal that is declared has the next bit of its kind
+  pub next-bit : (k : Kind) (name : Name) → ¬ IsDeclared g name → Few (withSignal k name g)
+      → indexOf name (withSignal k name g .names) ≡ firstBit k + count k g
+  next-bit k name new few =
+      ap (indexOf name) (names-more k name g) ∙ index-new name (g .names) (firstBit k + count k g) (below k few) new
+    where
+      below : (j : Kind) → Few (withSignal j name g) → firstBit j + count j g < length (g .names)
+      below Output w = omega (arith, w .outputs, named .all)
+      below Observed w = omega (arith, w .observed, named .all)
+      below Hidden w = omega (arith, w .hidden, named .all)
 
--- one more name has a bit of its own
-length-more : (k : Kind) (name : List ℕ) (g : Signals) → length (withSignal k name g .names) ≡ length (g .names)
-length-more Output name g = simp length-set
-length-more Observed name g = simp length-set
-length-more Hidden name g = simp length-set
+-- ---- formulas
 
 -- the formulas so far have parts that numbers hold
 unfoldable CodedIn : Option Formula → Type 0
@@ -86,62 +74,62 @@ coded-joined (some ψ) φ c d = λ n h. held-binary op.And ψ φ c d n h
 
 record Small (d : Draft) : Type 0 where
   few : Few (d .signals)
-  named : length (d .signals .names) ≡ bits
+  named : Named (d .signals)
   coded : CodedIn (joinedLines (d .lines))
   parts : partCount d ≤ partLimit
   operators : operatorCount d ≤ operatorLimit
 
 reads-small : {d d′ : Draft} {l : List ℕ} → Small d → Reads d l d′ → Small d′
-reads-small {d} s (declared k tab word named new room) =
+reads-small {d} s (declared k name named new few) =
     record {
-      few = few-more (d .signals) (s .few) k _ room;
-      named = length-more k _ (d .signals) ∙ s .named;
+      few = few;
+      named = named-more (d .signals) (s .named) k name (name-short name named);
       coded = s .coded;
       parts = s .parts;
       operators = s .operators;
     }
-reads-small {d} s (stated a tab word text derives known small) =
+reads-small {d} s (stated text a is derives known fits) =
     record {
       few = s .few;
       named = s .named;
       coded =
           subst CodedIn (sym (joined-more (d .lines) _))
-          (coded-joined (joinedLines (d .lines)) _ (s .coded) (coded-formula (leaf-values (d .signals .names) _ (s .named)) derives));
-      parts =
-          subst (λ n. n ≤ partLimit) (size-joined (joinedLines (d .lines)) _ ∙ ap sizeIn (sym (joined-more (d .lines) _)))
-          (ltb-false partLimit _ (or-left _ _ small));
-      operators =
-          subst (λ n. n ≤ operatorLimit) (operators-joined (joinedLines (d .lines)) _ ∙ ap operatorsIn (sym (joined-more (d .lines) _)))
-          (ltb-false operatorLimit _ (or-right (ltb partLimit (partCount d + size _ + joint (partCount d))) _ small));
+          (coded-joined (joinedLines (d .lines)) _ (s .coded) (coded-formula (leaf-values (d .signals .names) _ (s .named .all)) derives));
+      parts = fits .0;
+      operators = fits .1;
     }
 
--- a problem within the limits
-pub record Within (p : Problem) : Type 0 where
-  pub few : Few (p .signals)
-  pub parts : size (formulaIn p) ≤ partLimit
-  pub operators : operators (formulaIn p) ≤ operatorLimit
-  pub held : Held (problemParts p)
+-- ---- a whole problem
 
-make-within : {d : Draft} {ls : List SourceLine} {p : Problem} → Small d → Make d ls p → Within p
+make-within : {d : Draft} {ls : List SourceLine} {p : Problem} → Small d → Make d ls p → Within p × Held (problemParts p)
 unfolding CodedIn partsOf
 make-within s (done {d = d} some-line) =
     let (φ, e) = joined-some (d .lines) some-line in
     let small : size φ ≤ partLimit = subst (λ f. sizeIn f ≤ partLimit) e (s .parts) in
     let few : operators φ ≤ operatorLimit = subst (λ f. operatorsIn f ≤ operatorLimit) e (s .operators) in
     let held : Held (partsOf φ) = subst CodedIn e (s .coded) 0 (omega arith) in
-    record { few = s .few; parts = rw e small; operators = rw e few; held = rw e held }
+    (record { few = s .few; named = s .named; parts = rw e small; operators = rw e few }, rw e held)
 make-within s (next d′ r m) = make-within (reads-small s r) m
 
--- a problem that is read is within the limits
-pub read-within : (source : List ℕ) (p : Problem) → readProblem source ≡ accepted p → Within p
+blank-small : Small blank
 unfolding CodedIn
-read-within source p e =
-    make-within
-    (record {
+blank-small =
+    record {
       few = record { outputs = omega arith; observed = omega arith; hidden = omega arith; total = omega arith };
-      named = refl;
+      named = record { all = refl; short = λ name m. empty name m };
       coded = tt;
       parts = omega arith;
       operators = omega arith;
-    })
-    (read-denotes source p e .make)
+    }
+  where
+    empty : (name : Name) → name ∈ replicate bits [] → length name ≤ nameLimit
+    empty name m = let (i, h, e) = index-of [] m in subst (λ x. length x ≤ nameLimit) (sym (getD-replicate bits i [] [] h) ∙ e) (omega arith)
+
+module _ (source : List ℕ) (p : Problem) (e : readProblem source ≡ accepted p) where
+  -- a problem that is read is within the limits
+  pub read-within : Within p
+  read-within = make-within blank-small (read-denotes source p e .make) .0
+
+  -- and numbers hold its parts
+  pub read-held : Held (problemParts p)
+  read-held = make-within blank-small (read-denotes source p e .make) .1

@@ -3,34 +3,47 @@
 -- Assumes nothing.
 use Prim.Native.Nat.{ℕ, _≤_}
 use mathlib.Core.Path.{_≡_}
-use mathlib.Core.Bool.{true, false}
+use mathlib.Core.Bool.{true}
 use mathlib.Core.List.{List, [], _∷_}
 use lib.ListN.{length}
-use Rattle.grammar.specs.Lex.{tokens}
+use Rattle.basics.specs.Bytes.{between}
+use Rattle.basics.specs.Limits.{operatorLimit}
+use Rattle.basics.specs.Member.{_∈_}
+use Rattle.grammar.specs.declared.lex.Token.{Token}
+use Rattle.grammar.specs.Lex.{nameKind, tokens}
 use Rattle.grammar.specs.Tree.{Tree}
 use Rattle.grammar.specs.Grammar.{Derived}
-use Rattle.grammar.specs.Names.{leafValue}
+use Rattle.grammar.specs.Names.{Name, leafValue}
 use Rattle.lines.specs.declared.problem.Kind.{Kind}
-use Rattle.lines.specs.declared.problem.Word.the-variants.{Declare, Rule}
 use Rattle.rules.specs.Limits.{sourceLimit}
+use Rattle.formula.specs.Limits.{partLimit}
 use Rattle.formula.specs.Formula.{Formula}
-use Rattle.lines.specs.Lines.{SourceLine, ended, lines, hasTab, firstField, secondField, wordOf, isName, isText}
+use Rattle.lines.specs.Lines.{SourceLine, ended, lines, declareLine, ruleLine, isName, isText}
 use Rattle.rules.specs.Problem.{partCount, operatorCount, Draft, withDeclared, withFormula, Problem, blank}
-use Rattle.lines.specs.Effect.{isDeclared, isFull, formulaOf, allDeclared, isLarge}
+use Rattle.lines.specs.Effect.{Signals, withSignal, formulaOf}
+use Rattle.rules.specs.Within.{Few}
+
+-- a name is declared, and every name in a text is; the entry of a bit without a signal is empty, which no name is
+abbrev pub IsDeclared : Signals → Name → Type 0
+IsDeclared g name = name ∈ g .names
+
+abbrev pub AllDeclared : Signals → List ℕ → Type 0
+AllDeclared g text = (t : Token) → t ∈ tokens text 0 → t .kind ≡ nameKind → IsDeclared g (between text (t .from) (t .next))
 
 -- the formula of a tree that is derived from a text
-abbrev statedFormula : Draft → List ℕ → Tree → Formula
+abbrev pub statedFormula : Draft → List ℕ → Tree → Formula
 statedFormula d text a = formulaOf (leafValue (d .signals .names) text) a
 
+-- few enough parts and temporal operators
+abbrev pub Fits : Draft → Type 0
+Fits d = (partCount d ≤ partLimit) × (operatorCount d ≤ operatorLimit)
+
 -- a line takes what was read before it to what is read after it
-pub data Reads (d : Draft) (line : List ℕ) : Draft → Type 0 where
-  declared : (k : Kind) → hasTab line ≡ true → wordOf (firstField line) ≡ Declare k → isName (secondField line) ≡ true
-      → isDeclared (d .signals) (secondField line) ≡ false → isFull k (d .signals) ≡ false
-      → Reads d line (withDeclared k (secondField line) d)
-  stated : (a : Tree) → hasTab line ≡ true → wordOf (firstField line) ≡ Rule → isText (secondField line) ≡ true
-      → Derived (secondField line) a → allDeclared (d .signals) (secondField line) (tokens (secondField line) 0) ≡ true
-      → isLarge (partCount d) (operatorCount d) (statedFormula d (secondField line) a) ≡ false
-      → Reads d line (withFormula (statedFormula d (secondField line) a) d)
+pub data Reads (d : Draft) : List ℕ → Draft → Type 0 where
+  declared : (k : Kind) (name : Name) → isName name ≡ true → ¬ IsDeclared (d .signals) name → Few (withSignal k name (d .signals))
+      → Reads d (declareLine k name) (withDeclared k name d)
+  stated : (text : List ℕ) (a : Tree) → isText text ≡ true → Derived text a → AllDeclared (d .signals) text
+      → Fits (withFormula (statedFormula d text a) d) → Reads d (ruleLine text) (withFormula (statedFormula d text a) d)
 
 -- the lines that are left make a problem of what was read
 pub data Make : Draft → List SourceLine → Problem → Type 0 where

@@ -2,7 +2,9 @@
 pub mod Limits
 pub mod Problem
 pub mod Satisfies
+pub mod Within
 pub mod Denotes
+pub mod Refuses
 pub mod Trace
 pub mod Judge
 pub mod Reading

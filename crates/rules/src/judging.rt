@@ -9,7 +9,7 @@ ghost use Rattle.basics.specs.Limits.{kindLimit, indexLimit};
 ghost use Rattle.rules.specs.Trace.{countsOf, badStep, stepNumber, verdictOn};
 ghost use Rattle.formula.specs.Letter.{isLetter};
 ghost use Rattle.rules.specs.Problem.{readProblem};
-ghost use Rattle.rules.specs.Judge.{judgedBy, judged, workAfter, Means};
+ghost use Rattle.rules.specs.Judge.{judgedBy, judged, workAfter, toldVerdict, JudgedAs};
 use crate::reader::read;
 use basics::HIDDEN;
 use basics::INDEX_LIMIT;
@@ -107,7 +107,7 @@ fn judge_source(source: &[u8], trace: &[u16], entries: &mut [u8]) -> Verdict
 pub fn judge(source: &[u8], trace: &[u16], work: &mut [u8]) -> Verdict
     ensures answer { λ r. ⌜ r ≡ judged (length (now (work .entry))) (now (source .entry)) (now (trace .entry)) ⌝ }
     ensures cleared { λ _. ⌜ now (work .exit) ≡ workAfter (now (work .entry)) ⌝ }
-    ensures meant { λ r. ⌜ Means (now (source .entry)) (now (trace .entry)) r ⌝ }
+    ensures due { λ r. ⌜ JudgedAs (length (now (work .entry))) (now (source .entry)) (now (trace .entry)) (toldVerdict r) ⌝ }
 {
     if work.len() < WORK_SIZE {
         return Verdict::Refused(Refusal::ShortMemory);

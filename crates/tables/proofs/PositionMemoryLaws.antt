@@ -17,7 +17,7 @@ use Rattle.basics.proofs.BoundedLaws.{all-ext, first-ext}
 use Rattle.basics.proofs.ListsLaws.{length-tabulate, getD-tabulate}
 use Rattle.play.specs.Limits.{beliefLimit, sideLimit, pairLimit}
 use Rattle.play.specs.Rank.{Arena, setFirst, rankBelow, bestChoice}
-use Rattle.play.proofs.Order.{setOrder}
+use Rattle.play.proofs.StepOrder.{setOrder}
 use Rattle.play.proofs.RankLaws.{In}
 use Rattle.tables.specs.PositionMemory.{arenaIn, Positions, works, rankIfBelow, ranksBelow}
 use Rattle.tables.proofs.RanksBelow.{Below, leadsBelow, entry-ranked, entry-below, below-within, choice-below}

@@ -13,7 +13,7 @@ use Rattle.basics.specs.Bounded.{all, firstThat}
 use Rattle.basics.proofs.Booleans.{test, clash}
 use Rattle.basics.proofs.BoundedLaws.{all-ext, any-ext, first-ext, first-of, first-is, first-passes, first-least, none-first}
 use Rattle.play.specs.Rank.{Arena, setFirst, rankBelow, choiceWithin}
-use Rattle.play.proofs.Order.{setOrder}
+use Rattle.play.proofs.StepOrder.{setOrder}
 use Rattle.play.proofs.RankLaws.{In, within-le}
 use Rattle.tables.specs.PositionMemory.{noRank, rankIfBelow}
 

@@ -27,7 +27,7 @@ use Rattle.play.specs.Table.{listOf}
 use Rattle.play.specs.Answer.{moves, positions, verdictOf, cellsOf as verdictCells}
 use Rattle.tables.specs.Outcome.{outcomeOf}
 use Rattle.game.specs.Solution.{Solution, tooManyBeliefs, verdict, solutionOf}
-use Rattle.game.specs.Claim.{solvedAs, solvedOf, cellsOf}
+use Rattle.game.specs.Claim.{solvedWith, solvedOf, cellsOf}
 use Rattle.beliefs.specs.BeliefMemory.{beliefAfter, countedBeliefs, finalsOf, movesOf}
 use Rattle.game.specs.StateMemory.{Widths, memorySolution}
 use Rattle.tables.specs.PositionMemory.{arenaIn, Positions}
@@ -158,10 +158,10 @@ module _ (sets successors : List ℕ) (n choices observations hiddens observed :
       → (finals room : List ℕ) → finals ≡ written (finalsOf sets n (listOf counts)) room
       → (o : Outcome) (table table′ : List ℕ) → o ≡ outcomeOf (verdictOf (arenaIn choices rows finals) eqb choices observations k)
       → table′ ≡ written (verdictCells (verdictOf (arenaIn choices rows finals) eqb choices observations k)) table
-      → Answered observed solution (solvedAs observed o) table table′
+      → Answered observed solution (solvedWith observed o) table table′
   unfolding memorySolution
   solved-verdict w k got rows rows-are finals room marked o table table′ e f =
-      (ap (solvedAs observed) e ∙ ap (solvedOf observed) same, f ∙ ap (λ r. written (cellsOf r) table) same)
+      (ap (solvedWith observed) e ∙ ap (solvedOf observed) same, f ∙ ap (λ r. written (cellsOf r) table) same)
     where
       same : verdict (verdictOf (arenaIn choices rows finals) eqb choices observations k) ≡ solution
       same =

@@ -5,11 +5,9 @@ use mathlib.Core.Path.{_≡_, refl, sym, ap}
 use mathlib.Core.Bool.{Bool, true, false, _||_}
 use mathlib.Core.List.{List}
 use borrow.Author.Tests.{eq-eqb, ne-eqb, lt-ltb, le-ltb}
-use lib.Dec.{eqb, leb}
-use lib.ListN.{length, set}
-use Rattle.grammar.specs.declared.lex.Token.{Token}
+use lib.Dec.{eqb}
+use lib.ListN.{set}
 use Rattle.basics.specs.Bytes.{between}
-use Rattle.grammar.specs.Lex.{tokenAt, nameKind}
 use Rattle.grammar.specs.Names.{bits, indexOf, namesIn}
 use Rattle.lines.specs.declared.refusal.Refusal.the-variants.{BadLine, NameTwice, TooManySignals}
 use Rattle.lines.specs.declared.problem.Kind.{Kind}
@@ -18,31 +16,9 @@ use Rattle.lines.specs.declared.problem.Sizes.{Sizes}
 use Rattle.lines.specs.declared.problem.Reading.{Reading}
 use Rattle.lines.specs.declared.problem.Reading.the-variants.{Accepted, Refused}
 use Rattle.basics.specs.Limits.{kindLimit}
-use Rattle.lines.specs.Limits.{nameLimit}
 use Rattle.lines.specs.Lines.{isName}
 use Rattle.lines.specs.Effect.{Signals, count, firstBit, Effect, refuses, declares, declareEffect}
 use Rattle.lines.specs.Memory.{signalsIn, countIn, moreSignals, readingAfter, spansAfter}
-
--- ---- a name
-
-module _ (name : List ℕ) (t : Token) (it : t ≡ tokenAt name 0) where
-  pub name-kind : (t .kind ≡ nameKind → ⊥) → false ≡ isName name
-  unfolding isName
-  name-kind n = rw (← it, ne-eqb _ _ n)
-
-  module _ (k : t .kind ≡ nameKind) where
-    pub name-from : (t .from ≡ 0 → ⊥) → false ≡ isName name
-    unfolding isName
-    name-from n = rw (← it, eq-eqb _ _ k, ne-eqb _ _ n)
-
-    module _ (f : t .from ≡ 0) where
-      pub name-next : (t .next ≡ length name → ⊥) → false ≡ isName name
-      unfolding isName
-      name-next n = rw (← it, eq-eqb _ _ k, eq-eqb _ _ f, ne-eqb _ _ n)
-
-      pub name-length : t .next ≡ length name → leb (length name) nameLimit ≡ isName name
-      unfolding isName
-      name-length e = rw (← it, eq-eqb _ _ k, eq-eqb _ _ f, eq-eqb _ _ e)
 
 -- ---- the bit of a new signal
 

@@ -21,7 +21,7 @@ use Rattle.basics.proofs.Filling.{table-more, front-behind}
 use Rattle.basics.proofs.ListsLaws.{length-tabulate, getD-table, tabulate-ext}
 use Rattle.play.specs.Limits.{beliefLimit}
 use Rattle.play.specs.Rank.{Arena, setFirst, rankBelow}
-use Rattle.play.proofs.Order.{setOrder, can-of}
+use Rattle.play.proofs.StepOrder.{setOrder, can-of}
 use Rattle.play.proofs.RankLaws.{In}
 use Rattle.tables.specs.PositionMemory.{arenaIn, Positions, firstRank, works, rankIfBelow, ranksBelow, hasRank, noRank}
 use Rattle.tables.proofs.RanksBelow.{Below, leadsBelow, entry-none, entry-below, below-of, below-within, below-suc, below-more, rank-kept, rank-from}

@@ -29,7 +29,7 @@ use Rattle.play.specs.Answer.{startRank}
 use Rattle.tables.specs.PositionMemory.{arenaIn, Positions, works, ranksBelow, nextOf, rowsWith, rowWith}
 use Rattle.basics.proofs.Booleans.{clash}
 use Rattle.basics.proofs.BoundedLaws.{first-passes, first-least}
-use Rattle.play.proofs.Order.{Order, setOrder}
+use Rattle.play.proofs.StepOrder.{StepOrder, setOrder}
 use Rattle.play.proofs.RankLaws.{In, HasRank, rank-searched}
 use Rattle.play.proofs.FiniteArena.{Closed}
 use Rattle.play.proofs.Optimality.{answer, descends}
@@ -117,7 +117,7 @@ module _ (n choices observations : ℕ) (moves finals : List ℕ) where
   -- ---- the rows are found, and all are ranked
 
   module _ (P : Positions n choices observations moves finals) (start-ranked : startRank arena eqb choices observations n < n) where
-    abbrev O : Order choices observations
+    abbrev O : StepOrder choices observations
     O = setOrder choices observations
 
     inside : Closed O arena (P .some-observation) (below n)

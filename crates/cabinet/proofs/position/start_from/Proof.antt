@@ -1,6 +1,7 @@
 -- `cabinet::position::start_from` meets its contract.
 -- Assumes nothing.
 use borrow.Author.Needs.{needs}
+use Rattle.cabinet.proofs.AnswersDue.{start-told}
 use Rattle.cabinet.proofs.PositionLaws.{stands, row-room, start-refused, start-moves}
 use Rattle.cabinet.proofs.position.start_from.Statement.{statement}
 use Rattle.cabinet.proofs.position.start_from.Tie as tie
@@ -14,8 +15,9 @@ refuse-requires c κs = search needs
 returns : tie.Need-returns
 returns c =
     let a = c .before .before .before .before .args in
-    start-refused (a .table .now) (a .shape) (a .position) _ (c .before .before .is-standing .ensures) (c .before .if1 .taken) _
-    (c .refuse .ensures)
+    start-told (a .table .now) (a .shape) (a .position) _
+    (start-refused (a .table .now) (a .shape) (a .position) _ (c .before .before .is-standing .ensures) (c .before .if1 .taken) _
+    (c .refuse .ensures))
 
 move-to-requires : tie.Need-move-to-requires
 move-to-requires c κs =
@@ -25,8 +27,9 @@ move-to-requires c κs =
 returns-2 : tie.Need-returns-2
 returns-2 c =
     let a = c .before .before .before .before .args in
-    start-moves (a .table .now) (a .shape) (a .position)
-    (stands (a .table .now) (a .shape) 0 _ (c .before .before .is-standing .ensures) (c .before .if1 .left)) _ (c .move-to .ensures)
+    start-told (a .table .now) (a .shape) (a .position) _
+    (start-moves (a .table .now) (a .shape) (a .position)
+    (stands (a .table .now) (a .shape) 0 _ (c .before .before .is-standing .ensures) (c .before .if1 .left)) _ (c .move-to .ensures))
 
 pub start-from-spec : {M : Type 1} → statement M
 start-from-spec =

@@ -4,6 +4,7 @@ use native.Mathlib.Omega.{arith}
 use borrow.Author.Needs.{needs}
 use Rattle.tables.proofs.first_cell.Reads as first-cell-reads
 use Rattle.tables.proofs.next_cell.Reads as next-cell-reads
+use Rattle.cabinet.proofs.AnswersDue.{step-told}
 use Rattle.cabinet.proofs.PositionLaws.{Stands, stands, row-room, Goes, goes, step-nowhere, step-astray, step-stopped, step-unseen, step-cell, step-row, step-moves}
 use Rattle.cabinet.proofs.position.is_standing.Reads as is-standing-reads
 use Rattle.cabinet.proofs.position.refuse.Reads as refuse-reads
@@ -57,7 +58,7 @@ refuse-requires : tie.Need-refuse-requires
 refuse-requires c κs = search needs
 
 returns : tie.Need-returns
-returns c = step-nowhere _ _ _ _ _ _ (c .before .before .is-standing .ensures) (c .before .if1 .taken) (c .refuse .ensures)
+returns c = step-told _ _ _ _ _ (step-nowhere _ _ _ _ _ _ (c .before .before .is-standing .ensures) (c .before .if1 .taken) (c .refuse .ensures))
 
 first-cell-requires : tie.Need-first-cell-requires
 first-cell-requires c κs = row-room _ _ _ (standing c)
@@ -67,15 +68,17 @@ refuse-requires-2 c κs = search needs
 
 returns-2 : tie.Need-returns-2
 returns-2 c =
-    step-astray _ _ _ _ _ (standing (c .before .before .before)) _ (c .before .before .first-cell .ensures) (c .before .if2 .taken) (c .refuse2 .ensures)
+    step-told _ _ _ _ _
+    (step-astray _ _ _ _ _ (standing (c .before .before .before)) _ (c .before .before .first-cell .ensures) (c .before .if2 .taken) (c .refuse2 .ensures))
 
 refuse-requires-3 : tie.Need-refuse-requires-3
 refuse-requires-3 c κs = search needs
 
 returns-3 : tie.Need-returns-3
 returns-3 c =
-    step-stopped _ _ _ _ _ (standing (c .before .before .before .before)) _ (c .before .before .before .first-cell .ensures)
-    (c .before .before .if2 .left) (c .before .if3 .taken) (c .refuse3 .ensures)
+    step-told _ _ _ _ _
+    (step-stopped _ _ _ _ _ (standing (c .before .before .before .before)) _ (c .before .before .before .first-cell .ensures)
+    (c .before .before .if2 .left) (c .before .if3 .taken) (c .refuse3 .ensures))
 
 shl-if4 : tie.Need-shl-if4
 shl-if4 c = omega (arith, going (c .before) .stands .sized .seen)
@@ -84,7 +87,7 @@ refuse-requires-4 : tie.Need-refuse-requires-4
 refuse-requires-4 c κs = search needs
 
 returns-4 : tie.Need-returns-4
-returns-4 c = step-unseen (going (c .before .before .before)) (c .before .if4 .taken) _ (c .refuse4 .ensures)
+returns-4 c = step-told _ _ _ _ _ (step-unseen (going (c .before .before .before)) (c .before .if4 .taken) _ (c .refuse4 .ensures))
 
 next-cell-requires : tie.Need-next-cell-requires
 next-cell-requires c κs = step-cell (going (c .before .before)) (c .if4 .left)
@@ -97,7 +100,8 @@ move-to-requires c κs = step-row (going (c .before .before .before)) (c .before
 
 returns-5 : tie.Need-returns-5
 returns-5 c =
-    step-moves (going (c .before .before .before .before)) (c .before .before .if4 .left) _ (c .before .next-cell .ensures) _ (c .move-to .ensures)
+    step-told _ _ _ _ _
+    (step-moves (going (c .before .before .before .before)) (c .before .before .if4 .left) _ (c .before .next-cell .ensures) _ (c .move-to .ensures))
 
 pub step-from-spec : {M : Type 1} → statement M
 step-from-spec =

@@ -16,7 +16,7 @@ returns : tie.Need-returns
 returns c =
     let a = c .before .before .before .before .before .args in
     let m = tight-right (a .source .now) (a .work .now) (a .table .now) (a .text .now) (c .if1 .taken) in
-    (m .0, (m .1, (m .2, m .3)))
+    (m .0, (m .1, (m .2, (m .3, m .4))))
 
 solve-requires : tie.Need-solve-requires
 solve-requires c κs = search needs
@@ -88,8 +88,8 @@ returns-2 c =
     let print = c .before .before .print in
     let m = table-right (a .source .now) (a .work .now) (a .table .now) (a .text .now) (i .if1 .left) (solve .result) (solve .last .1 .1 .0)
     (solve .last .1 .0) (solve .ensures .0) (solve .ensures .1 .0) (solve .ensures .1 .1 .0) (n .0 .0) (n .0 .1 .0) (n .1)
-    (solve .ensures .1 .1 .1) (print .result) (print .last .1 .1 .1 .0) (print .ensures .0) (print .ensures .1) in
-    (m .0, (m .1, (m .2, m .3)))
+    (solve .ensures .1 .1 .1) (print .result) (print .last .1 .1 .1 .0) (print .ensures .0) (print .ensures .1 .0) in
+    (m .0, (m .1, (m .2, (m .3, m .4))))
 
 same-length-4 : tie.Need-same-length-4
 same-length-4 c = search needs
@@ -111,7 +111,7 @@ returns-3 c =
     let m = refusal-right (a .source .now) (a .work .now) (a .table .now) (a .text .now) (i .if1 .left) (solve .result) (solve .last .1 .1 .0)
     (solve .last .1 .0) (solve .ensures .0) (solve .ensures .1 .0) (solve .ensures .1 .1 .0) (x .0 .0) (x .1) (Text (put .result)) (put .last .0)
     (ap Text (put .ensures .0)) (put .ensures .1) in
-    (m .0, (m .1, (m .2, m .3)))
+    (m .0, (m .1, (m .2, (m .3, m .4))))
 
 pub respond-spec : {M : Type 1} → statement M
 respond-spec =

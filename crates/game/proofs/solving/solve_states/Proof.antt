@@ -64,8 +64,8 @@ answer-requires c κs =
       p .1 .1 .1 .1 .1 .1,
     )
 
-solved-as-requires : tie.Need-solved-as-requires
-solved-as-requires c κs = search needs
+solved-with-requires : tie.Need-solved-with-requires
+solved-with-requires c κs = search needs
 
 enum-told : tie.Need-enum-told
 enum-told c = search needs
@@ -85,7 +85,7 @@ returns c =
     let right = solved-verdict (a .sets .now) (a .successors .now) (a .n) (a .choices) (a .observations) (a .hiddens) (a .observed) (s .pre .1 .1 .1 .1 .0)
     (k .given .0 .0) count (found .last .1 .1 .1 .1 .1 .0) (found .ensures .1 .0) (found .last .1 .1 .1 .1 .1 .1 .0) _ (found .ensures .1 .1)
     (answer .result) (a .table .now) _ (answer .ensures .0) (answer .ensures .1) in
-    (c .solved-as .ensures ∙ right .0, right .1)
+    (c .solved-with .ensures ∙ right .0, right .1)
 
 returns-2 : tie.Need-returns-2
 returns-2 c =
@@ -105,7 +105,7 @@ solve-states-spec =
     slice-aggregate-answer
     slice-aggregate-answer-2
     answer-requires
-    solved-as-requires
+    solved-with-requires
     enum-told
     same-length
     returns

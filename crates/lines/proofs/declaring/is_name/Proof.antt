@@ -1,4 +1,4 @@
-use Rattle.lines.proofs.declaring.DeclareSignal.{name-kind, name-from, name-next, name-length}
+use Rattle.lines.proofs.declaring.NameTest.{name-kind, name-from, name-next, name-length}
 use borrow.Author.Needs.{needs}
 use Rattle.lines.proofs.declaring.is_name.Statement.{statement}
 use Rattle.lines.proofs.declaring.is_name.Tie as tie

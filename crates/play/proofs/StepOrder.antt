@@ -5,12 +5,13 @@ use Prim.Native.Nat.{ℕ, _<_}
 use mathlib.Core.Path.{_≡_, refl, sym, _∙_, subst}
 use mathlib.Core.Bool.{Bool, true, false}
 use mathlib.Core.Logic.{inl, inr}
-use Rattle.basics.specs.Bounded.{all}
+use Rattle.basics.specs.Bounded.{all, any, firstThat}
+use Rattle.play.specs.Game.{Order, set, read}
 use Rattle.play.specs.Rank.{setFirst}
-use Rattle.basics.proofs.BoundedLaws.{all-at, all-not, any-at, any-not}
+use Rattle.basics.proofs.BoundedLaws.{all-at, all-not, any-at, any-not, first-of}
 use Rattle.basics.proofs.Booleans.{test, clash}
 
-pub record Order (choices observations : ℕ) : Type 1 where
+pub record StepOrder (choices observations : ℕ) : Type 1 where
   pub can : (ℕ → ℕ → Bool) → Bool
   -- an answer is a choice for each observation
   pub Allowed : (ℕ → ℕ) → Type 0
@@ -18,7 +19,7 @@ pub record Order (choices observations : ℕ) : Type 1 where
   pub answer : (ok : ℕ → ℕ → Bool) → can ok ≡ true → (g : ℕ → ℕ) × Allowed g × ((s : ℕ) → s < observations → ok (g s) s ≡ true)
   pub refute : (ok : ℕ → ℕ → Bool) → can ok ≡ false → (g : ℕ → ℕ) → Allowed g → (s : ℕ) × (s < observations) × (ok (g s) s ≡ false)
 
-module _ {choices observations : ℕ} (O : Order choices observations) where
+module _ {choices observations : ℕ} (O : StepOrder choices observations) where
   pub can-of : (ok : ℕ → ℕ → Bool) (g : ℕ → ℕ) → O .Allowed g → ((s : ℕ) → s < observations → ok (g s) s ≡ true) → O .can ok ≡ true
   can-of ok g a right =
       elim (test (O .can ok)) [ inl t ↦ t | inr f ↦ let (s, h, w) = O .refute ok f g a in clash (right s h) w ]
@@ -38,7 +39,7 @@ module _ {choices observations : ℕ} (O : Order choices observations) where
             ]
       ]
 
-abbrev pub setOrder : (choices observations : ℕ) → Order choices observations
+abbrev pub setOrder : (choices observations : ℕ) → StepOrder choices observations
 setOrder choices observations =
     record {
       can = setFirst choices observations;
@@ -51,3 +52,26 @@ setOrder choices observations =
           let (s, h, w) = all-not observations (λ s. ok (a .0) s) (any-not choices (λ c. all observations (λ s. ok c s)) f (a .0) (a .1)) in
           (s, h, subst (λ (c : ℕ). ok c s ≡ false) (sym (a .2 s)) w);
     }
+
+-- the observation is read first: at every observation some choice is right
+abbrev pub readOrder : (choices observations : ℕ) → StepOrder choices observations
+readOrder choices observations =
+    record {
+      can = λ ok. all observations (λ s. any choices (λ c. ok c s));
+      Allowed = λ g. (s : ℕ) → s < observations → g s < choices;
+      below = λ g a. a;
+      answer = λ ok t.
+          let right : (s : ℕ) → s < observations
+          → (firstThat (λ c. ok c s) choices < choices) × (ok (firstThat (λ c. ok c s) choices) s ≡ true) =
+          λ s h.
+          let (c, b, w) = any-at choices (λ c. ok c s) (all-at observations (λ s. any choices (λ c. ok c s)) t s h) in
+          first-of (λ c. ok c s) choices c b w in
+          (λ s. firstThat (λ c. ok c s) choices, λ s h. right s h .0, λ s h. right s h .1);
+      refute = λ ok f g a.
+          let (s, h, w) = all-not observations (λ s. any choices (λ c. ok c s)) f in
+          (s, h, any-not choices (λ c. ok c s) w (g s) (a s h));
+    }
+
+abbrev pub orderOf : Order → (choices observations : ℕ) → StepOrder choices observations
+orderOf set = setOrder
+orderOf read = readOrder

@@ -1,0 +1,162 @@
+-- What the cabinet and the printing call answer is what is due, and what is due is what they answer.
+-- Assumes nothing.
+use Prim.Native.Nat.{ℕ, _^_}
+use mathlib.Core.Path.{_≡_, refl, sym, ap, subst}
+use mathlib.Core.Logic.{_↔_, inl, inr}
+use mathlib.Core.Bool.{Bool, true, false, _&&_}
+use mathlib.Core.List.{List, [], _∷_}
+use lib.Dec.{eqb, ltb}
+use lib.ListN.{length, drop}
+use lib.Seq.{take-at}
+use borrow.Author.Tests.{eqb-true, eqb-false, eq-eqb, ne-eqb, ltb-true, ltb-false, lt-ltb, le-ltb}
+use Rattle.basics.proofs.Booleans.{test, clash, and-left, and-right}
+use Rattle.lines.specs.Refusal.{Told, values}
+use Rattle.play.specs.Cells.{stopCell, firstCell, isStop, nextCell}
+use Rattle.tables.specs.declared.shape.Shape.{Shape}
+use Rattle.printer.specs.Limits.{textSize}
+use Rattle.printer.specs.WellFormed.{isPrintable}
+use Rattle.printer.specs.Text.{tableText}
+use Rattle.cabinet.specs.declared.position.Position.{Position}
+use Rattle.cabinet.specs.declared.position.Moved.{Moved}
+use Rattle.cabinet.specs.Position.{answerOf, isStanding, startOf, stepOf, toldAnswer, StartedAs, bad-start, started, Holds, SteppedAs, bad-place, stopped, bad-observation, moved}
+use Rattle.cabinet.specs.declared.printing.Printed.{Printed}
+use Rattle.cabinet.specs.Print.{printedBy, bytesBy, textAfter, toldPrinted, usedText, PrintedAs, short-memory, bad-table, text}
+
+told-of : (c : ℕ) → toldAnswer (answerOf c) ≡ values (c ∷ [])
+told-of c =
+    elim (test (eqb c stopCell)) [
+      | inl t ↦ rw t (ap (λ d. values (d ∷ [])) (sym (eqb-true c stopCell t)))
+      | inr f ↦ rw f refl
+    ]
+
+-- ---- the start
+
+module _ (t : List ℕ) (shape : Shape) (p : Position) where
+  pub start-due : StartedAs t shape p (toldAnswer (startOf t shape p .answer)) (startOf t shape p .position)
+  unfolding startOf
+  start-due =
+      elim (test (isStanding t shape 0)) [
+        | inl e ↦ rw (e, told-of (firstCell t 0)) (started e)
+        | inr f ↦ rw f (bad-start f)
+      ]
+
+  pub start-told : (m : Moved) → m ≡ startOf t shape p → (m ≡ startOf t shape p) × StartedAs t shape p (toldAnswer (m .answer)) (m .position)
+  start-told m e = (e, rw e start-due)
+
+  start-answered : (a : Told) (q : Position) → StartedAs t shape p a q → (toldAnswer (startOf t shape p .answer) ≡ a) × (startOf t shape p .position ≡ q)
+  unfolding startOf
+  start-answered a q (bad-start f) = rw f (refl, refl)
+  start-answered a q (started e) = rw e (told-of (firstCell t 0), refl)
+
+  pub start-iff : (a : Told) (q : Position)
+      → ((toldAnswer (startOf t shape p .answer) ≡ a) × (startOf t shape p .position ≡ q)) ↔ StartedAs t shape p a q
+  start-iff a q =
+      (λ e. subst (StartedAs t shape p a) (e .1) (subst (λ b. StartedAs t shape p b (startOf t shape p .position)) (e .0) start-due), start-answered a q)
+
+-- ---- a step
+
+module _ (t : List ℕ) (shape : Shape) (observation : ℕ) (p : Position) where
+  abbrev there : Bool
+  there = isStanding t shape (p .row) && eqb (firstCell t (p .row)) (p .choice)
+
+  holds : there ≡ true → Holds t shape p
+  holds e = (and-left (isStanding t shape (p .row)) _ e, eqb-true (firstCell t (p .row)) (p .choice) (and-right (isStanding t shape (p .row)) _ e))
+
+  held : Holds t shape p → there ≡ true
+  held h = rw (h .0, eq-eqb (firstCell t (p .row)) (p .choice) (h .1)) refl
+
+  not-held : ¬ Holds t shape p → there ≡ false
+  not-held n = elim (test there) [ inl e ↦ absurd (n (holds e)) | inr f ↦ f ]
+
+  pub step-due : SteppedAs t shape observation p (toldAnswer (stepOf t shape observation p .answer)) (stepOf t shape observation p .position)
+  unfolding stepOf
+  step-due =
+      elim (test there) [
+        | inr f ↦ rw f (bad-place (λ h. clash (held h) f))
+        | inl e ↦
+            elim (test (isStop t (p .row))) [
+              | inl s ↦ rw (e, s) (stopped (holds e) (eqb-true (firstCell t (p .row)) stopCell s))
+              | inr g ↦
+                  elim (test (ltb observation (2 ^ (shape .observed)))) [
+                    | inl o ↦
+                        rw (e, g, o, told-of (firstCell t (nextCell t (p .row) observation)))
+                        (moved (holds e) (eqb-false (firstCell t (p .row)) stopCell g) (ltb-true observation (2 ^ (shape .observed)) o))
+                    | inr o ↦
+                        rw (e, g, o)
+                        (bad-observation (holds e) (eqb-false (firstCell t (p .row)) stopCell g) (ltb-false observation (2 ^ (shape .observed)) o))
+                  ]
+            ]
+      ]
+
+  pub step-told : (m : Moved) → m ≡ stepOf t shape observation p
+      → (m ≡ stepOf t shape observation p) × SteppedAs t shape observation p (toldAnswer (m .answer)) (m .position)
+  step-told m e = (e, rw e step-due)
+
+  step-answered : (a : Told) (q : Position) → SteppedAs t shape observation p a q
+      → (toldAnswer (stepOf t shape observation p .answer) ≡ a) × (stepOf t shape observation p .position ≡ q)
+  unfolding stepOf
+  step-answered a q (bad-place n) = rw (not-held n) (refl, refl)
+  step-answered a q (stopped h s) = rw (held h, eq-eqb (firstCell t (p .row)) stopCell s) (refl, refl)
+  step-answered a q (bad-observation h n o) =
+      rw (held h, ne-eqb (firstCell t (p .row)) stopCell n, le-ltb observation (2 ^ (shape .observed)) o) (refl, refl)
+  step-answered a q (moved h n o) =
+      rw (held h, ne-eqb (firstCell t (p .row)) stopCell n, lt-ltb observation (2 ^ (shape .observed)) o)
+      (told-of (firstCell t (nextCell t (p .row) observation)), refl)
+
+  pub step-iff : (a : Told) (q : Position)
+      → ((toldAnswer (stepOf t shape observation p .answer) ≡ a) × (stepOf t shape observation p .position ≡ q)) ↔ SteppedAs t shape observation p a q
+  step-iff a q = (
+    λ e. subst (SteppedAs t shape observation p a) (e .1)
+        (subst (λ b. SteppedAs t shape observation p b (stepOf t shape observation p .position)) (e .0) step-due),
+    step-answered a q,
+  )
+
+-- ---- printing
+
+module _ (t : List ℕ) (shape : Shape) (worst : ℕ) where
+  print-due : (room : ℕ) → PrintedAs t shape worst room (toldPrinted (printedBy t shape worst room)) (bytesBy t shape worst room)
+  unfolding printedBy bytesBy
+  print-due room =
+      elim (test (ltb room textSize)) [
+        | inl s ↦ rw s (short-memory (ltb-true room textSize s))
+        | inr l ↦
+            elim (test (isPrintable t shape worst)) [
+              | inr f ↦ rw (l, f) (bad-table (ltb-false room textSize l) f)
+              | inl e ↦ rw (l, e) (text (ltb-false room textSize l) e)
+            ]
+      ]
+
+  -- what stands at the front of the text
+  print-used : (room : List ℕ) → usedText (printedBy t shape worst (length room)) (textAfter t shape worst room) ≡ bytesBy t shape worst (length room)
+  unfolding printedBy bytesBy
+  print-used room =
+      elim (test (ltb (length room) textSize)) [
+        | inl s ↦ rw s refl
+        | inr l ↦
+            elim (test (isPrintable t shape worst)) [
+              | inr f ↦ rw (l, f) refl
+              | inl e ↦
+                  rw (l, e)
+                  (take-at (tableText t shape worst) (drop (length (tableText t shape worst)) room) (length (tableText t shape worst)) refl)
+            ]
+      ]
+
+  pub print-told : (room : List ℕ) (r : Printed) (after : List ℕ)
+      → (r ≡ printedBy t shape worst (length room)) × (after ≡ textAfter t shape worst room)
+      → PrintedAs t shape worst (length room) (toldPrinted r) (usedText r after)
+  print-told room r after e = rw (e .0, e .1, print-used room) (print-due (length room))
+
+  print-answered : (room : ℕ) (a : Told) (bytes : List ℕ) → PrintedAs t shape worst room a bytes
+      → (toldPrinted (printedBy t shape worst room) ≡ a) × (bytesBy t shape worst room ≡ bytes)
+  unfolding printedBy bytesBy
+  print-answered room a bytes (short-memory s) = rw (lt-ltb room textSize s) (refl, refl)
+  print-answered room a bytes (bad-table l f) = rw (le-ltb room textSize l, f) (refl, refl)
+  print-answered room a bytes (text l e) = rw (le-ltb room textSize l, e) (refl, refl)
+
+  pub print-iff : (room : ℕ) (a : Told) (bytes : List ℕ)
+      → ((toldPrinted (printedBy t shape worst room) ≡ a) × (bytesBy t shape worst room ≡ bytes)) ↔ PrintedAs t shape worst room a bytes
+  print-iff room a bytes = (
+    λ e. subst (PrintedAs t shape worst room a) (e .1)
+        (subst (λ b. PrintedAs t shape worst room b (bytesBy t shape worst room)) (e .0) (print-due room)),
+    print-answered room a bytes,
+  )

@@ -1,0 +1,66 @@
+-- The examples A to K of document 01 ("Sheets and runs to hold to") as one table: a problem's bytes, what is asked of them, and the answer.
+-- Assumes nothing.
+use Prim.Native.Nat.{ℕ}
+use Prim.Native.String.{String}
+use mathlib.Core.List.{List, [], _∷_, _++_}
+use Rattle.basics.specs.Bytes.{bytesOf}
+use Rattle.basics.specs.Lists.{padded}
+use Rattle.lines.specs.Refusal.{Told, values, refused, toldRefusal}
+use Rattle.formula.specs.Semantics.{Trace}
+use Rattle.rules.specs.Limits.{workSize}
+use Rattle.rules.specs.Judge.{judged, toldVerdict}
+use Rattle.play.specs.Cells.{rowSize, stopCell, tableSize}
+use Rattle.game.specs.declared.solving.Solved.{Solved}
+use Rattle.game.specs.declared.solving.Solved.the-variants as solved
+use Rattle.game.specs.Claim.{solvedBy, toldSolved, cellsBy}
+use Rattle.cabinet.specs.Response.{response}
+
+-- where document 01 gives no row count: the worst case alone
+abbrev pub toldWorst : Solved → Told
+toldWorst (solved.Table shape worst) = values (worst ∷ [])
+toldWorst (solved.Refused r) = toldRefusal r
+
+-- what is asked of a problem: its table's row count, observed signals and worst case; the worst case alone; the table's cells; the bytes
+-- that are written for it; or the verdict on a trace
+pub data Asked : Type 0 where
+  table worst cells text : Asked
+  judge : Trace → Asked
+
+-- what is told for a source, by the definitions that the calls are proved to compute, with as much memory as they ask for
+abbrev pub toldFor : List ℕ → Asked → Told
+toldFor source table = toldSolved (solvedBy workSize tableSize source)
+toldFor source worst = toldWorst (solvedBy workSize tableSize source)
+toldFor source cells = values (cellsBy workSize tableSize source)
+toldFor source text = values (response source)
+toldFor source (judge π) = toldVerdict (judged workSize source π)
+
+-- document 01's letter, the problem, what is asked of it, and what is to be told
+pub data Example : Type 0 where
+  example : (letter source : String) → Asked → Told → Example
+
+abbrev pub answer : Example → Told
+answer (example letter source asked told) = toldFor (bytesOf source) asked
+
+abbrev pub expected : Example → Told
+expected (example letter source asked told) = told
+
+abbrev pub examples : List Example
+examples =
+    example "A" "out\tvalve\nhid\twet\nrule\tF valve\n" table (values (2 ∷ 0 ∷ 1 ∷ []))
+    ∷ example "B" "out\ta\nsee\ts\nrule\ts -> X a\n" table (values (3 ∷ 1 ∷ 2 ∷ []))
+    ∷ example "B" "out\ta\nsee\ts\nrule\ts -> X a\n" text (values (bytesOf "table\t3\t2\nrow\t0\t0\t1\t2\nrow\t1\tstop\nrow\t2\t1\t1\t1\n"))
+    ∷ example "B" "out\ta\nsee\ts\nrule\ts -> X a\n" cells
+    (values (padded rowSize (0 ∷ 1 ∷ 2 ∷ []) ++ padded rowSize (stopCell ∷ []) ++ padded rowSize (1 ∷ 1 ∷ 1 ∷ [])))
+    ∷ example "C" "out\ta\nhid\ts\nrule\ts -> X a\n" table (values (3 ∷ 0 ∷ 2 ∷ []))
+    ∷ example "D" "hid\ts\nrule\tF s\n" table (refused 11 0)
+    ∷ example "E" "hid\ts\nrule\t(s & N false) | (!s & X N false)\n" table (refused 11 0)
+    ∷ example "E" "see\ts\nrule\t(s & N false) | (!s & X N false)\n" worst (values (2 ∷ []))
+    ∷ example "F" "rule\ttrue\n" table (values (2 ∷ 0 ∷ 1 ∷ []))
+    ∷ example "G" "rule\tfalse\n" table (refused 11 0)
+    ∷ example "H" "rule\tX true\n" worst (values (2 ∷ []))
+    ∷ example "I" "rule\tX true\n" (judge (0 ∷ [])) (values (0 ∷ []))
+    ∷ example "I" "rule\tN false\n" (judge (0 ∷ [])) (values (1 ∷ []))
+    ∷ example "J" "out\ta\nout\tb\nrule\ta U b\n" (judge (1 ∷ 2 ∷ [])) (values (1 ∷ []))
+    ∷ example "J" "out\ta\nout\tb\nrule\ta U b\n" (judge (1 ∷ [])) (values (0 ∷ []))
+    ∷ example "K" "out\ta\nout\tb\nrule\ta R b\n" (judge (2 ∷ [])) (values (1 ∷ []))
+    ∷ []

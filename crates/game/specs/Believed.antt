@@ -1,0 +1,51 @@
+-- What is believed after a history, and how many states and beliefs there are, as "States and beliefs" of document 01 counts them: by the
+-- states that letters lead to, with no search and no numbers.
+-- Assumes nothing.
+use Prim.Native.Nat.{ℕ, suc}
+use mathlib.Core.Path.{_≡_}
+use mathlib.Core.Logic.{_↔_}
+use mathlib.Core.Bool.{true}
+use mathlib.Core.List.{List}
+use lib.ListN.{length}
+use Rattle.basics.specs.Member.{_∈_, Distinct}
+use Rattle.rules.specs.Judge.{countsIn}
+use Rattle.rules.specs.Problem.{Problem, problemParts}
+use Rattle.obligations.specs.Letters.{lettersOf}
+use Rattle.search.specs.Limits.{stateLimit}
+use Rattle.search.specs.PatternSet.{PatternSet, accepts}
+use Rattle.states.specs.States.{stateAfter, IsState}
+use Rattle.play.specs.Limits.{beliefLimit}
+use Rattle.play.specs.History.{History, Possible, AtLeastBeliefs, Hidden, letters}
+use Rattle.game.specs.Solution.{gameOf}
+
+module _ (p : Problem) where
+  -- s is one of the states that the hidden signals allow after the choices and observations so far
+  abbrev pub Believed : History → PatternSet → Type 0
+  Believed h s = (x : ℕ → ℕ) × Hidden (gameOf p) x × (stateAfter (problemParts p) (letters (gameOf p) h x) ≡ s)
+
+  -- a belief is the set of these: two histories lead to the same belief if they allow the same states
+  abbrev pub SameBelief : History → History → Type 0
+  SameBelief h k = (s : PatternSet) → Believed h s ↔ Believed k s
+
+  -- a final belief (stop belief in document 01) is one whose states all accept
+  abbrev pub FinalBelief : History → Type 0
+  FinalBelief h = (s : PatternSet) → Believed h s → accepts s ≡ true
+
+  -- the histories whose beliefs count: all that choices and observations make
+  abbrev pub Counts : History → Type 0
+  Counts h = Possible (gameOf p .choices) (gameOf p .observations) h
+
+  -- more beliefs than the limit can be reached
+  abbrev pub ManyBeliefs : Type 0
+  ManyBeliefs = AtLeastBeliefs Counts SameBelief (suc beliefLimit)
+
+  -- more states than the limit can be reached
+  pub record ManyStates : Type 0 where
+    pub states : List PatternSet
+    pub count : length states ≡ suc stateLimit
+    pub distinct : Distinct states
+    pub reached : (s : PatternSet) → s ∈ states → IsState (problemParts p) (lettersOf (countsIn (p .signals))) s
+
+  -- the limits of states and of beliefs are kept
+  abbrev pub Small : Type 0
+  Small = (¬ ManyStates) × (¬ ManyBeliefs)

@@ -1,0 +1,16 @@
+-- Histories with a step more.
+-- Assumes nothing.
+use Prim.Native.Nat.{ℕ, _<_}
+use mathlib.Core.Path.{_≡_, refl}
+use mathlib.Core.List.{[], _∷_}
+use Rattle.play.specs.Rank.{Arena}
+use Rattle.play.specs.History.{History, Possible, onward, know}
+
+pub possible-onward : (choices observations : ℕ) (h : History) (c s : ℕ) → Possible choices observations h → c < choices → s < observations
+    → Possible choices observations (onward h c s)
+possible-onward choices observations [] c s p cb sb = (cb, sb, tt)
+possible-onward choices observations (m ∷ h) c s (mc, ms, p) cb sb = (mc, ms, possible-onward choices observations h c s p cb sb)
+
+pub know-onward : (A : Arena) (k : A .K) (h : History) (c s : ℕ) → know A k (onward h c s) ≡ A .move (know A k h) c s
+know-onward A k [] c s = refl
+know-onward A k (m ∷ h) c s = know-onward A (A .move k (m .0) (m .1)) h c s

@@ -1,0 +1,32 @@
+-- What a problem that is read keeps within the limits of document 01.
+-- Assumes nothing.
+use Prim.Native.Nat.{_+_, _≤_}
+use mathlib.Core.Path.{_≡_}
+use lib.ListN.{length}
+use Rattle.basics.specs.Limits.{kindLimit, signalLimit, operatorLimit}
+use Rattle.basics.specs.Member.{_∈_}
+use Rattle.grammar.specs.Names.{Name, bits}
+use Rattle.formula.specs.Limits.{partLimit}
+use Rattle.formula.specs.Formula.{size, operators}
+use Rattle.lines.specs.Limits.{nameLimit}
+use Rattle.lines.specs.Effect.{Signals}
+use Rattle.rules.specs.Problem.{Problem, formulaIn}
+
+-- few enough signals of each kind, and in all
+pub record Few (g : Signals) : Type 0 where
+  pub outputs : g .outputs ≤ kindLimit
+  pub observed : g .observed ≤ kindLimit
+  pub hidden : g .hidden ≤ kindLimit
+  pub total : g .outputs + g .observed + g .hidden ≤ signalLimit
+
+-- an entry for each bit, and no name too long
+pub record Named (g : Signals) : Type 0 where
+  pub all : length (g .names) ≡ bits
+  pub short : (name : Name) → name ∈ g .names → length name ≤ nameLimit
+
+-- a problem within the limits
+pub record Within (p : Problem) : Type 0 where
+  pub few : Few (p .signals)
+  pub named : Named (p .signals)
+  pub parts : size (formulaIn p) ≤ partLimit
+  pub operators : operators (formulaIn p) ≤ operatorLimit
