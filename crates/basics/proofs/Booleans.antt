@@ -2,7 +2,7 @@
 -- Assumes nothing.
 use mathlib.Core.Path.{_≡_, refl, sym, _∙_, subst}
 use mathlib.Core.Logic.{_⊎_, inl, inr}
-use mathlib.Core.Bool.{Bool, true, false, _&&_, _||_, true≢false, false≢true}
+use mathlib.Core.Bool.{Bool, true, false, _&&_, _||_, cond, true≢false, false≢true}
 
 -- a test passes or fails, with the equation
 pub test : (b : Bool) → (b ≡ true) ⊎ (b ≡ false)
@@ -11,6 +11,11 @@ test false = inr refl
 
 pub clash : {A : Type 0} {b : Bool} → b ≡ true → b ≡ false → A
 clash t f = absurd (true≢false (sym t ∙ f))
+
+-- what holds of both sides, each where it is taken, holds of the one that is taken
+pub cond-elim : {A : Type 0} (P : A → Type 0) (b : Bool) (x y : A) → (b ≡ true → P x) → (b ≡ false → P y) → P (cond b x y)
+cond-elim P true x y f g = f refl
+cond-elim P false x y f g = g refl
 
 pub and-true : {a b : Bool} → a ≡ true → b ≡ true → a && b ≡ true
 and-true p q = rw (p, q)

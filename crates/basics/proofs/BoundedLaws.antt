@@ -9,6 +9,7 @@ use mathlib.Core.Logic.{_⊎_, inl, inr}
 use mathlib.Core.Bool.{Bool, true, false, cond, _&&_, false≢true, _||_, true≢false}
 use lib.Dec.{eqb, ltb}
 use borrow.Author.Tests.{ltb-true, ltb-false, eqb-true, lt-ltb, le-ltb, eq-eqb, ne-eqb}
+use Rattle.basics.specs.Says.{Says}
 use Rattle.basics.specs.Bounded.{agree, firstThat, all, any}
 use native.Mathlib.Decide.{ℕ-discrete, decLt}
 use Rattle.basics.proofs.Booleans.{or-left, or-right, test, clash, and-left, and-right, or-cases}
@@ -237,3 +238,7 @@ first-ext n f g same =
           let e : firstThat g n ≡ n = omega (arith, first-le g n) in
           none-first f n (λ j h. same j h ∙ first-least g n j (omega arith)) ∙ sym e
     ]
+
+-- what stands for a test of each number below n
+pub all-says : (n : ℕ) (ok : ℕ → Bool) (P : ℕ → Type 0) → ((i : ℕ) → Says (ok i) (P i)) → Says (all n ok) ((i : ℕ) → i < n → P i)
+all-says n ok P says = (λ e i h. says i .0 (all-at n ok e i h), λ p. all-of n ok (λ i h. says i .1 (p i h)))

@@ -14,9 +14,9 @@ use borrow.Author.Tests.{eqb-false, eq-eqb, ne-eqb}
 use Rattle.basics.specs.Says.{Says}
 use Rattle.basics.specs.Member.{_∈_}
 use Rattle.basics.specs.Reach.{Listing, closed, over, isIn, addNew, addAll, explore, reachable}
-use Rattle.basics.proofs.Booleans.{test}
+use Rattle.basics.proofs.Booleans.{test, cond-elim}
 use Rattle.basics.proofs.MemberLaws.{index-of}
-use Rattle.basics.proofs.ReachLaws.{cond-elim, isIn-says}
+use Rattle.basics.proofs.ReachLaws.{isIn-says}
 use Rattle.basics.proofs.GrowingList.{add-old, add-new}
 
 module _ {A : Type 0} (steps : A → List A) (first : A) where

@@ -5,8 +5,8 @@ use native.Mathlib.Nat.{not-suc-le-zero, le-of-suc-le-suc, zero-add}
 use mathlib.Core.Path.{_≡_, refl, sym, ap, _∙_, ap₂, subst}
 use mathlib.Core.List.{List, [], _∷_, _++_, map, List·Memᴰ·head, List·Memᴰ·tail}
 use lib.ListN.{length, getD, take, drop, replicate, length-map, length-replicate, List·getD-append, length-append}
-use lib.Seq.{getD-append-add, getD-drop}
-use Rattle.basics.specs.Lists.{tabulate, below, padded}
+use lib.Seq.{getD-append-add, getD-drop, drop-append-seam}
+use Rattle.basics.specs.Lists.{tabulate, below, padded, written}
 use native.Mathlib.Omega.{arith}
 use Rattle.basics.specs.Member.{_∈_}
 
@@ -116,3 +116,7 @@ pub past-end : (n : ℕ) (l : List ℕ) (i : ℕ) → length l ≤ i → getD (p
 past-end n l i h =
     let e : i ≡ length l + (i - length l) = omega arith in
     ap (λ y. getD (padded n l) y 0) e ∙ getD-append-add l _ (i - length l) 0 ∙ getD-zeros (n - length l) (i - length l)
+
+-- behind what is written all is as it was
+pub written-rest : (front l : List ℕ) (n : ℕ) → length front ≡ n → drop n (written front l) ≡ drop n l
+written-rest front l n e = subst (λ k. drop k (written front l) ≡ drop k l) e (drop-append-seam front (drop (length front) l))

@@ -14,11 +14,8 @@ use borrow.Author.Tests.{ltb-true, ltb-false, le-ltb, eqb-true, eqb-false, eq-eq
 use Rattle.basics.specs.Says.{Says}
 use Rattle.basics.specs.Member.{_∈_, Distinct, distinct-nil, distinct-cons}
 use Rattle.basics.specs.Reach.{Listing, closed, over, isIn, addNew, addAll, explore, reachable, Reached, reached-first, reached-step, Enumerates, AtLeast, Spelled, indexIn}
+use Rattle.basics.proofs.Booleans.{cond-elim}
 use Rattle.basics.proofs.MemberLaws.{index-of, getD-in, distinct-snoc, in-take, distinct-take, distinct-length-le}
-
-pub cond-elim : {A : Type 0} (P : A → Type 0) (b : Bool) (x y : A) → (b ≡ true → P x) → (b ≡ false → P y) → P (cond b x y)
-cond-elim P true x y f g = f refl
-cond-elim P false x y f g = g refl
 
 module _ {A : Type 0} (same : A → A → Bool) (same-says : (x y : A) → Says (same x y) (x ≡ y)) where
   pub isIn-says : (x : A) (xs : List A) → Says (isIn same x xs) (x ∈ xs)
@@ -299,9 +296,6 @@ module _ {A : Type 0} (same : A → A → Bool) (says : (x y : A) → Says (same
 -- listed things are not given up
 pub closed-not-over : {A : Type 0} (xs : List A) → closed xs ≡ over → ⊥
 closed-not-over xs q = let z : _≡_ {A = ℕ} 0 1 = cc in absurd (omega arith)
-
-pub same-listed : {A : Type 0} (xs ys : List A) → closed xs ≡ closed ys → xs ≡ ys
-same-listed xs ys e = cc
 
 module _ {A : Type 0} (same : A → A → Bool) (steps : A → List A) (first : A) (n m : ℕ) (le : n ≤ m) (xs : List A) where
   explore-limit : (fuel more : ℕ) → fuel ≤ more → (seen : List A) (i : ℕ) → explore same steps first n fuel seen i ≡ closed xs

@@ -1,8 +1,11 @@
--- What the Boolean operators say.
+-- What the Boolean operators and the tests of numbers say.
 -- Assumes nothing.
+use Prim.Native.Nat.{ℕ, _≤_, _<_}
 use mathlib.Core.Path.{_≡_, refl}
 use mathlib.Core.Logic.{_⊎_, inl, inr}
 use mathlib.Core.Bool.{Bool, true, false, not, _&&_, _||_, false≢true}
+use lib.Dec.{eqb, leb, ltb}
+use borrow.Author.Tests.{ltb-true, lt-ltb, leb-true, le-leb, eqb-true, eq-eqb}
 use Rattle.basics.specs.Says.{Says}
 
 pub says-not : {b : Bool} {P : Type 0} → Says b P → Says (not b) (¬ P)
@@ -32,3 +35,19 @@ says-stable {b = false} e n = absurd (n (λ p. false≢true (e .1 p)))
 
 pub says-true : Says true (Unit {0})
 says-true = (λ e. tt, λ u. refl)
+
+-- where what it stands for fails, it is false
+pub says-false : {b : Bool} {P : Type 0} → Says b P → ¬ P → b ≡ false
+says-false {b = true} e n = absurd (n (e .0 refl))
+says-false {b = false} e n = refl
+
+-- ---- the tests of numbers
+
+pub lt-says : (a b : ℕ) → Says (ltb a b) (a < b)
+lt-says a b = (ltb-true a b, lt-ltb a b)
+
+pub le-says : (a b : ℕ) → Says (leb a b) (a ≤ b)
+le-says a b = (leb-true a b, le-leb a b)
+
+pub eqb-says : (a b : ℕ) → Says (eqb a b) (a ≡ b)
+eqb-says a b = (eqb-true a b, eq-eqb a b)

@@ -3,14 +3,18 @@
 use Prim.Native.Nat.{ℕ, _^_}
 use mathlib.Core.Path.{_≡_, refl, sym, ap, subst}
 use mathlib.Core.Logic.{_↔_, inl, inr}
-use mathlib.Core.Bool.{Bool, true, false, _&&_}
+use mathlib.Core.Bool.{Bool, _&&_}
 use mathlib.Core.List.{List, [], _∷_}
 use lib.Dec.{eqb, ltb}
 use lib.ListN.{length, drop}
 use lib.Seq.{take-at}
 use borrow.Author.Tests.{eqb-true, eqb-false, eq-eqb, ne-eqb, ltb-true, ltb-false, lt-ltb, le-ltb}
-use Rattle.basics.proofs.Booleans.{test, clash, and-left, and-right}
-use Rattle.lines.specs.Refusal.{Told, values}
+use Rattle.basics.specs.Says.{Says}
+use Rattle.basics.proofs.Booleans.{test, clash}
+use Rattle.basics.proofs.SaysLaws.{says-and, says-false}
+use Rattle.basics.specs.Lists.{written}
+use Rattle.basics.proofs.ListsLaws.{written-rest}
+use Rattle.lines.specs.Refusal.{Told, values, refused}
 use Rattle.play.specs.Cells.{stopCell, firstCell, isStop, nextCell}
 use Rattle.tables.specs.declared.shape.Shape.{Shape}
 use Rattle.printer.specs.Limits.{textSize}
@@ -18,8 +22,11 @@ use Rattle.printer.specs.WellFormed.{isPrintable}
 use Rattle.printer.specs.Text.{tableText}
 use Rattle.cabinet.specs.declared.position.Position.{Position}
 use Rattle.cabinet.specs.declared.position.Moved.{Moved}
-use Rattle.cabinet.specs.Position.{answerOf, isStanding, startOf, stepOf, toldAnswer, StartedAs, bad-start, started, Holds, SteppedAs, bad-place, stopped, bad-observation, moved}
+use Rattle.cabinet.specs.Position.{answerOf, isStanding, startOf, stepOf, toldAnswer}
+use Rattle.cabinet.specs.Position.{StartedAs, bad-start, started, Holds, SteppedAs, bad-place, stopped, bad-observation, moved}
 use Rattle.cabinet.specs.declared.printing.Printed.{Printed}
+use Rattle.printer.proofs.WellFormedLaws.{printable-says}
+use Rattle.cabinet.proofs.PositionLaws.{standing-says}
 use Rattle.cabinet.specs.Print.{printedBy, bytesBy, textAfter, toldPrinted, usedText, PrintedAs, short-memory, bad-table, text}
 
 told-of : (c : ℕ) → toldAnswer (answerOf c) ≡ values (c ∷ [])
@@ -36,8 +43,8 @@ module _ (t : List ℕ) (shape : Shape) (p : Position) where
   unfolding startOf
   start-due =
       elim (test (isStanding t shape 0)) [
-        | inl e ↦ rw (e, told-of (firstCell t 0)) (started e)
-        | inr f ↦ rw f (bad-start f)
+        | inl e ↦ rw (e, told-of (firstCell t 0)) (started (standing-says t shape 0 .0 e))
+        | inr f ↦ rw f (bad-start (λ w. clash (standing-says t shape 0 .1 w) f))
       ]
 
   pub start-told : (m : Moved) → m ≡ startOf t shape p → (m ≡ startOf t shape p) × StartedAs t shape p (toldAnswer (m .answer)) (m .position)
@@ -45,8 +52,8 @@ module _ (t : List ℕ) (shape : Shape) (p : Position) where
 
   start-answered : (a : Told) (q : Position) → StartedAs t shape p a q → (toldAnswer (startOf t shape p .answer) ≡ a) × (startOf t shape p .position ≡ q)
   unfolding startOf
-  start-answered a q (bad-start f) = rw f (refl, refl)
-  start-answered a q (started e) = rw e (told-of (firstCell t 0), refl)
+  start-answered a q (bad-start n) = rw (says-false (standing-says t shape 0) n) (refl, refl)
+  start-answered a q (started w) = rw (standing-says t shape 0 .1 w) (told-of (firstCell t 0), refl)
 
   pub start-iff : (a : Told) (q : Position)
       → ((toldAnswer (startOf t shape p .answer) ≡ a) × (startOf t shape p .position ≡ q)) ↔ StartedAs t shape p a q
@@ -59,31 +66,25 @@ module _ (t : List ℕ) (shape : Shape) (observation : ℕ) (p : Position) where
   abbrev there : Bool
   there = isStanding t shape (p .row) && eqb (firstCell t (p .row)) (p .choice)
 
-  holds : there ≡ true → Holds t shape p
-  holds e = (and-left (isStanding t shape (p .row)) _ e, eqb-true (firstCell t (p .row)) (p .choice) (and-right (isStanding t shape (p .row)) _ e))
-
-  held : Holds t shape p → there ≡ true
-  held h = rw (h .0, eq-eqb (firstCell t (p .row)) (p .choice) (h .1)) refl
-
-  not-held : ¬ Holds t shape p → there ≡ false
-  not-held n = elim (test there) [ inl e ↦ absurd (n (holds e)) | inr f ↦ f ]
+  there-says : Says there (Holds t shape p)
+  there-says = says-and (standing-says t shape (p .row)) (eqb-true (firstCell t (p .row)) (p .choice), eq-eqb (firstCell t (p .row)) (p .choice))
 
   pub step-due : SteppedAs t shape observation p (toldAnswer (stepOf t shape observation p .answer)) (stepOf t shape observation p .position)
   unfolding stepOf
   step-due =
       elim (test there) [
-        | inr f ↦ rw f (bad-place (λ h. clash (held h) f))
+        | inr f ↦ rw f (bad-place (λ h. clash (there-says .1 h) f))
         | inl e ↦
             elim (test (isStop t (p .row))) [
-              | inl s ↦ rw (e, s) (stopped (holds e) (eqb-true (firstCell t (p .row)) stopCell s))
+              | inl s ↦ rw (e, s) (stopped (there-says .0 e) (eqb-true (firstCell t (p .row)) stopCell s))
               | inr g ↦
                   elim (test (ltb observation (2 ^ (shape .observed)))) [
                     | inl o ↦
                         rw (e, g, o, told-of (firstCell t (nextCell t (p .row) observation)))
-                        (moved (holds e) (eqb-false (firstCell t (p .row)) stopCell g) (ltb-true observation (2 ^ (shape .observed)) o))
+                        (moved (there-says .0 e) (eqb-false (firstCell t (p .row)) stopCell g) (ltb-true observation (2 ^ (shape .observed)) o))
                     | inr o ↦
                         rw (e, g, o)
-                        (bad-observation (holds e) (eqb-false (firstCell t (p .row)) stopCell g) (ltb-false observation (2 ^ (shape .observed)) o))
+                        (bad-observation (there-says .0 e) (eqb-false (firstCell t (p .row)) stopCell g) (ltb-false observation (2 ^ (shape .observed)) o))
                   ]
             ]
       ]
@@ -95,12 +96,12 @@ module _ (t : List ℕ) (shape : Shape) (observation : ℕ) (p : Position) where
   step-answered : (a : Told) (q : Position) → SteppedAs t shape observation p a q
       → (toldAnswer (stepOf t shape observation p .answer) ≡ a) × (stepOf t shape observation p .position ≡ q)
   unfolding stepOf
-  step-answered a q (bad-place n) = rw (not-held n) (refl, refl)
-  step-answered a q (stopped h s) = rw (held h, eq-eqb (firstCell t (p .row)) stopCell s) (refl, refl)
+  step-answered a q (bad-place n) = rw (says-false there-says n) (refl, refl)
+  step-answered a q (stopped h s) = rw (there-says .1 h, eq-eqb (firstCell t (p .row)) stopCell s) (refl, refl)
   step-answered a q (bad-observation h n o) =
-      rw (held h, ne-eqb (firstCell t (p .row)) stopCell n, le-ltb observation (2 ^ (shape .observed)) o) (refl, refl)
+      rw (there-says .1 h, ne-eqb (firstCell t (p .row)) stopCell n, le-ltb observation (2 ^ (shape .observed)) o) (refl, refl)
   step-answered a q (moved h n o) =
-      rw (held h, ne-eqb (firstCell t (p .row)) stopCell n, lt-ltb observation (2 ^ (shape .observed)) o)
+      rw (there-says .1 h, ne-eqb (firstCell t (p .row)) stopCell n, lt-ltb observation (2 ^ (shape .observed)) o)
       (told-of (firstCell t (nextCell t (p .row) observation)), refl)
 
   pub step-iff : (a : Told) (q : Position)
@@ -113,6 +114,12 @@ module _ (t : List ℕ) (shape : Shape) (observation : ℕ) (p : Position) where
 
 -- ---- printing
 
+-- bytes that are an answer's own
+abbrev pub OwnBytes : Told → List ℕ → Type 0
+OwnBytes (values []) bytes = ⊥
+OwnBytes (values (n ∷ l)) bytes = length bytes ≡ n
+OwnBytes (refused number place) bytes = bytes ≡ []
+
 module _ (t : List ℕ) (shape : Shape) (worst : ℕ) where
   print-due : (room : ℕ) → PrintedAs t shape worst room (toldPrinted (printedBy t shape worst room)) (bytesBy t shape worst room)
   unfolding printedBy bytesBy
@@ -121,8 +128,8 @@ module _ (t : List ℕ) (shape : Shape) (worst : ℕ) where
         | inl s ↦ rw s (short-memory (ltb-true room textSize s))
         | inr l ↦
             elim (test (isPrintable t shape worst)) [
-              | inr f ↦ rw (l, f) (bad-table (ltb-false room textSize l) f)
-              | inl e ↦ rw (l, e) (text (ltb-false room textSize l) e)
+              | inr f ↦ rw (l, f) (bad-table (ltb-false room textSize l) (λ p. clash (printable-says t shape worst .1 p) f))
+              | inl e ↦ rw (l, e) (text (ltb-false room textSize l) (printable-says t shape worst .0 e))
             ]
       ]
 
@@ -150,8 +157,8 @@ module _ (t : List ℕ) (shape : Shape) (worst : ℕ) where
       → (toldPrinted (printedBy t shape worst room) ≡ a) × (bytesBy t shape worst room ≡ bytes)
   unfolding printedBy bytesBy
   print-answered room a bytes (short-memory s) = rw (lt-ltb room textSize s) (refl, refl)
-  print-answered room a bytes (bad-table l f) = rw (le-ltb room textSize l, f) (refl, refl)
-  print-answered room a bytes (text l e) = rw (le-ltb room textSize l, e) (refl, refl)
+  print-answered room a bytes (bad-table l n) = rw (le-ltb room textSize l, says-false (printable-says t shape worst) n) (refl, refl)
+  print-answered room a bytes (text l p) = rw (le-ltb room textSize l, printable-says t shape worst .1 p) (refl, refl)
 
   pub print-iff : (room : ℕ) (a : Told) (bytes : List ℕ)
       → ((toldPrinted (printedBy t shape worst room) ≡ a) × (bytesBy t shape worst room ≡ bytes)) ↔ PrintedAs t shape worst room a bytes
@@ -160,3 +167,21 @@ module _ (t : List ℕ) (shape : Shape) (worst : ℕ) where
         (subst (λ b. PrintedAs t shape worst room b (bytesBy t shape worst room)) (e .0) (print-due room)),
     print-answered room a bytes,
   )
+
+  -- a refusal writes nothing, and a text as many bytes as it tells
+  print-counted : (room : ℕ) → OwnBytes (toldPrinted (printedBy t shape worst room)) (bytesBy t shape worst room)
+  print-counted room = counted (toldPrinted (printedBy t shape worst room)) (bytesBy t shape worst room) (print-due room)
+    where
+      counted : (a : Told) (bytes : List ℕ) → PrintedAs t shape worst room a bytes → OwnBytes a bytes
+      counted a bytes (short-memory s) = refl
+      counted a bytes (bad-table l f) = refl
+      counted a bytes (text l e) = refl
+
+  pub text-kept : (x : List ℕ) (number place : ℕ) → toldPrinted (printedBy t shape worst (length x)) ≡ refused number place → textAfter t shape worst x ≡ x
+  text-kept x number place e =
+      ap (λ b. written b x) (subst (λ a. OwnBytes a (bytesBy t shape worst (length x))) e (print-counted (length x)))
+
+  pub text-rest : (x : List ℕ) (n : ℕ) → toldPrinted (printedBy t shape worst (length x)) ≡ values (n ∷ []) → drop n (textAfter t shape worst x) ≡ drop n x
+  text-rest x n e =
+      written-rest (bytesBy t shape worst (length x)) x n
+      (subst (λ a. OwnBytes a (bytesBy t shape worst (length x))) e (print-counted (length x)))

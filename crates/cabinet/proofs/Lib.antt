@@ -3,9 +3,9 @@ pub mod PrintLaws
 pub mod PositionLaws
 pub mod AnswersDue
 pub mod ResponseLaws
--- a table that the solver claims, printed and run
+-- a table that the solver gives, printed and run
 pub mod LaidRows
 pub mod RunningLaws
-pub mod ClaimedTable
+pub mod SolvedTable
 -- the front page
 pub mod Main

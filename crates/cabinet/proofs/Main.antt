@@ -1,10 +1,10 @@
 -- The theorems of this crate. Assumes nothing.
-use Prim.Native.Nat.{ℕ, _*_, _≤_}
+use Prim.Native.Nat.{ℕ, _*_, _≤_, _<_}
 use mathlib.Core.Path.{_≡_}
-use mathlib.Core.Logic.{_↔_}
+use mathlib.Core.Logic.{_↔_, _⊎_}
 use mathlib.Core.List.{List, [], _∷_}
-use lib.ListN.{length, take}
-use Rattle.lines.specs.Refusal.{Told, values}
+use lib.ListN.{length, take, drop, replicate}
+use Rattle.lines.specs.Refusal.{Told, values, refused}
 use Rattle.rules.specs.Denotes.{Denotes}
 use Rattle.rules.specs.Problem.{Problem}
 use Rattle.play.specs.Cells.{rowSize}
@@ -12,31 +12,58 @@ use Rattle.tables.specs.declared.shape.Shape.{Shape}
 use Rattle.play.specs.Game.{Play}
 use Rattle.play.specs.Table.{tableStrategy}
 use Rattle.game.specs.Solution.{gameOf}
-use Rattle.game.specs.Claim.{SolvedAs}
+use Rattle.game.specs.SolvedAs.{tableAfter, Short, SolvedAs}
 use Rattle.cabinet.specs.declared.position.Position.{Position}
 use Rattle.cabinet.specs.declared.printing.Printed.the-variants.{Text}
 use Rattle.printer.specs.Limits.{textSize}
 use Rattle.printer.specs.Text.{tableText}
 use Rattle.cabinet.specs.Position.{startOf, stepOf, toldAnswer, StartedAs, SteppedAs}
-use Rattle.cabinet.specs.Print.{printedBy, bytesBy, toldPrinted, PrintedAs}
-use Rattle.cabinet.specs.Response.{respondedBy, bytesFor, RespondedAs}
+use Rattle.cabinet.specs.Print.{printedBy, bytesBy, textAfter, toldPrinted, PrintedAs}
+use Rattle.cabinet.specs.Response.{respondedBy, bytesFor, responseAfter, respondedTable, respondedWork, RespondedAs}
 use Rattle.cabinet.specs.Running.{answerTo, Runs}
 use Rattle.cabinet.proofs.ResponseLaws
 use Rattle.cabinet.proofs.AnswersDue
-use Rattle.cabinet.proofs.ClaimedTable
+use Rattle.cabinet.proofs.SolvedTable
 
--- ---- DEMAND 1 at the desk: for all lent memory the answers, in document 01's terms, and what is left are exactly those that are due, by the
--- cases of `RespondedAs`, `PrintedAs`, `StartedAs` and `SteppedAs`
+-- ---- DEMAND 1 at the desk: for all lent memory the answers, in document 01's terms, and what is written to the text or the position are
+-- exactly those that are due, by the cases of `RespondedAs`, `PrintedAs`, `StartedAs` and `SteppedAs`
 
 -- the whole desk, from a problem's bytes to the bytes that are written: 12, or the text of the answer that is due to the problem
 pub responding : (work table text : ℕ) (source : List ℕ) (a : Told) (bytes : List ℕ)
     → ((toldPrinted (respondedBy work table text source) ≡ a) × (bytesFor work table text source ≡ bytes)) ↔ RespondedAs work table text source a bytes
 responding = ResponseLaws.respond-iff
 
+-- a refusal leaves the text as it was, and an answer all behind it
+pub text-kept : (work table : ℕ) (source x : List ℕ) (number place : ℕ)
+    → toldPrinted (respondedBy work table (length x) source) ≡ refused number place → responseAfter work table source x ≡ x
+text-kept = ResponseLaws.text-kept
+
+pub text-rest : (work table : ℕ) (source x : List ℕ) (n : ℕ)
+    → toldPrinted (respondedBy work table (length x) source) ≡ values (n ∷ []) → drop n (responseAfter work table source x) ≡ drop n x
+text-rest = ResponseLaws.text-rest
+
+-- where any memory is too short, the table and the work memory are as they were; otherwise the table is as `solve` leaves it, and the work
+-- memory all zero
+pub memory-kept : (text : ℕ) (source t w : List ℕ) → Short (length w) (length t) ⊎ (text < textSize)
+    → (respondedTable (length w) text source t ≡ t) × (respondedWork (length t) text w ≡ w)
+memory-kept = ResponseLaws.memory-kept
+
+pub memory-left : (text : ℕ) (source t w : List ℕ) → (¬ (Short (length w) (length t) ⊎ (text < textSize)))
+    → (respondedTable (length w) text source t ≡ tableAfter (length w) source t) × (respondedWork (length t) text w ≡ replicate (length w) 0)
+memory-left = ResponseLaws.memory-left
+
 -- printing: 12, 13, or the table's text
 pub printing : (t : List ℕ) (shape : Shape) (worst room : ℕ) (a : Told) (bytes : List ℕ)
     → ((toldPrinted (printedBy t shape worst room) ≡ a) × (bytesBy t shape worst room ≡ bytes)) ↔ PrintedAs t shape worst room a bytes
 printing = AnswersDue.print-iff
+
+pub print-kept : (t : List ℕ) (shape : Shape) (worst : ℕ) (x : List ℕ) (number place : ℕ)
+    → toldPrinted (printedBy t shape worst (length x)) ≡ refused number place → textAfter t shape worst x ≡ x
+print-kept = AnswersDue.text-kept
+
+pub print-rest : (t : List ℕ) (shape : Shape) (worst : ℕ) (x : List ℕ) (n : ℕ)
+    → toldPrinted (printedBy t shape worst (length x)) ≡ values (n ∷ []) → drop n (textAfter t shape worst x) ≡ drop n x
+print-rest = AnswersDue.text-rest
 
 -- the start: 13, or row 0 and its choice
 pub starting : (t : List ℕ) (shape : Shape) (old : Position) (a : Told) (p : Position)
@@ -56,11 +83,12 @@ module _ (work room : ℕ) (source : List ℕ) (shape : Shape) (r : ℕ) (table 
     (due : SolvedAs work room source (values (shape .rows ∷ shape .observed ∷ r ∷ [])) (take (shape .rows * rowSize) table)) (p : Problem)
     (denotes : Denotes source p) where
   -- the running cabinet: started at any old position and stepped with the observations of any play, it makes the
-  -- strategy's choices, is refused nothing, and stops within the worst case with the formula true of the trace
+  -- strategy's choices, is refused nothing, and stops within the worst case with a trace that satisfies the problem
   pub running : (old : Position) (play : Play (gameOf p))
       → Runs (gameOf p) (tableStrategy (take (shape .rows * rowSize) table)) r (answerTo table shape old) play
-  running = ClaimedTable.running work room source shape r table due p denotes
+  running = SolvedTable.running work room source shape r table due p denotes
 
   -- printing it into enough room is never refused
-  pub printed : (room : ℕ) → textSize ≤ room → printedBy table shape r room ≡ Text (length (tableText table shape r))
-  printed = ClaimedTable.printing work room source shape r table due p denotes
+  pub printed : (text : ℕ) → textSize ≤ text
+      → (printedBy table shape r text ≡ Text (length (tableText table shape r))) × (bytesBy table shape r text ≡ tableText table shape r)
+  printed = SolvedTable.printed work room source shape r table due p denotes

@@ -51,7 +51,7 @@ module _ (t : List ℕ) (shape : Shape) (worst : ℕ) (text : List ℕ) where
       -- what the writing of the table asks
       pub print-asks : (shape .observed ≤ kindLimit) × ((shape .rows * rowSize ≤ length t) × (length (tableText t shape worst) ≤ length text))
       print-asks =
-          let s = printable-says t shape worst passes .sized in
+          let s = printable-says t shape worst .0 passes .sized in
           (s .seen, (s .room, le-trans (text-fits t shape worst passes) h))
 
       pub print-done : (n : ℕ) (after : List ℕ) → n ≡ length (tableText t shape worst) → after ≡ written (tableText t shape worst) text

@@ -7,9 +7,9 @@ use mathlib.Core.Logic.{_↔_, _⊎_, inl, inr}
 use mathlib.Core.Bool.{true, false}
 use mathlib.Core.List.{List, [], _∷_}
 use lib.Dec.{ltb}
-use lib.ListN.{length, take, drop, length-take, length-append}
+use lib.ListN.{length, take, drop, length-take, length-append, replicate}
 use lib.Seq.{take-take, take-at}
-use borrow.Author.Tests.{ltb-true, ltb-false, lt-ltb}
+use borrow.Author.Tests.{ltb-false, lt-ltb}
 use Rattle.lines.specs.declared.refusal.Refusal.{Refusal}
 use Rattle.lines.specs.declared.refusal.Refusal.the-variants.{ShortMemory}
 use Rattle.lines.specs.Refusal.{Told, values, refused}
@@ -23,10 +23,12 @@ use Rattle.play.specs.Cells.{rowSize, tableSize}
 use Rattle.rules.specs.Limits.{workSize}
 use Rattle.tables.specs.declared.shape.Shape.{Shape}
 use Rattle.basics.specs.Lists.{written}
+use Rattle.basics.proofs.ListsLaws.{written-rest}
 use Rattle.basics.specs.Says.{Says}
-use Rattle.basics.proofs.SaysLaws.{says-or}
-use Rattle.game.specs.Claim.{isShort, solvedFrom, solvedBy, toldSolved, cellsFrom, cellsBy, tableAfter, workAfter, usedRows, Controller, Short, SolvedAs}
-use Rattle.game.proofs.ClaimLaws.{short-says, not-short, due-read, answered-iff, Counted, due-counted, same-solved}
+use Rattle.basics.proofs.SaysLaws.{says-or, says-false, lt-says}
+use Rattle.game.specs.SolvedAs.{isShort, solvedFrom, solvedBy, toldSolved, cellsFrom, cellsBy, tableAfter, workAfter, usedRows, Controller, Short, SolvedAs}
+use Rattle.game.proofs.SolvedAsLaws.{short-says, not-short, due-read, answered-iff, RowCells, due-cells, same-solved}
+use Rattle.game.proofs.LentMemory.{work-kept, work-cleared}
 use Rattle.game.proofs.SolvedAsCases.{due-table}
 use Rattle.cabinet.specs.declared.printing.Printed.{Printed}
 use Rattle.cabinet.specs.declared.printing.Printed.the-variants.{Text, Refused}
@@ -35,7 +37,8 @@ use Rattle.printer.specs.WellFormed.{isPrintable}
 use Rattle.printer.specs.Text.{tableText, refusalText}
 use Rattle.cabinet.specs.Print.{printedBy, bytesBy, textAfter, toldPrinted, usedText}
 use Rattle.cabinet.specs.Response.{solvedText, response, isTight, respondedBy, bytesFor, responseAfter, respondedTable, respondedWork, RespondedAs, short-memory, answered}
-use Rattle.cabinet.proofs.ClaimedTable.{passes}
+use Rattle.cabinet.proofs.AnswersDue.{OwnBytes}
+use Rattle.cabinet.proofs.SolvedTable.{passes}
 
 -- the whole call: its answer, and what it leaves in text, table and work memory
 abbrev Responded : (source work table text : List ℕ) → Printed → (text′ table′ work′ : List ℕ) → Type 0
@@ -45,7 +48,7 @@ Responded source work table text r text′ table′ work′ =
     × RespondedAs (length work) (length table) (length text) source (toldPrinted r) (usedText r text′)
 
 tight-says : (work table text : ℕ) → Says (isTight work table text) (Short work table ⊎ (text < textSize))
-tight-says work table text = says-or (short-says work table) (ltb-true text textSize, lt-ltb text textSize)
+tight-says work table text = says-or (short-says work table) (lt-says text textSize)
 
 -- memory that is too short
 pub tight-right : (source work table text : List ℕ) → isTight (length work) (length table) (length text) ≡ true
@@ -77,8 +80,8 @@ module _ (source : List ℕ) where
 cells-count : (source : List ℕ) (shape : Shape) (r : ℕ) → solvedFrom (readProblem source) ≡ solved.Table shape r
     → length (cellsFrom (readProblem source)) ≡ shape .rows * rowSize
 cells-count source shape r e =
-    subst (λ z. Counted (toldSolved z) (cellsFrom (readProblem source))) e
-    (due-counted workSize tableSize source _ _ (due-read source workSize tableSize (not-short workSize tableSize refl)))
+    subst (λ z. RowCells (toldSolved z) (cellsFrom (readProblem source))) e
+    (due-cells workSize tableSize source _ _ (due-read source workSize tableSize (not-short workSize tableSize refl)))
 
 -- memory that is long enough
 pub text-long : (work table text : ℕ) → isTight work table text ≡ false → textSize ≤ text
@@ -215,8 +218,7 @@ module _ (work table text : ℕ) (source : List ℕ) where
   unfolding respondedBy bytesFor
   respond-answered a bytes (short-memory t) = rw (tight-says work table text .1 t) (refl, refl)
   respond-answered a bytes (answered n s cells d) =
-      let loose : isTight work table text ≡ false =
-      elim (test (isTight work table text)) [ inl t ↦ absurd (n (tight-says work table text .0 t)) | inr f ↦ f ] in
+      let loose : isTight work table text ≡ false = says-false (tight-says work table text) n in
       let is : response source ≡ solvedText cells s = response-is s cells d (or-left (isShort work table) (ltb text textSize) loose) in
       rw (loose, is) (refl, refl)
 
@@ -227,3 +229,45 @@ module _ (work table text : ℕ) (source : List ℕ) where
         (subst (λ b. RespondedAs work table text source b (bytesFor work table text source)) (e .0) respond-due),
     respond-answered a bytes,
   )
+
+  -- a refusal writes nothing, and a text as many bytes as it tells
+  respond-counted : OwnBytes (toldPrinted (respondedBy work table text source)) (bytesFor work table text source)
+  respond-counted = counted (toldPrinted (respondedBy work table text source)) (bytesFor work table text source) respond-due
+    where
+      counted : (a : Told) (bytes : List ℕ) → RespondedAs work table text source a bytes → OwnBytes a bytes
+      counted a bytes (short-memory t) = refl
+      counted a bytes (answered n s cells d) = refl
+
+-- ---- what is left in lent memory
+
+module _ (work table : ℕ) (source x : List ℕ) where
+  pub text-kept : (number place : ℕ) → toldPrinted (respondedBy work table (length x) source) ≡ refused number place → responseAfter work table source x ≡ x
+  unfolding responseAfter
+  text-kept number place e =
+      ap (λ b. written b x) (subst (λ a. OwnBytes a (bytesFor work table (length x) source)) e (respond-counted work table (length x) source))
+
+  pub text-rest : (n : ℕ) → toldPrinted (respondedBy work table (length x) source) ≡ values (n ∷ []) → drop n (responseAfter work table source x) ≡ drop n x
+  unfolding responseAfter
+  text-rest n e =
+      written-rest (bytesFor work table (length x) source) x n
+      (subst (λ a. OwnBytes a (bytesFor work table (length x) source)) e (respond-counted work table (length x) source))
+
+module _ (text : ℕ) (source t w : List ℕ) where
+  -- where any memory is too short, table and work memory are as they were
+  pub memory-kept : Short (length w) (length t) ⊎ (text < textSize)
+      → (respondedTable (length w) text source t ≡ t) × (respondedWork (length t) text w ≡ w)
+  unfolding respondedTable respondedWork cellsBy
+  memory-kept (inr h) = rw (lt-ltb text textSize h) (refl, refl)
+  memory-kept (inl s) =
+      elim (test (ltb text textSize)) [
+        | inl h ↦ rw h (refl, refl)
+        | inr h ↦ rw (h, short-says (length w) (length t) .1 s) (refl, work-kept (length t) w s)
+      ]
+
+  -- otherwise the table is as `solve` leaves it, and the work memory all zero
+  pub memory-left : (¬ (Short (length w) (length t) ⊎ (text < textSize)))
+      → (respondedTable (length w) text source t ≡ tableAfter (length w) source t) × (respondedWork (length t) text w ≡ replicate (length w) 0)
+  unfolding respondedTable respondedWork
+  memory-left n =
+      let long : ltb text textSize ≡ false = says-false (lt-says text textSize) (λ h. n (inr h)) in
+      rw long (refl, work-cleared (length t) w (λ s. n (inl s)))

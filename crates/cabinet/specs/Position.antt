@@ -2,7 +2,7 @@
 -- Assumes nothing.
 use Prim.Native.Nat.{ℕ, _^_, _≤_, _<_}
 use mathlib.Core.Path.{_≡_}
-use mathlib.Core.Bool.{Bool, true, false, cond, _&&_}
+use mathlib.Core.Bool.{Bool, cond, _&&_}
 use mathlib.Core.List.{List, [], _∷_}
 use lib.Dec.{eqb, ltb}
 use lib.ListN.{length}
@@ -15,7 +15,7 @@ use Rattle.cabinet.specs.declared.position.Position.{Position}
 use Rattle.cabinet.specs.declared.position.Answer.{Answer}
 use Rattle.cabinet.specs.declared.position.Answer.the-variants.{Choice, Stop, Refused}
 use Rattle.cabinet.specs.declared.position.Moved.{Moved}
-use Rattle.printer.specs.WellFormed.{isSized, isRow}
+use Rattle.printer.specs.WellFormed.{Sized, GoodRow, isSized, isRow}
 
 -- the answer for document 01's number of it: 65535 is stop, another number a choice
 abbrev pub answerOf : ℕ → Answer
@@ -32,7 +32,7 @@ moveTo t row = record { position = positionAt t row; answer = answerOf (firstCel
 abbrev pub refusedAt : Position → Refusal → Moved
 refusedAt p r = record { position = p; answer = Refused r }
 
--- number 13 is not met where the cabinet stands: in the table's sizes, in the row, and in the next rows that it may lead to
+-- the tests of number 13 where the cabinet stands
 abbrev pub isStanding : List ℕ → Shape → ℕ → Bool
 isStanding t shape row = isSized (length t) shape && ltb row (shape .rows) && isRow t shape row
 
@@ -56,13 +56,19 @@ toldAnswer (Choice c) = values (c ∷ [])
 toldAnswer Stop = values (stopCell ∷ [])
 toldAnswer (Refused r) = toldRefusal r
 
+-- number 13 is not met where the cabinet stands: in the table's sizes, in the row, and in the next rows that it may lead to
+pub record Standing (t : List ℕ) (shape : Shape) (row : ℕ) : Type 0 where
+  pub sized : Sized (length t) shape
+  pub inside : row < shape .rows
+  pub good : GoodRow t shape row
+
 pub data StartedAs (t : List ℕ) (shape : Shape) (p : Position) : Told → Position → Type 0 where
-  bad-start : isStanding t shape 0 ≡ false → StartedAs t shape p (refused 13 0) p
-  started : isStanding t shape 0 ≡ true → StartedAs t shape p (values (firstCell t 0 ∷ [])) (positionAt t 0)
+  bad-start : (¬ Standing t shape 0) → StartedAs t shape p (refused 13 0) p
+  started : Standing t shape 0 → StartedAs t shape p (values (firstCell t 0 ∷ [])) (positionAt t 0)
 
 -- the position stands on its row: number 13 is not met there, and the standing choice is the row's
 abbrev pub Holds : List ℕ → Shape → Position → Type 0
-Holds t shape p = (isStanding t shape (p .row) ≡ true) × (firstCell t (p .row) ≡ p .choice)
+Holds t shape p = Standing t shape (p .row) × (firstCell t (p .row) ≡ p .choice)
 
 pub data SteppedAs (t : List ℕ) (shape : Shape) (observation : ℕ) (p : Position) : Told → Position → Type 0 where
   bad-place : (¬ Holds t shape p) → SteppedAs t shape observation p (refused 13 0) p

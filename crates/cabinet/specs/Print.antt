@@ -1,8 +1,7 @@
 -- What the printing call answers, what it leaves in the lent text, and what is due.
 -- Assumes nothing.
 use Prim.Native.Nat.{ℕ, _≤_, _<_}
-use mathlib.Core.Path.{_≡_}
-use mathlib.Core.Bool.{true, false, cond}
+use mathlib.Core.Bool.{cond}
 use mathlib.Core.List.{List, [], _∷_}
 use lib.Dec.{ltb}
 use lib.ListN.{length, take}
@@ -13,7 +12,7 @@ use Rattle.tables.specs.declared.shape.Shape.{Shape}
 use Rattle.cabinet.specs.declared.printing.Printed.{Printed}
 use Rattle.cabinet.specs.declared.printing.Printed.the-variants.{Text, Refused}
 use Rattle.printer.specs.Limits.{textSize}
-use Rattle.printer.specs.WellFormed.{isPrintable}
+use Rattle.printer.specs.WellFormed.{Printable, isPrintable}
 use Rattle.printer.specs.Text.{tableText}
 
 -- the text's length; 12 is tested before 13
@@ -44,6 +43,6 @@ usedText (Refused r) text = []
 -- for a table to be printed into so much room: the answer, and the bytes that are written
 pub data PrintedAs (t : List ℕ) (shape : Shape) (worst room : ℕ) : Told → List ℕ → Type 0 where
   short-memory : room < textSize → PrintedAs t shape worst room (refused 12 0) []
-  bad-table : textSize ≤ room → isPrintable t shape worst ≡ false → PrintedAs t shape worst room (refused 13 0) []
-  text : textSize ≤ room → isPrintable t shape worst ≡ true
+  bad-table : textSize ≤ room → (¬ Printable t shape worst) → PrintedAs t shape worst room (refused 13 0) []
+  text : textSize ≤ room → Printable t shape worst
       → PrintedAs t shape worst room (values (length (tableText t shape worst) ∷ [])) (tableText t shape worst)

@@ -12,7 +12,7 @@ use Rattle.rules.specs.Problem.{readProblem}
 use Rattle.game.specs.declared.solving.Solved.{Solved}
 use Rattle.game.specs.declared.solving.Solved.the-variants as solved
 use Rattle.basics.specs.Lists.{written}
-use Rattle.game.specs.Claim.{isShort, solvedFrom, toldSolved, cellsFrom, tableAfter, workAfter, Short, SolvedAs}
+use Rattle.game.specs.SolvedAs.{isShort, solvedFrom, toldSolved, cellsFrom, tableAfter, workAfter, Short, SolvedAs}
 use Rattle.cabinet.specs.declared.printing.Printed.{Printed}
 use Rattle.cabinet.specs.declared.printing.Printed.the-variants.{Text, Refused}
 use Rattle.printer.specs.Limits.{textSize}

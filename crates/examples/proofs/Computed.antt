@@ -22,11 +22,11 @@ use Rattle.rules.specs.Trace.{badStep, verdictOn}
 use Rattle.rules.specs.Judge.{judged}
 use Rattle.obligations.specs.Obligation.{operatorsOf, numberOf, spotsTo, spots, valueAt, owedAt, back}
 use Rattle.obligations.specs.Letters.{lettersOf}
-use Rattle.search.specs.PatternSet.{member, setOf, start, accepts, next}
+use Rattle.search.specs.PatternSet.{member, setOf, start, accepts, next, after}
 use Rattle.search.specs.ReachableSets.{sameSet, nextSets, reachableSets}
-use Rattle.states.specs.States.{nextState, statesOf}
+use Rattle.states.specs.States.{startState, nextState, stateAfter, statesOf}
 use Rattle.play.specs.Cells.{stopRow, choiceRow}
-use Rattle.game.specs.Claim.{solvedBy, cellsBy}
+use Rattle.game.specs.SolvedAs.{solvedBy, cellsBy}
 use Rattle.cabinet.specs.Response.{response}
 use Rattle.examples.specs.Examples.{answer, expected, examples}
 
@@ -35,6 +35,6 @@ unfolding fromBits firstThat lower wordByte run past sameBytes isIn indexIn addN
     wordKind tokenFrom tokenAt more tokensF tokens isOp leftward isPre isLeaf bind on close parseF parse parseFormula indexOf leafValue
     size operators isLetter opOf temporals partsFrom partsOf partAt bottomUp resultAt holds valueWith
     lines tabPlace wordOf isName isText formulaOf allDeclared declareEffect stateEffect effectOf readLines readProblem badStep verdictOn judged
-    operatorsOf numberOf spotsTo spots valueAt owedAt back lettersOf member setOf start accepts next sameSet nextSets reachableSets
-    nextState statesOf stopRow choiceRow solvedBy cellsBy response
+    operatorsOf numberOf spotsTo spots valueAt owedAt back lettersOf member setOf start accepts next after sameSet nextSets reachableSets
+    startState nextState stateAfter statesOf stopRow choiceRow solvedBy cellsBy response
 computed = refl

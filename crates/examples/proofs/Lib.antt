@@ -1,4 +1,4 @@
 -- The worked examples, by computation.
 pub mod Computed
-pub mod Accepted
+pub mod SmallStateSpaces
 pub mod Main

@@ -1,26 +1,22 @@
--- The worked examples A to K of document 01. Assumes nothing.
+-- The worked examples A to K of document 01, and counts of states. Assumes nothing.
 use mathlib.Core.Path.{_≡_}
 use mathlib.Core.List.{[], _∷_, map}
 use Rattle.formula.specs.Formula.{signal, True, False, X, F, U}
 use Rattle.formula.specs.Parts.{partsOf}
 use Rattle.obligations.specs.Letters.{lettersOf}
-use Rattle.search.specs.PatternSet.{accepts}
-use Rattle.states.specs.States.{stateAfter, statesOf}
+use Rattle.search.specs.Limits.{stateLimit}
+use Rattle.states.specs.States.{statesOf}
 use Rattle.examples.specs.Examples.{answer, expected, examples}
-use Rattle.examples.specs.StateExamples.{cases, count}
+use Rattle.examples.specs.StateCount.{count}
 use Rattle.examples.proofs.Computed.{computed}
-use Rattle.examples.proofs.Accepted
+use Rattle.examples.proofs.SmallStateSpaces
 
 -- A to K, each from a problem's bytes to what is answered: one table
 pub examples-right : map answer examples ≡ map expected examples
 examples-right = computed
 
--- I, J and K by the states
-pub accepted : map (λ c. accepts (stateAfter (partsOf (c .formula)) (c .trace))) cases ≡ map (λ c. c .verdict) cases
-accepted = Accepted.accepted-right
-
 -- how many states some small formulas have, over two output signals
-pub small-state-spaces : map (λ φ. count (statesOf (partsOf φ) (lettersOf (record { outputs = 2; observed = 0; hidden = 0 })) 128))
+pub small-state-spaces : map (λ φ. count (statesOf (partsOf φ) (lettersOf (record { outputs = 2; observed = 0; hidden = 0 })) stateLimit))
     (True ∷ False ∷ X True ∷ F (signal 0) ∷ U (signal 0) (signal 1) ∷ [])
     ≡ 2 ∷ 2 ∷ 3 ∷ 3 ∷ 4 ∷ []
-small-state-spaces = Accepted.small-state-spaces
+small-state-spaces = SmallStateSpaces.small-state-spaces

@@ -3,16 +3,21 @@
 use Prim.Native.Nat.{ℕ}
 use Prim.Native.String.{String}
 use mathlib.Core.List.{List, [], _∷_, _++_}
+use Rattle.basics.specs.Bits.{digit}
 use Rattle.basics.specs.Bytes.{bytesOf}
 use Rattle.basics.specs.Lists.{padded}
 use Rattle.lines.specs.Refusal.{Told, values, refused, toldRefusal}
 use Rattle.formula.specs.Semantics.{Trace}
 use Rattle.rules.specs.Limits.{workSize}
+use Rattle.rules.specs.Problem.{Outcome, accepted, problemParts, readProblem}
+use Rattle.rules.specs.Problem as reading
 use Rattle.rules.specs.Judge.{judged, toldVerdict}
+use Rattle.search.specs.PatternSet.{accepts}
+use Rattle.states.specs.States.{stateAfter}
 use Rattle.play.specs.Cells.{rowSize, stopCell, tableSize}
 use Rattle.game.specs.declared.solving.Solved.{Solved}
 use Rattle.game.specs.declared.solving.Solved.the-variants as solved
-use Rattle.game.specs.Claim.{solvedBy, toldSolved, cellsBy}
+use Rattle.game.specs.SolvedAs.{solvedBy, toldSolved, cellsBy}
 use Rattle.cabinet.specs.Response.{response}
 
 -- where document 01 gives no row count: the worst case alone
@@ -21,10 +26,15 @@ toldWorst (solved.Table shape worst) = values (worst ∷ [])
 toldWorst (solved.Refused r) = toldRefusal r
 
 -- what is asked of a problem: its table's row count, observed signals and worst case; the worst case alone; the table's cells; the bytes
--- that are written for it; or the verdict on a trace
+-- that are written for it; the verdict on a trace; or whether its states accept the trace
 pub data Asked : Type 0 where
   table worst cells text : Asked
-  judge : Trace → Asked
+  judge accept : Trace → Asked
+
+-- 1 where the states of the problem accept the trace, and 0 where they do not
+abbrev pub toldAccepted : Outcome → Trace → Told
+toldAccepted (accepted p) π = values (digit (accepts (stateAfter (problemParts p) π)) ∷ [])
+toldAccepted (reading.refused r) π = toldRefusal r
 
 -- what is told for a source, by the definitions that the calls are proved to compute, with as much memory as they ask for
 abbrev pub toldFor : List ℕ → Asked → Told
@@ -33,6 +43,7 @@ toldFor source worst = toldWorst (solvedBy workSize tableSize source)
 toldFor source cells = values (cellsBy workSize tableSize source)
 toldFor source text = values (response source)
 toldFor source (judge π) = toldVerdict (judged workSize source π)
+toldFor source (accept π) = toldAccepted (readProblem source) π
 
 -- document 01's letter, the problem, what is asked of it, and what is to be told
 pub data Example : Type 0 where
@@ -59,8 +70,13 @@ examples =
     ∷ example "G" "rule\tfalse\n" table (refused 11 0)
     ∷ example "H" "rule\tX true\n" worst (values (2 ∷ []))
     ∷ example "I" "rule\tX true\n" (judge (0 ∷ [])) (values (0 ∷ []))
+    ∷ example "I" "rule\tX true\n" (accept (0 ∷ [])) (values (0 ∷ []))
     ∷ example "I" "rule\tN false\n" (judge (0 ∷ [])) (values (1 ∷ []))
+    ∷ example "I" "rule\tN false\n" (accept (0 ∷ [])) (values (1 ∷ []))
     ∷ example "J" "out\ta\nout\tb\nrule\ta U b\n" (judge (1 ∷ 2 ∷ [])) (values (1 ∷ []))
+    ∷ example "J" "out\ta\nout\tb\nrule\ta U b\n" (accept (1 ∷ 2 ∷ [])) (values (1 ∷ []))
     ∷ example "J" "out\ta\nout\tb\nrule\ta U b\n" (judge (1 ∷ [])) (values (0 ∷ []))
+    ∷ example "J" "out\ta\nout\tb\nrule\ta U b\n" (accept (1 ∷ [])) (values (0 ∷ []))
     ∷ example "K" "out\ta\nout\tb\nrule\ta R b\n" (judge (2 ∷ [])) (values (1 ∷ []))
+    ∷ example "K" "out\ta\nout\tb\nrule\ta R b\n" (accept (2 ∷ [])) (values (1 ∷ []))
     ∷ []

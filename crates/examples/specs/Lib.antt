@@ -1,3 +1,3 @@
--- The worked examples of document 01: problems and traces, and states.
+-- The worked examples of document 01, and counts of states.
 pub mod Examples
-pub mod StateExamples
+pub mod StateCount

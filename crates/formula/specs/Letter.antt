@@ -31,7 +31,7 @@ kindSize = 2 ^ kindLimit
 abbrev pub letterFrom : ℕ → ℕ → ℕ → ℕ
 letterFrom o s h = o + s * kindSize + h * (kindSize * kindSize)
 
--- the same, tested kind by kind (`proofs/LetterLaws.antt`)
+-- `IsLetter`, tested kind by kind (`proofs/LetterLaws.antt`)
 unfoldable pub isLetter : Counts → ℕ → Bool
 isLetter c a =
     ltb (a % kindSize) (2 ^ c .outputs) && (ltb (a / kindSize % kindSize) (2 ^ c .observed) && ltb (a / (kindSize * kindSize)) (2 ^ c .hidden))

@@ -25,9 +25,10 @@ use Rattle.play.specs.Answer.{moves}
 use Rattle.play.proofs.Plans.{rest}
 use Rattle.play.proofs.BeliefsKnow.{stop-has}
 use Rattle.play.proofs.Believed.{believed}
+use Rattle.play.proofs.HistoryLaws.{Tells}
 use Rattle.play.proofs.BeliefsByHistories.{at-least-iff}
 use Rattle.game.specs.Solution.{gameOf, automatonOf, problemStates, beliefsOf}
-use Rattle.game.specs.Believed.{Believed, SameBelief, FinalBelief, Counts, ManyStates}
+use Rattle.game.specs.Believed.{Believed, SameBelief, FinalBelief, Counted, ManyStates}
 use Rattle.game.proofs.StatesJudge.{state-at, states-judge, some-hidden}
 
 module _ (p : Problem) where
@@ -116,14 +117,14 @@ module _ (p : Problem) where
           subst (Believed p k) is (number-iff k kp t b .0 (subst (λ (c : Belief). has c t ≡ true) e y))
 
     -- two histories lead to the same belief exactly if they lead to the same set of numbers
-    pub same-iff : (h k : History) → Possible (G .choices) (G .observations) h → Possible (G .choices) (G .observations) k → SameBelief p h k ↔ (K h ≡ K k)
+    same-iff : (h k : History) → Possible (G .choices) (G .observations) h → Possible (G .choices) (G .observations) k → SameBelief p h k ↔ (K h ≡ K k)
     same-iff h k hp kp = (
       λ e. ext-getD false (K h) (K k) (belief-length h ∙ sym (belief-length k))
           (λ t b. same-entry h k hp kp e t (subst (λ n. t < n) (belief-length h) b)),
       λ e s. (believed-too h k hp kp e s, believed-too k h kp hp (sym e) s),
     )
 
-    pub final-iff : (h : History) → Possible (G .choices) (G .observations) h → FinalBelief p h ↔ (finalBelief M (K h) ≡ true)
+    final-iff : (h : History) → Possible (G .choices) (G .observations) h → FinalBelief p h ↔ (finalBelief M (K h) ≡ true)
     final-iff h v = (
       λ f. stop-has G M (K h) .1 (λ t b y. f (at t) (number-iff h v t b .0 y)),
       λ e s w.
@@ -131,6 +132,9 @@ module _ (p : Problem) where
           subst (λ (u : PatternSet). accepts u ≡ true) is (stop-has G M (K h) .0 e t b y),
     )
 
+    pub beliefs-tell : Tells A (G .choices) (G .observations) (SameBelief p) (FinalBelief p)
+    beliefs-tell = record { sames = same-iff; finals = final-iff }
+
     -- as many beliefs can be reached as histories lead to
-    pub beliefs-iff : (n : ℕ) → AtLeast (moves A sameSet (G .choices) (G .observations)) (A .start) n ↔ AtLeastBeliefs (Counts p) (SameBelief p) n
-    beliefs-iff = at-least-iff A sameSet (G .choices) (G .observations) (Counts p) (SameBelief p) (λ h. (λ c. c, λ c. c)) same-iff
+    pub beliefs-iff : (n : ℕ) → AtLeast (moves A sameSet (G .choices) (G .observations)) (A .start) n ↔ AtLeastBeliefs (Counted p) (SameBelief p) n
+    beliefs-iff = at-least-iff A sameSet (G .choices) (G .observations) (Counted p) (SameBelief p) (λ h. (λ c. c, λ c. c)) same-iff

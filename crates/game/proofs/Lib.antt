@@ -4,9 +4,10 @@ pub mod SameBeliefs
 pub mod StatesJudge
 pub mod BelievedLaws
 pub mod ExploredAutomaton
--- what is claimed
+-- what is due
 pub mod SolutionCases
-pub mod ClaimLaws
+pub mod SolvedAsLaws
 pub mod SolvedAsCases
+pub mod LentMemory
 -- the front page
 pub mod Main

@@ -1,10 +1,10 @@
 -- The theorems of this crate. Assumes nothing.
-use Prim.Native.Nat.{ℕ, _≤_, _<_}
+use Prim.Native.Nat.{ℕ, _*_, _≤_, _<_}
 use mathlib.Core.Path.{_≡_}
 use mathlib.Core.Logic.{_↔_, _⊎_}
-use mathlib.Core.Bool.{Bool, true, false}
+use mathlib.Core.Bool.{Bool}
 use mathlib.Core.List.{List, [], _∷_}
-use lib.ListN.{length}
+use lib.ListN.{length, drop, replicate}
 use Rattle.basics.specs.Says.{Says}
 use Rattle.basics.specs.Reach.{closed}
 use Rattle.lines.specs.Refusal.{Told, values, refused}
@@ -15,66 +15,78 @@ use Rattle.rules.specs.Denotes.{Denotes}
 use Rattle.rules.specs.Refuses.{Refuses}
 use Rattle.search.specs.PatternSet.{PatternSet}
 use Rattle.play.specs.Limits.{sideLimit}
-use Rattle.play.specs.Cells.{stopCell, tableSize}
+use Rattle.play.specs.Cells.{rowSize, stopCell, tableSize}
 use Rattle.play.specs.Game.{Game, set, Play, Strategy, IsStrategy, Steps, run, Wins}
-use Rattle.play.specs.Rank.{Arena, RankOf, LeadsBelow, HasChoice, bestChoice}
-use Rattle.play.specs.History.{Knows}
+use Rattle.play.specs.Rank.{Arena}
+use Rattle.play.specs.History.{History, Knows}
+use Rattle.play.specs.IsTable.{RankIs, HasChoice}
 use Rattle.play.specs.Table.{tableStrategy}
 use Rattle.play.specs.Answer.{positions, verdictOf, Right}
 use Rattle.game.specs.Solution.{gameOf, problemStates, beliefsOf}
 use Rattle.game.specs.Believed.{ManyStates, ManyBeliefs}
-use Rattle.game.specs.Claim.{solvedBy, toldSolved, cellsBy, Controller, SolvedAs}
-use Rattle.play.proofs.LeastRanks
+use Rattle.game.specs.SolvedAs.{toldBy, cellsBy, tableAfter, workAfter, Controller, Short, SolvedAs}
+use Rattle.play.proofs.IsTableLaws
 use Rattle.play.proofs.AnswerLaws
 use Rattle.game.proofs.StatesJudge
-use Rattle.game.proofs.ClaimLaws
+use Rattle.game.proofs.SolvedAsLaws
 use Rattle.game.proofs.SolvedAsCases
+use Rattle.game.proofs.LentMemory
 
--- ---- DEMAND 3, for every text and all lent memory: `answer` is what `solve` answers, in document 01's terms, and `cells` what it writes to
+-- ---- DEMAND 3, for every text and all lent memory: `toldBy` is what `solve` answers, in document 01's terms, and `cellsBy` what it writes to
 -- the table
 
 module _ (source : List ℕ) (work table : ℕ) where
-  abbrev answer : Told
-  answer = toldSolved (solvedBy work table source)
-
-  abbrev cells : List ℕ
-  cells = cellsBy work table source
-
   -- whole: they are these exactly where these are due. The cases of `SolvedAs` follow one by one
-  pub demand-3 : (a : Told) (t : List ℕ) → ((answer ≡ a) × (cells ≡ t)) ↔ SolvedAs work table source a t
-  demand-3 = ClaimLaws.answered-iff source work table
+  pub demand-3 : (a : Told) (t : List ℕ) → ((toldBy work table source ≡ a) × (cellsBy work table source ≡ t)) ↔ SolvedAs work table source a t
+  demand-3 = SolvedAsLaws.answered-iff source work table
 
   -- 12: the lent memory is too short
-  pub short-memory : (answer ≡ refused 12 0) ↔ ((work < workSize) ⊎ (table < tableSize))
+  pub short-memory : (toldBy work table source ≡ refused 12 0) ↔ ((work < workSize) ⊎ (table < tableSize))
   short-memory = SolvedAsCases.short-memory source work table
 
   module _ (enough : workSize ≤ work) (room : tableSize ≤ table) where
     -- 1 to 8: the text denotes no problem, and this is why
-    pub refused-text : (number place : ℕ) → number ≤ 8 → (answer ≡ refused number place) ↔ Refuses source number place
+    pub refused-text : (number place : ℕ) → number ≤ 8 → (toldBy work table source ≡ refused number place) ↔ Refuses source number place
     refused-text = SolvedAsCases.refused-text source work table enough room
 
     module _ (p : Problem) (denotes : Denotes source p) where
       -- 9: more than 128 states can be reached
-      pub too-many-states : (answer ≡ refused 9 0) ↔ ManyStates p
+      pub too-many-states : (toldBy work table source ≡ refused 9 0) ↔ ManyStates p
       too-many-states = SolvedAsCases.too-many-states source work table enough room p denotes
 
       -- 10: 9 is not due, and more than 256 beliefs can be reached
-      pub too-many-beliefs : (answer ≡ refused 10 0) ↔ ((¬ ManyStates p) × ManyBeliefs p)
+      pub too-many-beliefs : (toldBy work table source ≡ refused 10 0) ↔ ((¬ ManyStates p) × ManyBeliefs p)
       too-many-beliefs = SolvedAsCases.too-many-beliefs source work table enough room p denotes
 
       module _ (few-states : ¬ ManyStates p) (few-beliefs : ¬ ManyBeliefs p) where
         -- 11: no strategy wins
-        pub unrealizable : (answer ≡ refused 11 0) ↔ ((σ : Strategy set) → IsStrategy (gameOf p) σ → ¬ Wins (gameOf p) σ)
+        pub unrealizable : (toldBy work table source ≡ refused 11 0) ↔ ((σ : Strategy set) → IsStrategy (gameOf p) σ → ¬ Wins (gameOf p) σ)
         unrealizable = SolvedAsCases.unrealizable source work table enough room p denotes few-states few-beliefs
 
-        -- otherwise the table that document 01 lays down is written ..
-        pub otherwise : (¬ (answer ≡ refused 11 0)) → (n : ℕ) × (r : ℕ) × Controller p n r cells
+        -- otherwise the table that document 01 lays down is written, and told with its row count, its observed signals and its worst case ..
+        pub otherwise : (¬ (toldBy work table source ≡ refused 11 0))
+            → (n : ℕ) × (r : ℕ) × (toldBy work table source ≡ values (n ∷ p .signals .observed ∷ r ∷ [])) × Controller p n r (cellsBy work table source)
         otherwise = SolvedAsCases.otherwise source work table enough room p denotes few-states few-beliefs
 
-        -- .. with its row count, its observed signals and its worst case; and there is only one
+        -- .. and there is only one
         pub controller : (n r : ℕ) (t : List ℕ)
-            → ((answer ≡ values (n ∷ p .signals .observed ∷ r ∷ [])) × (cells ≡ t)) ↔ Controller p n r t
+            → ((toldBy work table source ≡ values (n ∷ p .signals .observed ∷ r ∷ [])) × (cellsBy work table source ≡ t)) ↔ Controller p n r t
         controller = SolvedAsCases.controller source work table enough room p denotes few-states few-beliefs
+
+-- what is left in lent memory: a refusal leaves the table as it was, and a table all behind its rows; 12 leaves the work memory as it was,
+-- and any other answer leaves it all zero
+pub table-kept : (work : ℕ) (source t : List ℕ) (number place : ℕ) → toldBy work (length t) source ≡ refused number place → tableAfter work source t ≡ t
+table-kept = LentMemory.table-kept
+
+pub table-rest : (work : ℕ) (source t : List ℕ) (n : ℕ) (l : List ℕ) → toldBy work (length t) source ≡ values (n ∷ l)
+    → drop (n * rowSize) (tableAfter work source t) ≡ drop (n * rowSize) t
+table-rest = LentMemory.table-rest
+
+pub work-kept : (table : ℕ) (w : List ℕ) → Short (length w) table → workAfter table w ≡ w
+work-kept = LentMemory.work-kept
+
+pub work-cleared : (table : ℕ) (w : List ℕ) → (¬ Short (length w) table) → workAfter table w ≡ replicate (length w) 0
+work-cleared = LentMemory.work-cleared
 
 -- what the table is good for: from row 0, whatever the observed and the hidden signals do at each step, it stops, within the worst case,
 -- with a trace that satisfies the problem; one play takes as many steps; and every strategy that wins has a play of at least as many
@@ -84,6 +96,17 @@ pub plays : (p : Problem) (n r : ℕ) (t : List ℕ) → Controller p n r t
     × ((play : Play (gameOf p)) × Steps (tableStrategy t) play r)
     × ((σ : Strategy set) → IsStrategy (gameOf p) σ → Wins (gameOf p) σ → (play : Play (gameOf p)) × (m : ℕ) × Steps σ play m × (r ≤ m))
 plays = SolvedAsCases.plays
+
+-- the ranks in it are those of document 01, for any histories' final beliefs: a final belief has rank 0 ..
+pub final-rank : (choices observations : ℕ) (Final : History → Type 0) → 0 < observations → (h : History)
+    → Final h ↔ RankIs choices observations Final h 0
+final-rank = IsTableLaws.final-rank
+
+-- .. and another has rank r, the smallest with a choice after which every observation leads to a rank below r
+pub other-rank : (choices observations : ℕ) (Final : History → Type 0) → 0 < observations → (h : History) → (¬ Final h) → (r : ℕ)
+    → RankIs choices observations Final h r
+    ↔ (HasChoice choices observations Final r h × ((q : ℕ) → q < r → ¬ HasChoice choices observations Final q h))
+other-rank = IsTableLaws.other-rank
 
 -- ---- the theory behind it
 
@@ -98,20 +121,3 @@ any-game = AnswerLaws.answer-right
 -- a problem's beliefs know: one is final exactly where every hidden history makes the trace true
 pub beliefs-know : (p : Problem) (xs : List PatternSet) → problemStates p ≡ closed xs → Knows (gameOf p) (beliefsOf p xs)
 beliefs-know = StatesJudge.beliefs-know
-
--- ranks are those of document 01: a final position has rank 0 ..
-pub final-rank : (A : Arena) (choices observations : ℕ) (some : 0 < observations) (k : A .K) → (A .final k ≡ true) ↔ RankOf A choices observations k 0
-final-rank = LeastRanks.stop-rank
-
--- .. another has rank r, the smallest with a choice after which every observation leads to a rank below r ..
-pub other-rank : (A : Arena) (choices observations : ℕ) (some : 0 < observations) (k : A .K) → A .final k ≡ false → (r : ℕ)
-    → RankOf A choices observations k r
-    ↔ (HasChoice A choices observations k r × ((q : ℕ) → q < r → HasChoice A choices observations k q → ⊥))
-other-rank = LeastRanks.other-rank
-
--- .. and it takes the smallest such choice
-pub smallest-choice : (A : Arena) (choices observations : ℕ) (some : 0 < observations) (n : ℕ) (k : A .K) (r : ℕ) → r < n → A .final k ≡ false
-    → RankOf A choices observations k r
-    → let c = bestChoice A choices observations n k in
-    (c < choices) × LeadsBelow A choices observations k r c × ((d : ℕ) → d < c → LeadsBelow A choices observations k r d → ⊥)
-smallest-choice = LeastRanks.takes-smallest

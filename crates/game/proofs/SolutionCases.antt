@@ -25,9 +25,9 @@ use Rattle.play.proofs.AnswerLaws.{answer-right}
 use Rattle.play.proofs.AnswerTable.{answer-table, one-answer}
 use Rattle.game.specs.Solution.{gameOf, problemStates, beliefsOf, Solution, tooManyStates, tooManyBeliefs, verdict, solutionOf, solutionFrom, solution}
 use Rattle.game.specs.Believed.{SameBelief, FinalBelief, ManyStates, ManyBeliefs, Small}
-use Rattle.game.specs.Claim.{Controller}
+use Rattle.game.specs.SolvedAs.{Controller}
 use Rattle.game.proofs.StatesJudge.{beliefs-know, some-hidden}
-use Rattle.game.proofs.BelievedLaws.{many-states, few-states, same-iff, final-iff, beliefs-iff}
+use Rattle.game.proofs.BelievedLaws.{many-states, few-states, beliefs-tell, beliefs-iff}
 
 -- a solution with what makes it due
 pub data Solving (p : Problem) : Solution → Type 0 where
@@ -80,11 +80,11 @@ module _ (p : Problem) (few : Few (p .signals)) where
       solving-verdict (solved n r cells) e s =
           let (t, q) =
           answer-table A sameSet sameSet-says (G .choices) (G .observations) beliefLimit (pow-pos (p .signals .observed)) few-choices few-observations
-          all is (SameBelief p) (FinalBelief p) (same-iff p xs listed) (final-iff p xs listed) n r cells e in
+          all is (SameBelief p) (FinalBelief p) (beliefs-tell p xs listed) n r cells e in
           table small n r cells (record { isTable = t; rank = q; solves = s })
           (λ m q t c.
           one-answer A sameSet sameSet-says (G .choices) (G .observations) beliefLimit (pow-pos (p .signals .observed)) few-choices few-observations
-          all is (SameBelief p) (FinalBelief p) (same-iff p xs listed) (final-iff p xs listed) n r cells e m q t (c .isTable) (c .rank))
+          all is (SameBelief p) (FinalBelief p) (beliefs-tell p xs listed) n r cells e m q t (c .isTable) (c .rank))
       solving-verdict unrealizable e u = none small u
 
     solving-beliefs : (l : Listing Belief) → counted ≡ l → Solving p (solutionOf A sameSet (G .choices) (G .observations) l)

@@ -11,35 +11,21 @@ use Rattle.rules.specs.Problem.{Problem}
 use Rattle.rules.specs.Satisfies.{Satisfies}
 use Rattle.rules.specs.Denotes.{Denotes}
 use Rattle.rules.specs.Refuses.{Refuses}
-use Rattle.rules.proofs.RefusesLaws.{told-refused}
-use Rattle.rules.proofs.ReadingNumbers.{reading-number}
+use Rattle.lines.proofs.RefusalLaws.{told-apart, one-number, one-place}
+use Rattle.rules.proofs.RefusesLaws.{refuses-number}
 use Rattle.play.specs.Cells.{tableSize}
 use Rattle.play.specs.Game.{set, Play, Strategy, IsStrategy, Steps, run, Wins, Unrealizable}
 use Rattle.play.specs.Table.{tableStrategy}
 use Rattle.game.specs.Solution.{gameOf, Solution, solution}
 use Rattle.game.specs.Believed.{ManyStates, ManyBeliefs}
-use Rattle.game.specs.Claim.{solvedOf, solvedBy, toldSolved, cellsOf, cellsBy, Controller, Short, SolvedAs}
-use Rattle.game.specs.Claim as due
+use Rattle.game.specs.SolvedAs.{solvedOf, toldSolved, toldBy, cellsOf, cellsBy, Controller, Short, SolvedAs}
+use Rattle.game.specs.SolvedAs as due
 use Rattle.game.proofs.SolutionCases.{Solving, states, beliefs, none, table}
-use Rattle.game.proofs.ClaimLaws.{no-refusal, due-call, solution-answered, solving-read, answered-iff}
-
--- the number of a refusal, 0 for an answer with values
-abbrev numberIn : Told → ℕ
-numberIn (values l) = 0
-numberIn (refused number place) = number
-
-abbrev placeIn : Told → ℕ
-placeIn (values l) = 0
-placeIn (refused number place) = place
-
-refuses-early : (source : List ℕ) (number place : ℕ) → Refuses source number place → number ≤ 8
-refuses-early source number place x =
-    let (r, e, n, m) = told-refused source x in
-    subst (λ k. k ≤ 8) n (reading-number source r e)
+use Rattle.game.proofs.SolvedAsLaws.{due-call, solution-answered, solving-read, answered-iff}
 
 module _ (source : List ℕ) (work room : ℕ) where
   abbrev answer : Told
-  answer = toldSolved (solvedBy work room source)
+  answer = toldBy work room source
 
   abbrev cells : List ℕ
   cells = cellsBy work room source
@@ -48,36 +34,36 @@ module _ (source : List ℕ) (work room : ℕ) where
 
   when-short : (a : Told) (t : List ℕ) → SolvedAs work room source a t → a ≡ refused 12 0 → Short work room
   when-short a t (due.short-memory s) e = s
-  when-short a t (due.refused-text f number place x) e = absurd (omega (arith, ap numberIn e, refuses-early source number place x))
-  when-short a t (due.too-many-states f p d m) e = absurd (omega (arith, ap numberIn e))
-  when-short a t (due.too-many-beliefs f p d s m) e = absurd (omega (arith, ap numberIn e))
-  when-short a t (due.unrealizable f p d small u) e = absurd (omega (arith, ap numberIn e))
-  when-short a t (due.table f p d small n r c k) e = absurd (omega (arith, ap numberIn e))
+  when-short a t (due.bad-source f number place x) e = absurd (omega (arith, one-number e, refuses-number x))
+  when-short a t (due.too-many-states f p d m) e = absurd (omega (arith, one-number e))
+  when-short a t (due.too-many-beliefs f p d s m) e = absurd (omega (arith, one-number e))
+  when-short a t (due.unrealizable f p d small u) e = absurd (omega (arith, one-number e))
+  when-short a t (due.table f p d small n r c k) e = told-apart (sym e)
 
   pub short-memory : (answer ≡ refused 12 0) ↔ ((work < workSize) ⊎ (room < tableSize))
   short-memory = (when-short answer cells (due-call source work room), λ s. answered-iff source work room _ _ .1 (due.short-memory s) .0)
 
   module _ (enough : workSize ≤ work) (long : tableSize ≤ room) where
-    pub not-short : ¬ Short work room
-    not-short (inl s) = absurd (omega arith)
-    not-short (inr s) = absurd (omega arith)
+    long-enough : ¬ Short work room
+    long-enough (inl s) = absurd (omega arith)
+    long-enough (inr s) = absurd (omega arith)
 
     -- ---- 1 to 8
 
     when-refused : (a : Told) (t : List ℕ) → SolvedAs work room source a t → (number place : ℕ) → number ≤ 8 → a ≡ refused number place
         → Refuses source number place
-    when-refused a t (due.short-memory s) number place h e = absurd (omega (arith, ap numberIn e))
-    when-refused a t (due.refused-text f n m x) number place h e =
-        subst (λ k. Refuses source k place) (ap numberIn e) (subst (Refuses source n) (ap placeIn e) x)
-    when-refused a t (due.too-many-states f p d m) number place h e = absurd (omega (arith, ap numberIn e))
-    when-refused a t (due.too-many-beliefs f p d s m) number place h e = absurd (omega (arith, ap numberIn e))
-    when-refused a t (due.unrealizable f p d small u) number place h e = absurd (omega (arith, ap numberIn e))
-    when-refused a t (due.table f p d small n r c k) number place h e = absurd (no-refusal (n ∷ p .signals .observed ∷ r ∷ []) number place e)
+    when-refused a t (due.short-memory s) number place h e = absurd (omega (arith, one-number e))
+    when-refused a t (due.bad-source f n m x) number place h e =
+        subst (λ k. Refuses source k place) (one-number e) (subst (Refuses source n) (one-place e) x)
+    when-refused a t (due.too-many-states f p d m) number place h e = absurd (omega (arith, one-number e))
+    when-refused a t (due.too-many-beliefs f p d s m) number place h e = absurd (omega (arith, one-number e))
+    when-refused a t (due.unrealizable f p d small u) number place h e = absurd (omega (arith, one-number e))
+    when-refused a t (due.table f p d small n r c k) number place h e = told-apart (sym e)
 
     pub refused-text : (number place : ℕ) → number ≤ 8 → (answer ≡ refused number place) ↔ Refuses source number place
     refused-text number place h = (
       when-refused answer cells (due-call source work room) number place h,
-      λ x. answered-iff source work room _ _ .1 (due.refused-text not-short number place x) .0,
+      λ x. answered-iff source work room _ _ .1 (due.bad-source long-enough number place x) .0,
     )
 
     -- ---- for a problem that the text denotes
@@ -87,37 +73,37 @@ module _ (source : List ℕ) (work room : ℕ) where
       told s = toldSolved (solvedOf (p .signals .observed) s)
 
       is-told : answer ≡ told (solution p)
-      is-told = solution-answered source work room not-short p denotes (solution p) refl .0
+      is-told = solution-answered source work room long-enough p denotes (solution p) refl .0
 
       are-cells : cells ≡ cellsOf (solution p)
-      are-cells = solution-answered source work room not-short p denotes (solution p) refl .1
+      are-cells = solution-answered source work room long-enough p denotes (solution p) refl .1
 
       view : Solving p (solution p)
       view = solving-read source work room p denotes
 
       when-many-states : (s : Solution) → Solving p s → told s ≡ refused 9 0 → ManyStates p
       when-many-states s (states m) e = m
-      when-many-states s (beliefs f m) e = absurd (omega (arith, ap numberIn e))
-      when-many-states s (none small u) e = absurd (omega (arith, ap numberIn e))
-      when-many-states s (table small n r t c one) e = absurd (omega (arith, ap numberIn e))
+      when-many-states s (beliefs f m) e = absurd (omega (arith, one-number e))
+      when-many-states s (none small u) e = absurd (omega (arith, one-number e))
+      when-many-states s (table small n r t c one) e = told-apart (sym e)
 
       when-many-beliefs : (s : Solution) → Solving p s → told s ≡ refused 10 0 → (¬ ManyStates p) × ManyBeliefs p
-      when-many-beliefs s (states m) e = absurd (omega (arith, ap numberIn e))
+      when-many-beliefs s (states m) e = absurd (omega (arith, one-number e))
       when-many-beliefs s (beliefs f m) e = (f, m)
-      when-many-beliefs s (none small u) e = absurd (omega (arith, ap numberIn e))
-      when-many-beliefs s (table small n r t c one) e = absurd (omega (arith, ap numberIn e))
+      when-many-beliefs s (none small u) e = absurd (omega (arith, one-number e))
+      when-many-beliefs s (table small n r t c one) e = told-apart (sym e)
 
       when-unrealizable : (s : Solution) → Solving p s → told s ≡ refused 11 0 → Unrealizable (gameOf p) set
-      when-unrealizable s (states m) e = absurd (omega (arith, ap numberIn e))
-      when-unrealizable s (beliefs f m) e = absurd (omega (arith, ap numberIn e))
+      when-unrealizable s (states m) e = absurd (omega (arith, one-number e))
+      when-unrealizable s (beliefs f m) e = absurd (omega (arith, one-number e))
       when-unrealizable s (none small u) e = u
-      when-unrealizable s (table small n r t c one) e = absurd (omega (arith, ap numberIn e))
+      when-unrealizable s (table small n r t c one) e = told-apart (sym e)
 
       when-solved : (s : Solution) → Solving p s → (n r : ℕ) (t : List ℕ) → told s ≡ values (n ∷ p .signals .observed ∷ r ∷ []) → cellsOf s ≡ t
           → Controller p n r t
-      when-solved s (states m) n r t e q = absurd (omega (arith, ap numberIn e))
-      when-solved s (beliefs f m) n r t e q = absurd (omega (arith, ap numberIn e))
-      when-solved s (none small u) n r t e q = absurd (omega (arith, ap numberIn e))
+      when-solved s (states m) n r t e q = told-apart e
+      when-solved s (beliefs f m) n r t e q = told-apart e
+      when-solved s (none small u) n r t e q = told-apart e
       when-solved s (table small m k u c one) n r t e q =
           let is-n : m ≡ n = cc in
           let is-r : k ≡ r = cc in
@@ -126,37 +112,38 @@ module _ (source : List ℕ) (work room : ℕ) where
       pub too-many-states : (answer ≡ refused 9 0) ↔ ManyStates p
       too-many-states = (
         λ e. when-many-states (solution p) view (sym is-told ∙ e),
-        λ m. answered-iff source work room _ _ .1 (due.too-many-states not-short p denotes m) .0,
+        λ m. answered-iff source work room _ _ .1 (due.too-many-states long-enough p denotes m) .0,
       )
 
       pub too-many-beliefs : (answer ≡ refused 10 0) ↔ ((¬ ManyStates p) × ManyBeliefs p)
       too-many-beliefs = (
         λ e. when-many-beliefs (solution p) view (sym is-told ∙ e),
-        λ m. answered-iff source work room _ _ .1 (due.too-many-beliefs not-short p denotes (m .0) (m .1)) .0,
+        λ m. answered-iff source work room _ _ .1 (due.too-many-beliefs long-enough p denotes (m .0) (m .1)) .0,
       )
 
       module _ (few-states : ¬ ManyStates p) (few-beliefs : ¬ ManyBeliefs p) where
         pub unrealizable : (answer ≡ refused 11 0) ↔ ((σ : Strategy set) → IsStrategy (gameOf p) σ → ¬ Wins (gameOf p) σ)
         unrealizable = (
           λ e. when-unrealizable (solution p) view (sym is-told ∙ e),
-          λ u. answered-iff source work room _ _ .1 (due.unrealizable not-short p denotes (few-states, few-beliefs) u) .0,
+          λ u. answered-iff source work room _ _ .1 (due.unrealizable long-enough p denotes (few-states, few-beliefs) u) .0,
         )
 
         pub controller : (n r : ℕ) (t : List ℕ)
             → ((answer ≡ values (n ∷ p .signals .observed ∷ r ∷ [])) × (cells ≡ t)) ↔ Controller p n r t
         controller n r t = (
           λ e. when-solved (solution p) view n r t (sym is-told ∙ e .0) (sym are-cells ∙ e .1),
-          λ c. answered-iff source work room _ _ .1 (due.table not-short p denotes (few-states, few-beliefs) n r t c),
+          λ c. answered-iff source work room _ _ .1 (due.table long-enough p denotes (few-states, few-beliefs) n r t c),
         )
 
-        pub otherwise : (¬ (answer ≡ refused 11 0)) → (n : ℕ) × (r : ℕ) × Controller p n r cells
+        pub otherwise : (¬ (answer ≡ refused 11 0)) → (n : ℕ) × (r : ℕ) × (answer ≡ values (n ∷ p .signals .observed ∷ r ∷ [])) × Controller p n r cells
         otherwise f = at (solution p) view refl
           where
-            at : (s : Solution) → Solving p s → solution p ≡ s → (n : ℕ) × (r : ℕ) × Controller p n r cells
+            at : (s : Solution) → Solving p s → solution p ≡ s
+                → (n : ℕ) × (r : ℕ) × (answer ≡ values (n ∷ p .signals .observed ∷ r ∷ [])) × Controller p n r cells
             at s (states m) e = absurd (few-states m)
             at s (beliefs g m) e = absurd (few-beliefs m)
             at s (none small u) e = absurd (f (unrealizable .1 u))
-            at s (table small n r t c one) e = (n, r, subst (Controller p n r) (sym (are-cells ∙ ap cellsOf e)) c)
+            at s (table small n r t c one) e = (n, r, is-told ∙ ap told e, subst (Controller p n r) (sym (are-cells ∙ ap cellsOf e)) c)
 
 -- a table that is due is the controller of a problem that the text denotes
 pub due-table : (work room : ℕ) (source : List ℕ) (n o r : ℕ) (t : List ℕ) → SolvedAs work room source (values (n ∷ o ∷ r ∷ [])) t
@@ -165,11 +152,11 @@ due-table work room source n o r t d = at (values (n ∷ o ∷ r ∷ [])) t d re
   where
     at : (a : Told) (t : List ℕ) → SolvedAs work room source a t → a ≡ values (n ∷ o ∷ r ∷ [])
         → (p : Problem) × Denotes source p × (o ≡ p .signals .observed) × Controller p n r t
-    at a t (due.short-memory s) e = absurd (omega (arith, ap numberIn e))
-    at a t (due.refused-text f number place x) e = absurd (no-refusal (n ∷ o ∷ r ∷ []) number place (sym e))
-    at a t (due.too-many-states f p d m) e = absurd (omega (arith, ap numberIn e))
-    at a t (due.too-many-beliefs f p d s m) e = absurd (omega (arith, ap numberIn e))
-    at a t (due.unrealizable f p d small u) e = absurd (omega (arith, ap numberIn e))
+    at a t (due.short-memory s) e = told-apart e
+    at a t (due.bad-source f number place x) e = told-apart e
+    at a t (due.too-many-states f p d m) e = told-apart e
+    at a t (due.too-many-beliefs f p d s m) e = told-apart e
+    at a t (due.unrealizable f p d small u) e = told-apart e
     at a t (due.table f p d small m q cells c) e =
         let is-n : m ≡ n = cc in
         let is-r : q ≡ r = cc in

@@ -1,21 +1,17 @@
 -- A problem's states by number judge its traces, so its beliefs meet the one law.
 -- Assumes nothing.
 use Prim.Native.Nat.{ℕ, suc, _<_}
-use native.Mathlib.Nat.{lt-of-le-of-lt}
 use native.Mathlib.Omega.{arith}
 use mathlib.Core.Path.{_≡_, refl, ap, _∙_}
 use mathlib.Core.Logic.{_↔_}
 use mathlib.Core.Bool.{true}
 use mathlib.Core.List.{List, [], _∷_, foldl}
 use lib.ListN.{length, getD}
-use lib.Pow.{pow-mono, pow-pos}
-use Rattle.basics.specs.Limits.{kindLimit}
+use lib.Pow.{pow-pos}
 use Rattle.rules.specs.Judge.{countsIn}
 use Rattle.formula.specs.declared.parts.Part.{Part}
 use Rattle.rules.specs.Problem.{Problem, problemParts}
 use Rattle.rules.specs.Satisfies.{Satisfies}
-use Rattle.rules.proofs.ProblemLaws.{means}
-use Rattle.rules.specs.Within.{Few}
 use Rattle.search.specs.Limits.{stateLimit}
 use Rattle.basics.specs.Member.{_∈_}
 use Rattle.obligations.specs.Letters.{lettersOf}
@@ -26,19 +22,16 @@ use Rattle.search.specs.ReachableSets.{sameSet, nextSets, reachableSets}
 use Rattle.states.specs.States.{startState, nextState, stateAfter, statesOf}
 use Rattle.basics.proofs.MemberLaws.{getD-in}
 use Rattle.search.proofs.ReachableSetsLaws.{sameSet-says}
-use Rattle.states.proofs.Acceptance.{accepts-value, start-state-rejects}
+use Rattle.states.proofs.Acceptance.{accepts-iff-satisfies, start-state-rejects}
 use Rattle.states.proofs.NumberedSuccessors.{successor-right}
 use Rattle.obligations.proofs.LettersLaws.{letter-listed}
-use Rattle.play.specs.Limits.{beliefLimit}
 use Rattle.play.specs.Game.{Game}
-use Rattle.play.specs.Belief.{Automaton, Belief, stateFrom}
+use Rattle.play.specs.Belief.{Automaton, stateFrom}
 use Rattle.play.specs.History.{History, Possible, Hidden, letters, Knows}
-use Rattle.play.specs.Answer.{positions, verdictOf, Right}
 use Rattle.game.specs.Solution.{gameOf, automatonOf, problemStates, beliefsOf}
 use Rattle.play.proofs.Plans.{rest}
 use Rattle.play.proofs.BeliefsKnow.{Judges, belief-knows}
 use Rattle.basics.proofs.ReachLaws.{closed-begins}
-use Rattle.play.proofs.AnswerLaws.{answer-right}
 
 module _ (p : Problem) where
   abbrev G : Game
@@ -92,8 +85,7 @@ module _ (p : Problem) where
     judges : (m : ℕ × ℕ) (h : History) → Possible (G .choices) (G .observations) (m ∷ h) → (x : ℕ → ℕ) → Hidden G x
         → (accepts (at (stateFrom M 0 (letters G (m ∷ h) x))) ≡ true) ↔ Satisfies (letters G (m ∷ h) x) p
     judges m h v x xb =
-        rw (ap accepts (state-at (m ∷ h) v x xb) ∙ accepts-value ps (G .letter (m .0) (m .1) (x 0)) (letters G h (rest x)))
-        (means p (letters G (m ∷ h) x) (omega arith))
+        rw (state-at (m ∷ h) v x xb) (accepts-iff-satisfies p (letters G (m ∷ h) x) (omega arith))
 
     pub states-judge : Judges G M
     states-judge =
@@ -106,13 +98,3 @@ module _ (p : Problem) where
 
     pub beliefs-know : Knows G (beliefsOf p xs)
     beliefs-know = belief-knows G M some-hidden states-judge
-
--- the verdict from the beliefs is right
-pub belief-right : (p : Problem) → Few (p .signals) → (xs : List PatternSet) → problemStates p ≡ closed xs → (all : List Belief)
-    → positions (beliefsOf p xs) sameSet (gameOf p .choices) (gameOf p .observations) beliefLimit ≡ closed all
-    → Right beliefLimit (gameOf p) (verdictOf (beliefsOf p xs) sameSet (gameOf p .choices) (gameOf p .observations) (length all))
-belief-right p few xs listed all counted =
-    answer-right (gameOf p) (beliefsOf p xs) sameSet sameSet-says beliefLimit all counted (beliefs-know p xs listed)
-    (pow-pos (p .signals .observed)) (some-hidden p)
-    (lt-of-le-of-lt (pow-mono {i = p .signals .outputs} {j = kindLimit} (few .outputs)) (omega arith))
-    (pow-mono {i = p .signals .observed} {j = kindLimit} (few .observed))

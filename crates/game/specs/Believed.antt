@@ -32,12 +32,12 @@ module _ (p : Problem) where
   FinalBelief h = (s : PatternSet) → Believed h s → accepts s ≡ true
 
   -- the histories whose beliefs count: all that choices and observations make
-  abbrev pub Counts : History → Type 0
-  Counts h = Possible (gameOf p .choices) (gameOf p .observations) h
+  abbrev pub Counted : History → Type 0
+  Counted h = Possible (gameOf p .choices) (gameOf p .observations) h
 
   -- more beliefs than the limit can be reached
   abbrev pub ManyBeliefs : Type 0
-  ManyBeliefs = AtLeastBeliefs Counts SameBelief (suc beliefLimit)
+  ManyBeliefs = AtLeastBeliefs Counted SameBelief (suc beliefLimit)
 
   -- more states than the limit can be reached
   pub record ManyStates : Type 0 where

@@ -1,5 +1,5 @@
--- A problem's game and what is answered for it; what that claims; the states' tables in memory.
+-- A problem's game and what is answered for it; what is believed after a history; what is due; the states' tables in memory.
 pub mod Solution
 pub mod Believed
-pub mod Claim
+pub mod SolvedAs
 pub mod StateMemory

@@ -11,7 +11,7 @@ ghost use Rattle.states.specs.Planes.{Sized};
 ghost use Rattle.play.specs.Cells.{tableSize};
 ghost use Rattle.basics.specs.Lists.{written};
 ghost use Rattle.game.specs.Solution.{partsSolution};
-ghost use Rattle.game.specs.Claim.{solvedWith, solvedOf, solvedFrom, solvedBy, toldSolved, cellsOf, cellsFrom, tableAfter, workAfter, usedRows, SolvedAs};
+ghost use Rattle.game.specs.SolvedAs.{solvedWith, solvedOf, solvedFrom, solvedBy, toldSolved, cellsOf, cellsFrom, tableAfter, workAfter, usedRows, SolvedAs};
 ghost use Rattle.beliefs.specs.BeliefMemory.{Successors};
 ghost use Rattle.game.specs.StateMemory.{Widths, memorySolution};
 use basics::clear;

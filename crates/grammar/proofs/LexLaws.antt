@@ -1,7 +1,8 @@
 -- Where a token ends. Assumes nothing.
+use Rattle.basics.proofs.Booleans.{cond-elim}
 use Rattle.basics.proofs.BytesLaws.{past-in, past-more}
 use mathlib.Core.Path.{_≡_, refl, sym, ap, _∙_}
-use mathlib.Core.Bool.{Bool, true, false, _&&_, cond}
+use mathlib.Core.Bool.{Bool, true, false, _&&_}
 use mathlib.Core.List.{List}
 use Prim.Native.Nat.{ℕ, _+_, _≤_, _<_}
 use native.Mathlib.Omega.{arith}
@@ -51,10 +52,6 @@ module _ (text : List ℕ) (at i : ℕ) (si : i ≡ skip text at) where
         pub tok-sign : (getD text i 0 ≡ 0 → ⊥) → record { kind = getD text i 0; from = i; next = i + 1 } ≡ tokenAt text at
         unfolding tokenAt tokenFrom
         tok-sign e = rw (← si, lt-leb _ _ h, l, ne-eqb _ _ n, ne-eqb _ _ e)
-
-cond-elim : (P : Token → Type 0) (b : Bool) (x y : Token) → (b ≡ true → P x) → (b ≡ false → P y) → P (cond b x y)
-cond-elim P true x y f g = f refl
-cond-elim P false x y f g = g refl
 
 -- what holds of each kind of token holds of the one at i
 from-cases : (P : Token → Type 0) (text : List ℕ) (i : ℕ) → (length text ≤ i → P (record { kind = endKind; from = i; next = i }))

@@ -1,8 +1,9 @@
 -- What a line that declares a signal or states a formula has passed. Assumes nothing.
 use Prim.Native.Nat.{ℕ}
 use mathlib.Core.Path.{_≡_, refl, subst}
-use mathlib.Core.Bool.{Bool, true, false, not, cond}
+use mathlib.Core.Bool.{true, false, not}
 use mathlib.Core.List.{List}
+use Rattle.basics.proofs.Booleans.{cond-elim}
 use Rattle.grammar.specs.Lex.{tokens}
 use Rattle.grammar.specs.Parse.{Res, none, some, parseFormula}
 use Rattle.grammar.specs.Names.{Name, leafValue}
@@ -13,11 +14,6 @@ use Rattle.formula.specs.Formula.{Formula}
 use Rattle.lines.specs.Lines.{hasTab, firstField, secondField, wordOf, isName, isText}
 use Rattle.lines.specs.Effect.{Signals, isDeclared, isFull, formulaOf, allDeclared, isLarge, Effect, declares, states, refuses}
 use Rattle.lines.specs.Effect.{declareEffect, readEffect, stateEffect, byWord, effectOf}
-
--- what holds of an effect, by the test that it came through
-pub pick-elim : (P : Effect → Type 0) (b : Bool) (x y : Effect) → (b ≡ true → P x) → (b ≡ false → P y) → P (cond b x y)
-pick-elim P true x y f g = f refl
-pick-elim P false x y f g = g refl
 
 -- a line that declares a signal
 pub record Declaring (bytes : List ℕ) (g : Signals) (k : Kind) (name : Name) : Type 0 where
@@ -38,25 +34,25 @@ module _ (line : ℕ) (bytes : List ℕ) (g : Signals) (n m : ℕ) where
   declare-passed : hasTab bytes ≡ true → (k : Kind) → Passed (declareEffect line k second g)
   unfolding declareEffect
   declare-passed tab k =
-      pick-elim Passed (not (isName second)) _ _ (λ _. tt)
-      (λ _. pick-elim Passed (isDeclared g second) _ _ (λ _. tt)
-      (λ _. pick-elim Passed (isFull k g) _ _ (λ _. tt) (λ f. record { tab = tab; room = f; is = refl })))
+      cond-elim Passed (not (isName second)) _ _ (λ _. tt)
+      (λ _. cond-elim Passed (isDeclared g second) _ _ (λ _. tt)
+      (λ _. cond-elim Passed (isFull k g) _ _ (λ _. tt) (λ f. record { tab = tab; room = f; is = refl })))
 
   read-passed : (res : Res) → Passed (readEffect line second res g n m)
   read-passed none = tt
   read-passed (some a next) =
-      pick-elim Passed (not (allDeclared g second (tokens second 0))) _ _ (λ _. tt)
-      (λ _. pick-elim Passed (isLarge n m (formulaOf (leafValue (g .names) second) a)) _ _ (λ _. tt) (λ l. l))
+      cond-elim Passed (not (allDeclared g second (tokens second 0))) _ _ (λ _. tt)
+      (λ _. cond-elim Passed (isLarge n m (formulaOf (leafValue (g .names) second) a)) _ _ (λ _. tt) (λ l. l))
 
   word-passed : hasTab bytes ≡ true → (w : Word) → Passed (byWord w line second g n m)
   unfolding stateEffect
   word-passed tab (Declare k) = declare-passed tab k
-  word-passed tab Rule = pick-elim Passed (not (isText second)) _ _ (λ _. tt) (λ _. read-passed (parseFormula second))
+  word-passed tab Rule = cond-elim Passed (not (isText second)) _ _ (λ _. tt) (λ _. read-passed (parseFormula second))
   word-passed tab Unknown = tt
 
   passed : Passed (effectOf line bytes g n m)
   unfolding effectOf
-  passed = pick-elim Passed (hasTab bytes) _ _ (λ b. word-passed b (wordOf (firstField bytes))) (λ _. tt)
+  passed = cond-elim Passed (hasTab bytes) _ _ (λ b. word-passed b (wordOf (firstField bytes))) (λ _. tt)
 
   pub declaring : (k : Kind) (name : Name) → effectOf line bytes g n m ≡ declares k name → Declaring bytes g k name
   declaring k name e = subst Passed e passed

@@ -7,6 +7,7 @@ use mathlib.Core.List.{List}
 use borrow.Author.Tests.{lt-ltb, le-ltb}
 use lib.ListN.{length, take, drop, length-drop}
 use lib.Seq.{length-take-le, take-add, drop-at, drop-drop}
+use Rattle.basics.proofs.Booleans.{cond-elim}
 use Rattle.basics.specs.Bytes.{notTab, past, between}
 use Rattle.grammar.specs.Lex.{tokens}
 use Rattle.grammar.specs.Parse.{Res, none, some, parseFormula}
@@ -22,7 +23,6 @@ use Rattle.lines.specs.declared.problem.Reading.the-variants.{Refused}
 use Rattle.lines.specs.Lines.{tabPlace, wordOf, isName, isText}
 use Rattle.lines.specs.Effect.{Signals, isDeclared, isFull, formulaOf, allDeclared, isLarge, Effect, refuses, declareEffect, readEffect, stateEffect, byWord, effectOf}
 use Rattle.lines.specs.Memory.{signalsIn, readingAfter, spansAfter, partsAfter, lineEffect, LineRead}
-use Rattle.lines.proofs.EffectLaws.{pick-elim}
 
 -- the bytes of a second field, from the source and from its line
 pub field-is : (source : List ℕ) (at end t : ℕ) → end ≤ length source → at + t + 1 ≤ end → between source (at + t + 1) end ≡ drop (t + 1)
@@ -49,9 +49,9 @@ module _ (source : List ℕ) (at end t : ℕ) (e : t ≡ past notTab (between so
 declare-parts : (line : ℕ) (k : Kind) (name : List ℕ) (g : Signals) (s : Sizes) (p : List ℕ) → p ≡ partsAfter (declareEffect line k name g) s p
 unfolding declareEffect
 declare-parts line k name g s p =
-    pick-elim (λ e. p ≡ partsAfter e s p) (not (isName name)) _ _ (λ _. refl)
-    (λ _. pick-elim (λ e. p ≡ partsAfter e s p) (isDeclared g name) _ _ (λ _. refl)
-    (λ _. pick-elim (λ e. p ≡ partsAfter e s p) (isFull k g) _ _ (λ _. refl) (λ _. refl)))
+    cond-elim (λ e. p ≡ partsAfter e s p) (not (isName name)) _ _ (λ _. refl)
+    (λ _. cond-elim (λ e. p ≡ partsAfter e s p) (isDeclared g name) _ _ (λ _. refl)
+    (λ _. cond-elim (λ e. p ≡ partsAfter e s p) (isFull k g) _ _ (λ _. refl) (λ _. refl)))
 
 module _ (line : ℕ) (text : List ℕ) (g : Signals) (n m : ℕ) (s : Sizes) (start end : ℕ) (spans : List ℕ) where
   abbrev Same : Effect → Type 0
@@ -60,12 +60,12 @@ module _ (line : ℕ) (text : List ℕ) (g : Signals) (n m : ℕ) (s : Sizes) (s
   read-spans : (res : Res) → Same (readEffect line text res g n m)
   read-spans none = refl
   read-spans (some a next) =
-      pick-elim Same (not (allDeclared g text (tokens text 0))) _ _ (λ _. refl)
-      (λ _. pick-elim Same (isLarge n m (formulaOf (leafValue (g .names) text) a)) _ _ (λ _. refl) (λ _. refl))
+      cond-elim Same (not (allDeclared g text (tokens text 0))) _ _ (λ _. refl)
+      (λ _. cond-elim Same (isLarge n m (formulaOf (leafValue (g .names) text) a)) _ _ (λ _. refl) (λ _. refl))
 
   state-spans : Same (stateEffect line text g n m)
   unfolding stateEffect
-  state-spans = pick-elim Same (not (isText text)) _ _ (λ _. refl) (λ _. read-spans (parseFormula text))
+  state-spans = cond-elim Same (not (isText text)) _ _ (λ _. refl) (λ _. read-spans (parseFormula text))
 
 module _ (source : List ℕ) (at end line : ℕ) (s : Sizes) (spans p : List ℕ) (t : ℕ) (it : t ≡ past notTab (between source at end) 0) where
   abbrev bytes : List ℕ

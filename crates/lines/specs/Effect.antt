@@ -121,5 +121,3 @@ byWord Unknown line second g n m = refuses (BadLine line)
 
 unfoldable pub effectOf : ℕ → List ℕ → Signals → ℕ → ℕ → Effect
 effectOf line bytes g n m = cond (hasTab bytes) (byWord (wordOf (firstField bytes)) line (secondField bytes) g n m) (refuses (BadLine line))
-
--- ---- a whole problem

@@ -109,5 +109,3 @@ pub record LineRead (source : List ℕ) (at end line : ℕ) (s : Sizes) (spans p
   pub reading : r ≡ readingAfter (lineEffect source at end line s spans) s
   pub spans-left : spans′ ≡ spansAfter (lineEffect source at end line s spans) s (at + tabPlace (between source at end) + 1) end spans
   pub parts-left : p′ ≡ partsAfter (lineEffect source at end line s spans) s p
-
--- ---- what reading a whole problem leaves

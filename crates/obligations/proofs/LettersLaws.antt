@@ -13,7 +13,8 @@ use lib.Dec.{lit≤, ltb}
 use borrow.Author.Tests.{lt-ltb, ltb-true}
 use Rattle.basics.specs.Limits.{kindLimit, wordSize}
 use Rattle.basics.specs.Lists.{tabulate}
-use Rattle.formula.specs.Letter.{Counts, kindSize, letterFrom, isLetter}
+use Rattle.formula.specs.Letter.{Counts, kindSize, letterFrom, isLetter, IsLetter}
+use Rattle.formula.proofs.LetterLaws.{letter-iff}
 use Rattle.basics.specs.Member.{_∈_}
 use Rattle.obligations.specs.Letters.{letterCount, letterOf, lettersOf}
 use Rattle.basics.proofs.BitsLaws.{shl-one}
@@ -142,8 +143,8 @@ module _ (c : Counts) (ho : c .outputs ≤ kindLimit) (hs : c .observed ≤ kind
     pub letter-fits : coded < 2 ^ 16
     letter-fits = subst (λ n. n < 2 ^ 16) (sym letter-code) (lt-of-lt-of-le letter-lt (lit≤ tt))
 
-  -- the letters by number are those of the declared signals, and no others
-  pub letters-exact : (a : ℕ) → (a ∈ lettersOf c) ↔ (isLetter c a ≡ true)
+  -- the letters by number are those that pass the test ..
+  letters-exact : (a : ℕ) → (a ∈ lettersOf c) ↔ (isLetter c a ≡ true)
   unfolding lettersOf isLetter
   letters-exact a = (to, λ e. from (all-true (ltb low (2 ^ c .outputs)) (ltb middle (2 ^ c .observed)) (ltb high (2 ^ c .hidden)) e))
     where
@@ -167,3 +168,10 @@ module _ (c : Counts) (ho : c .outputs ≤ kindLimit) (hs : c .observed ≤ kind
           subst (λ n. n ∈ lettersOf c) whole
           (letter-listed c low middle high (ltb-true low (2 ^ c .outputs) (t .0)) (ltb-true middle (2 ^ c .observed) (t .1))
           (ltb-true high (2 ^ c .hidden) (t .2)))
+
+  -- .. so those of the declared signals, and no others
+  pub letters-are : (a : ℕ) → (a ∈ lettersOf c) ↔ IsLetter c a
+  letters-are a =
+      let (to, from) = letters-exact a in
+      let (is, was) = letter-iff c (ho, hs, hh) a in
+      (λ m. is (to m), λ l. from (was l))

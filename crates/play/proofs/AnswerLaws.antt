@@ -7,10 +7,10 @@ use mathlib.Core.Path.{_≡_, refl, sym, ap₂, subst}
 use mathlib.Core.Logic.{_↔_, _⊎_, inl, inr}
 use mathlib.Core.Bool.{Bool, true, false, cond}
 use mathlib.Core.List.{List, flatMap}
-use lib.Dec.{eqb, ltb}
+use lib.Dec.{ltb}
 use lib.ListN.{length}
 use lib.Arith.{digits-lt, digits-div, digits-mod}
-use borrow.Author.Tests.{ltb-true, ltb-false, eqb-true, eq-eqb}
+use borrow.Author.Tests.{ltb-true, ltb-false}
 use Rattle.basics.specs.Says.{Says}
 use Rattle.basics.specs.Member.{_∈_}
 use Rattle.basics.specs.Reach.{closed, Reached, reached-first, reached-step}
@@ -27,13 +27,10 @@ use Rattle.basics.proofs.BoundedLaws.{first-passes, first-least}
 use Rattle.play.proofs.RankLaws.{In, HasRank}
 use Rattle.play.proofs.FiniteArena.{Closed}
 use Rattle.play.proofs.Optimality.{ordered, answer, descends, best-optimal, no-rank-unrealizable, verdict}
-use Rattle.play.proofs.LeastRanks.{takes-smallest}
+use Rattle.play.proofs.SmallestChoice.{takes-smallest}
 use Rattle.play.proofs.SameStrategy.{optimal-agree}
 use Rattle.play.proofs.RankedRows.{rows-listed, rows-ranked, rows-le, rank-lt-rows}
 use Rattle.play.proofs.TableLaws.{table-laid, table-is-best}
-
-pub eqb-says : (a b : ℕ) → Says (eqb a b) (a ≡ b)
-eqb-says a b = (eqb-true a b, eq-eqb a b)
 
 -- the moves have every pair of a choice and an observation
 pub moves-cover : (A : Arena) (same : A .K → A .K → Bool) (choices observations : ℕ) (k : A .K) (c s : ℕ) → c < choices → s < observations

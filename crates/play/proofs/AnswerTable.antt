@@ -4,7 +4,6 @@ use Prim.Native.Nat.{ℕ, _≤_, _<_}
 use native.Mathlib.Nat.{le-refl}
 use native.Mathlib.Omega.{arith}
 use mathlib.Core.Path.{_≡_, refl, sym, _∙_}
-use mathlib.Core.Logic.{_↔_}
 use mathlib.Core.Bool.{Bool, true, false, cond}
 use mathlib.Core.List.{List, []}
 use lib.Dec.{ltb}
@@ -15,7 +14,7 @@ use Rattle.basics.specs.Reach.{closed, reachable}
 use Rattle.play.specs.Limits.{sideLimit}
 use Rattle.play.specs.Cells.{stopCell}
 use Rattle.play.specs.Rank.{Arena}
-use Rattle.play.specs.History.{History, Possible, know}
+use Rattle.play.specs.History.{History}
 use Rattle.play.specs.Table.{followers, rows, tableCells}
 use Rattle.play.specs.IsTable.{RankIs, IsTable}
 use Rattle.play.specs.Answer.{positions, startRank, solved, unrealizable, verdictOf}
@@ -24,16 +23,14 @@ use Rattle.play.proofs.StepOrder.{StepOrder, setOrder}
 use Rattle.play.proofs.RankLaws.{In}
 use Rattle.play.proofs.Optimality.{answer, descends}
 use Rattle.play.proofs.RankedRows.{rows-listed}
+use Rattle.play.proofs.HistoryLaws.{Tells}
 use Rattle.play.proofs.AnswerLaws.{start-counted, move-counted}
 use Rattle.play.proofs.TableIs.{table-is, start-rank-is, only-table, only-rank}
 
 module _ (A : Arena) (same : A .K → A .K → Bool) (says : (a b : A .K) → Says (same a b) (a ≡ b)) (choices observations limit : ℕ)
     (some-observation : 0 < observations) (few-choices : choices < stopCell) (few-observations : observations ≤ sideLimit)
     (all : List (A .K)) (counted : positions A same choices observations limit ≡ closed all)
-    (Same : History → History → Type 0) (Final : History → Type 0)
-    (sames : (h k : History) → Possible choices observations h → Possible choices observations k
-    → Same h k ↔ (know A (A .start) h ≡ know A (A .start) k))
-    (finals : (h : History) → Possible choices observations h → Final h ↔ (A .final (know A (A .start) h) ≡ true)) where
+    (Same : History → History → Type 0) (Final : History → Type 0) (tells : Tells A choices observations Same Final) where
   abbrev n : ℕ
   n = length all
 
@@ -69,8 +66,8 @@ module _ (A : Arena) (same : A .K → A .K → Bool) (says : (a b : A .K) → Sa
       let (ranked, is-m, is-q, is-cells) = solved-is m q cells e in
       let (ks, l) = listed ranked in
       rw (is-m, is-q, is-cells) (
-        table-is A same says choices observations n some-observation few-choices few-observations ks l ranked Same Final sames finals,
-        start-rank-is A same says choices observations n some-observation few-choices few-observations ks l ranked Same Final sames finals,
+        table-is A same says choices observations n some-observation few-choices few-observations ks l ranked Same Final tells,
+        start-rank-is A same says choices observations n some-observation few-choices few-observations ks l ranked Same Final tells,
       )
 
   -- there is no other
@@ -81,6 +78,6 @@ module _ (A : Arena) (same : A .K → A .K → Bool) (says : (a b : A .K) → Sa
       let (ranked, is-m, is-q, is-cells) = solved-is m q cells e in
       let (ks, l) = listed ranked in
       let (same-k, same-t) =
-      only-table A same says choices observations n some-observation few-choices few-observations ks l ranked Same Final sames finals k t T in
-      let same-s = only-rank A same says choices observations n some-observation few-choices few-observations ks l ranked Same Final sames finals s R in
+      only-table A same says choices observations n some-observation few-choices few-observations ks l ranked Same Final tells k t T in
+      let same-s = only-rank A same says choices observations n some-observation few-choices few-observations ks l ranked Same Final tells s R in
       (same-k ∙ sym is-m, same-s ∙ sym is-q, same-t ∙ sym is-cells)

@@ -57,28 +57,28 @@ module _ (A : Arena) (same : A .K → A .K → Bool) (choices observations : ℕ
       (h ∷ hs, elim [ zero ↦ λ b. (v, e) | suc i ↦ λ b. rest i (omega arith) ])
 
   -- where two histories lead to the same exactly if the same is known after both
-  module _ (Counts : History → Type 0) (Same : History → History → Type 0)
-      (counts : (h : History) → Counts h ↔ Possible choices observations h)
+  module _ (Counted : History → Type 0) (Same : History → History → Type 0)
+      (counted : (h : History) → Counted h ↔ Possible choices observations h)
       (alike : (h k : History) → Possible choices observations h → Possible choices observations k
       → Same h k ↔ (know A (A .start) h ≡ know A (A .start) k)) where
-    pub at-least-iff : (n : ℕ) → AtLeast steps (A .start) n ↔ AtLeastBeliefs Counts Same n
+    pub at-least-iff : (n : ℕ) → AtLeast steps (A .start) n ↔ AtLeastBeliefs Counted Same n
     at-least-iff n = (to, back)
       where
-        to : AtLeast steps (A .start) n → AtLeastBeliefs Counts Same n
+        to : AtLeast steps (A .start) n → AtLeastBeliefs Counted Same n
         to l =
             let (hs, f) = histories (l .some) (λ x m. reached-after x (l .sound x m)) in
             let at : (i : ℕ) → i < n → _ = λ i b. f i (subst (λ k. i < k) (sym (l .count)) b) in
             record {
               history = λ i. getD hs i [];
-              counts = λ i b. counts (getD hs i []) .1 (at i b .0);
+              counted = λ i b. counted (getD hs i []) .1 (at i b .0);
               different = λ i j ib jb e.
                   distinct-index (l .distinct) i j (A .start) (subst (λ k. i < k) (sym (l .count)) ib) (subst (λ k. j < k) (sym (l .count)) jb)
                   (sym (at i ib .1) ∙ alike (getD hs i []) (getD hs j []) (at i ib .0) (at j jb .0) .0 e ∙ at j jb .1);
             }
 
-        back : AtLeastBeliefs Counts Same n → AtLeast steps (A .start) n
+        back : AtLeastBeliefs Counted Same n → AtLeast steps (A .start) n
         back l =
-            let v : (i : ℕ) → i < n → Possible choices observations (l .history i) = λ i b. counts (l .history i) .0 (l .counts i b) in
+            let v : (i : ℕ) → i < n → Possible choices observations (l .history i) = λ i b. counted (l .history i) .0 (l .counted i b) in
             let f : ℕ → A .K = λ i. know A (A .start) (l .history i) in
             record {
               some = tabulate n f;

@@ -11,13 +11,12 @@ use Rattle.basics.specs.Bounded.{all}
 use Rattle.basics.proofs.BoundedLaws.{any-at, any-of, all-at, all-of}
 use Rattle.basics.proofs.Booleans.{test, clash, or-cases, or-intro-left, or-intro-right}
 use Rattle.play.specs.Rank.{Arena, setFirst, RankOf, bestChoice}
-use Rattle.play.specs.Rank.{LeadsBelow as PositionLeads}
 use Rattle.play.specs.History.{History, Possible, onward, know}
 use Rattle.play.specs.IsTable.{RankBelow, RankIs, LeadsBelow, Takes}
 use Rattle.play.proofs.HistoryLaws.{possible-onward, know-onward}
 use Rattle.play.proofs.StepOrder.{StepOrder, setOrder}
 use Rattle.play.proofs.RankLaws.{In, within-le, rank-of}
-use Rattle.play.proofs.LeastRanks.{takes-smallest}
+use Rattle.play.proofs.SmallestChoice.{MovesBelow, takes-smallest}
 
 -- where final histories are those of final positions
 module _ (A : Arena) (choices observations : ℕ) (some-observation : 0 < observations) (Final : History → Type 0)
@@ -90,7 +89,7 @@ module _ (A : Arena) (choices observations : ℕ) (some-observation : 0 < observ
   )
 
   leads-iff : (h : History) → Can h → (r c : ℕ) → c < choices
-      → LeadsBelow choices observations Final r h c ↔ PositionLeads A choices observations (position h) r c
+      → LeadsBelow choices observations Final r h c ↔ MovesBelow A choices observations some-observation (position h) r c
   leads-iff h p zero c cb = (λ l s sb. absurd (l s sb), λ l s sb. absurd (not-suc-le-zero (l s sb .1)))
   leads-iff h p (suc r) c cb = (
     λ l s sb.

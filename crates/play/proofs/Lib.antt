@@ -2,7 +2,7 @@
 pub mod HistoryLaws
 pub mod StepOrder
 pub mod RankLaws
-pub mod LeastRanks
+pub mod SmallestChoice
 -- plans, which see their step's observation if the order lets them: the best one, and why none does better
 pub mod Plans
 pub mod UpperBound
@@ -19,6 +19,7 @@ pub mod SameStrategy
 pub mod RankedRows
 pub mod CellsLaws
 pub mod TableLaws
+pub mod IsTableLaws
 pub mod HistoryRanks
 pub mod OneTable
 pub mod TableIs

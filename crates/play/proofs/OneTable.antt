@@ -15,6 +15,7 @@ use Rattle.play.specs.Cells.{rowSize, nextAt, cell, firstCell, nextCell}
 use Rattle.play.specs.History.{History, Possible, onward}
 use Rattle.play.specs.IsTable.{RankBelow, RankIs, Takes, Before, MetFrom, IsTable}
 use Rattle.play.proofs.HistoryLaws.{possible-onward}
+use Rattle.play.proofs.IsTableLaws.{below-le}
 
 -- one pair of a row and an observation comes before the other, or they are equal
 either-before : (k u i s : ℕ) → Before k u i s ⊎ (Before i s k u ⊎ ((k ≡ i) × (u ≡ s)))
@@ -60,19 +61,6 @@ module _ (choices observations : ℕ) (Same : History → History → Type 0) (F
 
   -- ---- ranks and choices
 
-  below-suc : (r : ℕ) (h : History) → Below r h → Below (suc r) h
-  below-suc zero h b = absurd b
-  below-suc (suc r) h (inl f) = inl f
-  below-suc (suc r) h (inr (c, cb, l)) = inr (c, cb, λ s sb. below-suc r (onward h c s) (l s sb))
-
-  below-le : (q r : ℕ) (h : History) → q ≤ r → Below q h → Below r h
-  below-le q zero h l b = let z : q ≡ 0 = omega arith in subst (λ (n : ℕ). Below n h) z b
-  below-le q (suc r) h l b =
-      elim (decLe q r) [
-        | yes m ↦ below-suc r h (below-le q r h m b)
-        | no m ↦ let z : q ≡ suc r = omega arith in subst (λ (n : ℕ). Below n h) z b
-      ]
-
   below-same : (r : ℕ) (h k : History) → Can h → Can k → Same h k → Below r h → Below r k
   below-same zero h k p q e b = b
   below-same (suc r) h k p q e (inl f) = inl (C .finals h k p q e f)
@@ -86,7 +74,7 @@ module _ (choices observations : ℕ) (Same : History → History → Type 0) (F
 
   rank-le : (h k : History) (r q : ℕ) → Can h → Can k → Same h k → RankIs choices observations Final h r → RankIs choices observations Final k q → q ≤ r
   rank-le h k r q p p′ e a b =
-      elim (decLe q r) [ yes l ↦ l | no n ↦ absurd (b .1 (below-le (suc r) q k (omega arith) (below-same (suc r) h k p p′ e (a .0)))) ]
+      elim (decLe q r) [ yes l ↦ l | no n ↦ absurd (b .1 (below-le choices observations Final (suc r) q k (omega arith) (below-same (suc r) h k p p′ e (a .0)))) ]
 
   -- the same belief has one rank
   pub one-rank : (h k : History) (r q : ℕ) → Can h → Can k → Same h k → RankIs choices observations Final h r → RankIs choices observations Final k q → r ≡ q

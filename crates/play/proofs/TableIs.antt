@@ -4,7 +4,7 @@ use Prim.Native.Nat.{ℕ, zero, suc, _≤_, _<_}
 use native.Mathlib.Nat.{le-refl}
 use native.Mathlib.Omega.{arith}
 use mathlib.Core.Path.{_≡_, refl, sym, ap, ap₂, _∙_, subst}
-use mathlib.Core.Logic.{_↔_, inl, inr}
+use mathlib.Core.Logic.{inl, inr}
 use mathlib.Core.Bool.{Bool, true, false}
 use mathlib.Core.List.{List, [], flatMap}
 use lib.ListN.{length, getD}
@@ -27,10 +27,10 @@ use Rattle.play.specs.Answer.{startRank}
 use Rattle.play.specs.IsTable.{RankIs, Takes, Before, IsTable}
 use Rattle.play.proofs.StepOrder.{StepOrder, setOrder}
 use Rattle.play.proofs.RankLaws.{In}
-use Rattle.play.proofs.LeastRanks.{takes-smallest}
+use Rattle.play.proofs.SmallestChoice.{takes-smallest}
 use Rattle.play.proofs.RankedRows.{reached-all, followers-mem, some-row, first-row}
 use Rattle.play.proofs.TableLaws.{row-width, stop-row, choice-cell, stop-cell, unused-cell, next-row}
-use Rattle.play.proofs.HistoryLaws.{possible-onward, know-onward}
+use Rattle.play.proofs.HistoryLaws.{possible-onward, know-onward, Tells}
 use Rattle.play.proofs.HistoryRanks.{rank-iff, takes-best}
 use Rattle.play.proofs.OneTable.{Congruence, one-rank, one-table}
 
@@ -60,10 +60,7 @@ module _ (A : Arena) (same : A .K → A .K → Bool) (says : (a b : A .K) → Sa
     (some-observation : 0 < observations) (few-choices : choices < stopCell) (few-observations : observations ≤ sideLimit)
     (ks : List (A .K)) (listed : reachable same (followers A same choices observations n) (A .start) n ≡ closed ks)
     (ranked : startRank A same choices observations n < n)
-    (Same : History → History → Type 0) (Final : History → Type 0)
-    (sames : (h k : History) → Possible choices observations h → Possible choices observations k
-    → Same h k ↔ (know A (A .start) h ≡ know A (A .start) k))
-    (finals : (h : History) → Possible choices observations h → Final h ↔ (A .final (know A (A .start) h) ≡ true)) where
+    (Same : History → History → Type 0) (Final : History → Type 0) (tells : Tells A choices observations Same Final) where
   abbrev O : StepOrder choices observations
   O = setOrder choices observations
 
@@ -135,7 +132,7 @@ module _ (A : Arena) (same : A .K → A .K → Bool) (says : (a b : A .K) → Sa
   further i s h = onward h (firstCell table i) s
 
   module _ (history : ℕ → History) (along : Along (followers A same choices observations n) (A .start) [] further ks (length ks) history) where
-    first-cell : (i : ℕ) → i < length ks → A .final (at i) ≡ false → firstCell table i ≡ choice (at i)
+    abbrev first-cell : (i : ℕ) → i < length ks → A .final (at i) ≡ false → firstCell table i ≡ choice (at i)
     first-cell = choice-cell A same says choices observations n few-choices few-observations ks listed
 
     chosen : (i : ℕ) → i < length ks → A .final (at i) ≡ false → firstCell table i < choices
@@ -166,11 +163,11 @@ module _ (A : Arena) (same : A .K → A .K → Bool) (says : (a b : A .K) → Sa
     leads j b = row-below (suc j) j (le-refl _) b .1
 
     final-row : (i : ℕ) → i < length ks → Final (history i) → A .final (at i) ≡ true
-    final-row i b g = ap (A .final) (sym (leads i b)) ∙ finals (history i) (can i b) .0 g
+    final-row i b g = ap (A .final) (sym (leads i b)) ∙ tells .finals (history i) (can i b) .0 g
 
     other-row : (i : ℕ) → i < length ks → (¬ Final (history i)) → A .final (at i) ≡ false
     other-row i b g =
-        elim (test (A .final (at i))) [ inl t ↦ absurd (g (finals (history i) (can i b) .1 (ap (A .final) (leads i b) ∙ t))) | inr f ↦ f ]
+        elim (test (A .final (at i))) [ inl t ↦ absurd (g (tells .finals (history i) (can i b) .1 (ap (A .final) (leads i b) ∙ t))) | inr f ↦ f ]
 
     laid : IsTable choices observations Same Final (length ks) table
     laid =
@@ -179,7 +176,7 @@ module _ (A : Arena) (same : A .K → A .K → Bool) (says : (a b : A .K) → Sa
           history = history;
           start = (some-row A same says (λ k s. choice k) observations n ks listed, along .0);
           one-row = λ i j b c e.
-              same-index i j b c (sym (leads i b) ∙ sames (history i) (history j) (can i b) (can j c) .0 e ∙ leads j c);
+              same-index i j b c (sym (leads i b) ∙ tells .sames (history i) (history j) (can i b) (can j c) .0 e ∙ leads j c);
           met = λ j pos b.
               let (i, s, m, q) = along .1 j pos b in
               let (f, sb, e) = met-follows j i s pos b m in
@@ -206,13 +203,13 @@ module _ (A : Arena) (same : A .K → A .K → Bool) (says : (a b : A .K) → Sa
               let k : position (history i) ≡ at i = leads i b in
               record {
                 choice = subst (Takes choices observations Final (history i)) (ap choice k ∙ sym (first-cell i b f))
-                    (takes-best A choices observations some-observation Final finals n (history i) (can i b) q qb (ap (A .final) k ∙ f)
+                    (takes-best A choices observations some-observation Final (tells .finals) n (history i) (can i b) q qb (ap (A .final) k ∙ f)
                     (subst (λ (x : A .K). RankOf A choices observations x q) (sym k) a));
                 next = λ s sb.
                     let (jb, e) = next-row A same says choices observations n few-choices few-observations ks listed i b f s sb in
                     let j = nextCell table i s in (
                       jb,
-                      sames (history j) (onward (history i) (firstCell table i) s) (can j jb)
+                      tells .sames (history j) (onward (history i) (firstCell table i) s) (can j jb)
                           (possible-onward choices observations (history i) (firstCell table i) s (can i b) (chosen i b f) sb) .1
                           (leads j jb ∙ e ∙ sym (know-onward A (A .start) (history i) (firstCell table i) s
                           ∙ ap₂ (λ k c. A .move k c s) k (first-cell i b f))),
@@ -231,21 +228,21 @@ module _ (A : Arena) (same : A .K → A .K → Bool) (says : (a b : A .K) → Sa
 
   -- its worst case is the rank of the start
   pub start-rank-is : RankIs choices observations Final [] (startRank A same choices observations n)
-  start-rank-is = rank-iff A choices observations some-observation Final finals [] tt (startRank A same choices observations n) .1 start-rank
+  start-rank-is = rank-iff A choices observations some-observation Final (tells .finals) [] tt (startRank A same choices observations n) .1 start-rank
 
   -- beliefs that positions tell apart meet what is asked of them
   congruence : Congruence choices observations Same Final
   congruence =
       record {
-        reflexive = λ h p. sames h h p p .1 refl;
-        symmetric = λ h k p q e. sames k h q p .1 (sym (sames h k p q .0 e));
-        transitive = λ h k l p q r e d. sames h l p r .1 (sames h k p q .0 e ∙ sames k l q r .0 d);
+        reflexive = λ h p. tells .sames h h p p .1 refl;
+        symmetric = λ h k p q e. tells .sames k h q p .1 (sym (tells .sames h k p q .0 e));
+        transitive = λ h k l p q r e d. tells .sames h l p r .1 (tells .sames h k p q .0 e ∙ tells .sames k l q r .0 d);
         steps = λ h k p q e c s cb sb.
-            sames (onward h c s) (onward k c s) (possible-onward choices observations h c s p cb sb) (possible-onward choices observations k c s q cb sb) .1
-            (know-onward A (A .start) h c s ∙ ap (λ x. A .move x c s) (sames h k p q .0 e) ∙ sym (know-onward A (A .start) k c s));
-        finals = λ h k p q e f. finals k q .1 (ap (A .final) (sym (sames h k p q .0 e)) ∙ finals h p .0 f);
+            tells .sames (onward h c s) (onward k c s) (possible-onward choices observations h c s p cb sb) (possible-onward choices observations k c s q cb sb) .1
+            (know-onward A (A .start) h c s ∙ ap (λ x. A .move x c s) (tells .sames h k p q .0 e) ∙ sym (know-onward A (A .start) k c s));
+        finals = λ h k p q e f. tells .finals k q .1 (ap (A .final) (sym (tells .sames h k p q .0 e)) ∙ tells .finals h p .0 f);
         decided = λ h p.
-            elim (test (A .final (position h))) [ inl t ↦ inl (finals h p .1 t) | inr f ↦ inr (λ g. clash (finals h p .0 g) f) ];
+            elim (test (A .final (position h))) [ inl t ↦ inl (tells .finals h p .1 t) | inr f ↦ inr (λ g. clash (tells .finals h p .0 g) f) ];
       }
 
   -- and there is no other
@@ -257,4 +254,4 @@ module _ (A : Arena) (same : A .K → A .K → Bool) (says : (a b : A .K) → Sa
 
   pub only-rank : (r : ℕ) → RankIs choices observations Final [] r → r ≡ startRank A same choices observations n
   only-rank r a =
-      one-rank choices observations Same Final congruence [] [] r (startRank A same choices observations n) tt tt (sames [] [] tt tt .1 refl) a start-rank-is
+      one-rank choices observations Same Final congruence [] [] r (startRank A same choices observations n) tt tt (tells .sames [] [] tt tt .1 refl) a start-rank-is

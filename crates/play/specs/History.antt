@@ -27,9 +27,9 @@ know A k [] = k
 know A k (m ∷ h) = know A (A .move k (m .0) (m .1)) h
 
 -- there are at least n beliefs: n histories of those that count, no two of which lead to the same
-pub record AtLeastBeliefs (Counts : History → Type 0) (Same : History → History → Type 0) (n : ℕ) : Type 0 where
+pub record AtLeastBeliefs (Counted : History → Type 0) (Same : History → History → Type 0) (n : ℕ) : Type 0 where
   pub history : ℕ → History
-  pub counts : (i : ℕ) → i < n → Counts (history i)
+  pub counted : (i : ℕ) → i < n → Counted (history i)
   pub different : (i j : ℕ) → i < n → j < n → Same (history i) (history j) → i ≡ j
 
 module _ (G : Game) where

@@ -26,6 +26,10 @@ module _ (choices observations : ℕ) (Final : History → Type 0) where
   abbrev pub LeadsBelow : ℕ → History → ℕ → Type 0
   LeadsBelow r h c = (s : ℕ) → s < observations → RankBelow r (onward h c s)
 
+  -- some choice does so
+  abbrev pub HasChoice : ℕ → History → Type 0
+  HasChoice r h = (c : ℕ) × (c < choices) × LeadsBelow r h c
+
   -- its choice is c: the smallest after which every observation leads to a rank below its own
   abbrev pub Takes : History → ℕ → Type 0
   Takes h c = (c < choices) × (r : ℕ) × RankIs h r × LeadsBelow r h c × ((d : ℕ) → d < c → ¬ LeadsBelow r h d)

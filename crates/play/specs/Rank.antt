@@ -39,13 +39,6 @@ module _ (A : Arena) (choices observations : ℕ) where
   abbrev pub RankOf : A .K → ℕ → Type 0
   RankOf k r = Rank A (setFirst choices observations) k r
 
-  -- after the choice every observation leads to a rank below r
-  abbrev pub LeadsBelow : A .K → ℕ → ℕ → Type 0
-  LeadsBelow k r c = (s : ℕ) → s < observations → (q : ℕ) × (q < r) × RankOf (A .move k c s) q
-
-  abbrev pub HasChoice : A .K → ℕ → Type 0
-  HasChoice k r = (c : ℕ) × (c < choices) × LeadsBelow k r c
-
   -- the smallest choice after which every observation leads to a rank of at most r
   abbrev pub choiceWithin : ℕ → A .K → ℕ
   choiceWithin r k = firstThat (λ c. all observations (λ s. within A (setFirst choices observations) r (A .move k c s))) choices

@@ -6,22 +6,20 @@ use mathlib.Core.Path.{_≡_, refl, sym, ap, subst}
 use mathlib.Core.Logic.{inl, inr}
 use mathlib.Core.Bool.{Bool, true, false, cond}
 use mathlib.Core.List.{List, [], _∷_, _++_, flatMap}
-use lib.Dec.{ltb}
 use lib.ListN.{length, length-append}
-use borrow.Author.Tests.{ltb-true}
+use borrow.Author.Tests.{eqb-false}
 use Rattle.basics.specs.Bytes.{bytesOf}
 use Rattle.basics.specs.Limits.{kindLimit}
 use Rattle.play.specs.Limits.{beliefLimit, sideLimit}
 use Rattle.play.specs.Cells.{stopCell, firstCell, isStop, nextCell}
 use Rattle.tables.specs.declared.shape.Shape.{Shape}
 use Rattle.printer.specs.Limits.{textSize}
-use Rattle.printer.specs.WellFormed.{isAnswer, isRow, isPrintable}
+use Rattle.printer.specs.WellFormed.{GoodRow, isPrintable}
 use Rattle.basics.specs.Text.{decimal, field, line}
 use Rattle.printer.specs.Text.{nextFields, rowFields, rowText, rowsText, tableText}
-use Rattle.basics.proofs.Booleans.{clash, and-left, or-cases}
 use Rattle.basics.proofs.Stores.{Put, Rest, rest-all, rest-room, rest-next, Parts}
 use Rattle.basics.proofs.TextLaws.{turn, flat-length, line-parts, field-length, two-length}
-use Rattle.printer.proofs.WellFormedLaws.{printable-says, side-le, stops, moves, row-next}
+use Rattle.printer.proofs.WellFormedLaws.{printable-says, side-le, stops, moves}
 
 -- ---- what a row does, by its first cell
 
@@ -68,23 +66,19 @@ row-puts t shape row at x h = record { room = h; are = row-parts t shape row }
 -- ---- how long they can be
 
 -- a row: a tab and up to 2 digits for its choice, a tab and up to 3 for each next row
-module _ (t : List ℕ) (shape : Shape) (row : ℕ) (few : shape .rows ≤ beliefLimit) (seen : shape .observed ≤ kindLimit) (h : isRow t shape row ≡ true) where
-  choice-small : isStop t row ≡ false → firstCell t row < sideLimit
-  unfolding isRow
-  choice-small e =
-      elim (or-cases (ltb (firstCell t row) sideLimit) (isStop t row) (and-left (isAnswer (firstCell t row)) _ h)) [
-        | inl l ↦ ltb-true _ _ l
-        | inr s ↦ clash s e
-      ]
+module _ (t : List ℕ) (shape : Shape) (row : ℕ) (few : shape .rows ≤ beliefLimit) (seen : shape .observed ≤ kindLimit) (g : GoodRow t shape row) where
+  choice-small : (¬ (firstCell t row ≡ stopCell)) → firstCell t row < sideLimit
+  choice-small m = elim (g .answer) [ inl l ↦ l | inr s ↦ absurd (m s) ]
 
   moves-length : isStop t row ≡ false → length (field (decimal (firstCell t row)) ++ flatMap field (nextFields t row (2 ^ (shape .observed)))) ≤ 67
   moves-length e =
+      let m = eqb-false (firstCell t row) stopCell e in
       omega (
         arith,
         length-append (field (decimal (firstCell t row))) (flatMap field (nextFields t row (2 ^ (shape .observed)))),
-        field-length 1 (firstCell t row) (omega (arith, choice-small e)),
+        field-length 1 (firstCell t row) (omega (arith, choice-small m)),
         flat-length field (2 ^ (shape .observed)) 4 (λ s. decimal (nextCell t row s))
-            (λ s l. field-length 2 (nextCell t row s) (omega (arith, row-next t shape row s h e l))),
+            (λ s l. field-length 2 (nextCell t row s) (omega (arith, g .next m s l .0))),
         side-le (shape .observed) seen,
       )
 
@@ -111,14 +105,14 @@ module _ (t : List ℕ) (shape : Shape) (row : ℕ) (few : shape .rows ≤ belie
 -- the text of a printable table has room
 pub text-fits : (t : List ℕ) (shape : Shape) (worst : ℕ) → isPrintable t shape worst ≡ true → length (tableText t shape worst) ≤ textSize
 text-fits t shape worst h =
-    let p = printable-says t shape worst h in
+    let p = printable-says t shape worst .0 h in
     let few = p .sized .few in
-    let low = p .low in
+    let below = p .below in
     omega (
       arith,
       length-append (line (bytesOf "table") (decimal (shape .rows) ∷ decimal worst ∷ [])) (rowsText t shape (shape .rows)),
       two-length (bytesOf "table") 2 (shape .rows) worst (omega arith) (omega arith),
-      flat-length (rowText t shape) (shape .rows) 75 (λ row. row) (λ row l. row-length t shape row few (p .sized .seen) (p .each row l) l),
+      flat-length (rowText t shape) (shape .rows) 75 (λ row. row) (λ row l. row-length t shape row few (p .sized .seen) (p .each row l .good) l),
     )
 
 -- a line of two numbers that a machine word holds has room too: they have at most 20 digits

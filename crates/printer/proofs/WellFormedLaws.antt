@@ -1,6 +1,7 @@
--- The tests of a table: in the shape in which the code makes them, and what they tell where they pass.
+-- The tests of a table: in the shape in which the code makes them, and what they say.
 -- Assumes nothing.
 use Prim.Native.Nat.{ℕ, _+_, _*_, _^_, _%_, _≤_, _<_}
+use native.Mathlib.Nat.{not-suc-le-zero}
 use native.Mathlib.Omega.{arith}
 use mathlib.Core.Path.{_≡_, refl, sym, ap, ap₂, _∙_}
 use mathlib.Core.Logic.{_⊎_, inl, inr}
@@ -16,8 +17,11 @@ use Rattle.play.specs.Limits.{beliefLimit, sideLimit}
 use Rattle.play.specs.Cells.{rowSize, stopCell, firstCell, isStop, nextCell}
 use Rattle.tables.specs.declared.shape.Shape.{Shape}
 use Rattle.basics.specs.Bounded.{all}
-use Rattle.basics.proofs.BoundedLaws.{all-at, all-fails, all-more, all-done}
-use Rattle.basics.proofs.Booleans.{test, and-left, and-right, or-cases, or-left, or-right}
+use Rattle.basics.specs.Says.{Says}
+use Rattle.basics.proofs.BoundedLaws.{all-fails, all-more, all-done, all-says}
+use Rattle.basics.proofs.Booleans.{test, or-cases, or-left, or-right, or-intro-left, or-intro-right}
+use Rattle.basics.proofs.SaysLaws.{says-and, says-or, lt-says, le-says}
+use Rattle.printer.specs.WellFormed.{Sized, IsAnswer, GoodRow, Unused, PrintableRow, Printable}
 use Rattle.printer.specs.WellFormed.{isSized, isAnswer, isNext, nextCount, isRow, isBlank, isPrintableRow, isPrintable}
 
 -- the values of four signals at most
@@ -125,19 +129,6 @@ module _ (t : List ℕ) (shape : Shape) (row : ℕ) where
     pub row-passes : (s : ℕ) → s ≤ n → n ≤ s → all s leadsOn ≡ true → true ≡ isRow t shape row
     row-passes s h g l = sym (row-is ∙ all-done s n leadsOn (omega arith) l)
 
--- what a row leads to
-row-leads : (t : List ℕ) (shape : Shape) (row s : ℕ) → isRow t shape row ≡ true → isStop t row ≡ false → s < 2 ^ (shape .observed)
-    → isNext t shape (nextCell t row s) ≡ true
-unfolding isRow
-row-leads t shape row s e f h =
-    all-at (2 ^ (shape .observed)) (λ i. isNext t shape (nextCell t row i))
-    (ap (λ b. all (cond b 0 (2 ^ (shape .observed))) (λ i. isNext t shape (nextCell t row i))) (sym f) ∙ and-right (isAnswer (firstCell t row)) _ e) s h
-
-pub row-next : (t : List ℕ) (shape : Shape) (row s : ℕ) → isRow t shape row ≡ true → isStop t row ≡ false → s < 2 ^ (shape .observed)
-    → nextCell t row s < shape .rows
-row-next t shape row s e f h =
-    ltb-true (nextCell t row s) (shape .rows) (and-left _ (isAnswer (firstCell t (nextCell t row s))) (row-leads t shape row s e f h))
-
 -- ---- the unused cells of a row, which has n next rows
 
 module _ (t : List ℕ) (row n : ℕ) where
@@ -190,35 +181,97 @@ module _ (t : List ℕ) (shape : Shape) where
       → true ≡ all (shape .rows) (isPrintableRow t shape)
   rows-pass row h g l = sym (all-done row (shape .rows) (isPrintableRow t shape) (omega arith) l)
 
-pub record Sized (cells : ℕ) (shape : Shape) : Type 0 where
-  pub some : 0 < shape .rows
-  pub few : shape .rows ≤ beliefLimit
-  pub room : shape .rows * rowSize ≤ cells
-  pub seen : shape .observed ≤ kindLimit
+-- ---- what the tests say
 
-pub sized-says : (cells : ℕ) (shape : Shape) → isSized cells shape ≡ true → Sized cells shape
-sized-says cells shape h =
-    let three = and-left (ltb 0 (shape .rows) && leb (shape .rows) beliefLimit && leb (shape .rows * rowSize) cells) _ h in
-    let two = and-left (ltb 0 (shape .rows) && leb (shape .rows) beliefLimit) _ three in
-    record {
-      some = ltb-true _ _ (and-left (ltb 0 (shape .rows)) _ two);
-      few = leb-true _ _ (and-right (ltb 0 (shape .rows)) _ two);
-      room = leb-true _ _ (and-right (ltb 0 (shape .rows) && leb (shape .rows) beliefLimit) _ three);
-      seen = leb-true _ _ (and-right (ltb 0 (shape .rows) && leb (shape .rows) beliefLimit && leb (shape .rows * rowSize) cells) _ h);
-    }
+module _ (cells : ℕ) (shape : Shape) where
+  four : Says (isSized cells shape)
+      ((((0 < shape .rows) × (shape .rows ≤ beliefLimit)) × (shape .rows * rowSize ≤ cells)) × (shape .observed ≤ kindLimit))
+  four =
+      says-and (says-and (says-and (lt-says 0 (shape .rows)) (le-says (shape .rows) beliefLimit)) (le-says (shape .rows * rowSize) cells))
+      (le-says (shape .observed) kindLimit)
 
-pub record Printable (t : List ℕ) (shape : Shape) (worst : ℕ) : Type 0 where
-  pub sized : Sized (length t) shape
-  pub low : worst < shape .rows
-  pub each : (row : ℕ) → row < shape .rows → isRow t shape row ≡ true
+  pub sized-says : Says (isSized cells shape) (Sized cells shape)
+  sized-says = (
+    λ e. let p = four .0 e in record { some = p .0 .0 .0; few = p .0 .0 .1; room = p .0 .1; seen = p .1 },
+    λ s. four .1 (((s .some, s .few), s .room), s .seen),
+  )
 
-pub printable-says : (t : List ℕ) (shape : Shape) (worst : ℕ) → isPrintable t shape worst ≡ true → Printable t shape worst
-unfolding isPrintable isPrintableRow
-printable-says t shape worst h =
-    let two = and-left (isSized (length t) shape && ltb worst (shape .rows)) _ h in
-    let all-rows = and-right (isSized (length t) shape && ltb worst (shape .rows)) _ h in
-    record {
-      sized = sized-says (length t) shape (and-left (isSized (length t) shape) _ two);
-      low = ltb-true _ _ (and-right (isSized (length t) shape) _ two);
-      each = λ row l. and-left (isRow t shape row) (isBlank t shape row) (all-at (shape .rows) _ all-rows row l);
-    }
+answer-says : (c : ℕ) → Says (isAnswer c) (IsAnswer c)
+answer-says c = says-or (lt-says c sideLimit) (eqb-true c stopCell, eq-eqb c stopCell)
+
+module _ (t : List ℕ) (shape : Shape) (row : ℕ) where
+  abbrev Stops : Type 0
+  Stops = firstCell t row ≡ stopCell
+
+  -- the next cells that are used, and the others
+  used-says : (s : ℕ) → Says (ltb s (nextCount t shape row)) ((¬ Stops) × (s < 2 ^ (shape .observed)))
+  used-says s =
+      elim (test (isStop t row)) [
+        | inl e ↦ rw e (λ l. absurd (not-suc-le-zero (ltb-true s 0 l)), λ u. absurd (u .0 (eqb-true (firstCell t row) stopCell e)))
+        | inr f ↦ rw f (λ l. (eqb-false (firstCell t row) stopCell f, ltb-true s (2 ^ (shape .observed)) l), λ u. lt-ltb s (2 ^ (shape .observed)) (u .1))
+      ]
+
+  unused : (s : ℕ) → ltb s (nextCount t shape row) ≡ false → Unused t shape row s
+  unused s e =
+      elim (test (isStop t row)) [
+        | inl i ↦ inl (eqb-true (firstCell t row) stopCell i)
+        | inr f ↦ inr (ltb-false s (2 ^ (shape .observed)) (rw f at e))
+      ]
+
+  -- where observation s leads
+  abbrev Next : ℕ → Type 0
+  Next s = (nextCell t row s < shape .rows) × IsAnswer (firstCell t (nextCell t row s))
+
+  row-tests : Says (isRow t shape row) (IsAnswer (firstCell t row) × ((s : ℕ) → s < nextCount t shape row → Next s))
+  unfolding isRow
+  row-tests =
+      says-and (answer-says (firstCell t row))
+      (all-says (nextCount t shape row) (λ s. isNext t shape (nextCell t row s)) Next
+      (λ s. says-and (lt-says (nextCell t row s) (shape .rows)) (answer-says (firstCell t (nextCell t row s)))))
+
+  pub row-says : Says (isRow t shape row) (GoodRow t shape row)
+  row-says = (
+    λ e. let p = row-tests .0 e in
+        record { answer = p .0; next = λ m s h. p .1 s (ltb-true s (nextCount t shape row) (used-says s .1 (m, h))) },
+    λ g. row-tests .1 (g .answer, λ s h. let u = used-says s .0 (lt-ltb s (nextCount t shape row) h) in g .next (u .0) s (u .1)),
+  )
+
+  blank-at : (s : ℕ) → Says (ltb s (nextCount t shape row) || eqb (nextCell t row s) 0) (Unused t shape row s → nextCell t row s ≡ 0)
+  blank-at s = (to, from)
+    where
+      to : (ltb s (nextCount t shape row) || eqb (nextCell t row s) 0) ≡ true → Unused t shape row s → nextCell t row s ≡ 0
+      to e u =
+          elim (or-cases (ltb s (nextCount t shape row)) (eqb (nextCell t row s) 0) e) [
+            | inl l ↦ let (m, h) = used-says s .0 l in absurd (elim u [ inl i ↦ m i | inr o ↦ omega arith ])
+            | inr z ↦ eqb-true (nextCell t row s) 0 z
+          ]
+
+      from : (Unused t shape row s → nextCell t row s ≡ 0) → (ltb s (nextCount t shape row) || eqb (nextCell t row s) 0) ≡ true
+      from z =
+          elim (test (ltb s (nextCount t shape row))) [
+            | inl l ↦ or-intro-left (eqb (nextCell t row s) 0) l
+            | inr f ↦ or-intro-right (ltb s (nextCount t shape row)) (eq-eqb (nextCell t row s) 0 (z (unused s f)))
+          ]
+
+  print-tests : Says (isPrintableRow t shape row) (GoodRow t shape row × ((s : ℕ) → s < sideLimit → Unused t shape row s → nextCell t row s ≡ 0))
+  unfolding isPrintableRow isBlank
+  print-tests =
+      says-and row-says
+      (all-says sideLimit (λ s. ltb s (nextCount t shape row) || eqb (nextCell t row s) 0) (λ s. Unused t shape row s → nextCell t row s ≡ 0) blank-at)
+
+  printable-row-says : Says (isPrintableRow t shape row) (PrintableRow t shape row)
+  printable-row-says = (λ e. let p = print-tests .0 e in record { good = p .0; blank = p .1 }, λ g. print-tests .1 (g .good, g .blank))
+
+module _ (t : List ℕ) (shape : Shape) (worst : ℕ) where
+  three : Says (isPrintable t shape worst)
+      ((Sized (length t) shape × (worst < shape .rows)) × ((row : ℕ) → row < shape .rows → PrintableRow t shape row))
+  unfolding isPrintable
+  three =
+      says-and (says-and (sized-says (length t) shape) (lt-says worst (shape .rows)))
+      (all-says (shape .rows) (isPrintableRow t shape) (PrintableRow t shape) (printable-row-says t shape))
+
+  pub printable-says : Says (isPrintable t shape worst) (Printable t shape worst)
+  printable-says = (
+    λ e. let p = three .0 e in record { sized = p .0 .0; below = p .0 .1; each = p .1 },
+    λ p. three .1 ((p .sized, p .below), p .each),
+  )

@@ -1,6 +1,8 @@
--- What a table must be: the tests of number 13 of document 01. The printer holds every row to them, the cabinet the row it stands on.
+-- What a table must be, where number 13 of document 01 is not met, and the tests of it. The printer holds every row to them, the cabinet the row it stands on.
 -- Assumes nothing.
-use Prim.Native.Nat.{ℕ, _*_, _^_}
+use Prim.Native.Nat.{ℕ, _*_, _^_, _≤_, _<_}
+use mathlib.Core.Path.{_≡_}
+use mathlib.Core.Logic.{_⊎_}
 use mathlib.Core.Bool.{Bool, cond, _&&_, _||_}
 use mathlib.Core.List.{List}
 use lib.Dec.{eqb, leb, ltb}
@@ -10,6 +12,41 @@ use Rattle.play.specs.Limits.{beliefLimit, sideLimit}
 use Rattle.play.specs.Cells.{rowSize, stopCell, firstCell, isStop, nextCell}
 use Rattle.tables.specs.declared.shape.Shape.{Shape}
 use Rattle.basics.specs.Bounded.{all}
+
+-- ---- what a table must be
+
+-- the row count, how many cells there are, and the number of observed signals
+pub record Sized (cells : ℕ) (shape : Shape) : Type 0 where
+  pub some : 0 < shape .rows
+  pub few : shape .rows ≤ beliefLimit
+  pub room : shape .rows * rowSize ≤ cells
+  pub seen : shape .observed ≤ kindLimit
+
+-- a row's first cell: a choice, or stop
+abbrev pub IsAnswer : ℕ → Type 0
+IsAnswer c = (c < sideLimit) ⊎ (c ≡ stopCell)
+
+-- a row that the cabinet may stand on: if it is no stop row, every possible observation leads to a row of the table, and that has a choice or stop
+pub record GoodRow (t : List ℕ) (shape : Shape) (row : ℕ) : Type 0 where
+  pub answer : IsAnswer (firstCell t row)
+  pub next : (¬ (firstCell t row ≡ stopCell)) → (s : ℕ) → s < 2 ^ (shape .observed)
+      → (nextCell t row s < shape .rows) × IsAnswer (firstCell t (nextCell t row s))
+
+-- the unused next cells: all those of a stop row, else those of no possible observation
+abbrev pub Unused : List ℕ → Shape → ℕ → ℕ → Type 0
+Unused t shape row s = (firstCell t row ≡ stopCell) ⊎ (2 ^ (shape .observed) ≤ s)
+
+pub record PrintableRow (t : List ℕ) (shape : Shape) (row : ℕ) : Type 0 where
+  pub good : GoodRow t shape row
+  pub blank : (s : ℕ) → s < sideLimit → Unused t shape row s → nextCell t row s ≡ 0
+
+-- a table that is printed: every row is one, and the worst case is below the row count
+pub record Printable (t : List ℕ) (shape : Shape) (worst : ℕ) : Type 0 where
+  pub sized : Sized (length t) shape
+  pub below : worst < shape .rows
+  pub each : (row : ℕ) → row < shape .rows → PrintableRow t shape row
+
+-- ---- the tests
 
 -- the row count, how many cells there are, and the number of observed signals
 abbrev pub isSized : ℕ → Shape → Bool

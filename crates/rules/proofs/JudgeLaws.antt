@@ -30,7 +30,7 @@ use Rattle.rules.proofs.TraceLaws.{verdict-holds}
 use Rattle.rules.proofs.WithinLimits.{read-within, read-held}
 use Rattle.rules.specs.Within.{Within}
 use Rattle.formula.proofs.CodesLaws.{Held}
-use Rattle.rules.proofs.JudgedAsLaws.{judged-as}
+use Rattle.rules.proofs.JudgedIffDue.{judged-as}
 use Rattle.rules.proofs.ReadingLaws.{not-refused, same-sizes, same-refusal}
 
 -- a refusal is handed on
@@ -102,6 +102,12 @@ module _ {o : Outcome} {s : Sizes} {codes : List ℕ} (t : Taken o s codes) wher
       ∙ ap (λ (x : Sizes). verdictOn (countsOf x) π (holds φ π)) (t .sizes))
 
 -- ---- the call
+
+pub work-kept : (w : List ℕ) → length w < workSize → workAfter w ≡ w
+work-kept w h = rw (lt-ltb (length w) workSize h) refl
+
+pub work-cleared : (w : List ℕ) → workSize ≤ length w → workAfter w ≡ replicate (length w) 0
+work-cleared w h = rw (le-ltb (length w) workSize h) refl
 
 module _ (source work : List ℕ) (π : Trace) where
   abbrev Judged : Verdict → Type 0

@@ -5,13 +5,13 @@ pub mod LineTests
 pub mod LineMeaning
 pub mod DenotesLaws
 pub mod RefusesLaws
+pub mod ReadIffDue
 pub mod ProblemLaws
 pub mod WithinLimits
-pub mod ReadingNumbers
 pub mod ReadingLaws
 -- judging a trace
 pub mod TraceLaws
-pub mod JudgedAsLaws
+pub mod JudgedIffDue
 pub mod JudgeLaws
 -- the front page
 pub mod Main

@@ -7,20 +7,20 @@ use mathlib.Core.Bool.{true, false, not}
 use mathlib.Core.List.{List}
 use lib.ListN.{length, length-set}
 use Rattle.basics.specs.Says.{Says}
+use Rattle.basics.proofs.SaysLaws.{says-false}
 use borrow.Author.Tests.{not-false, not-true}
 use Rattle.grammar.specs.Lex.{tokens}
 use Rattle.grammar.specs.Parse.{Res, none, some, parseFormula}
 use Rattle.grammar.specs.Names.{Name, bits}
 use Rattle.formula.specs.Formula.{Formula}
 use Rattle.grammar.proofs.ReadIffDerived.{sound, found, refused-iff}
-use Rattle.basics.proofs.Booleans.{test, clash}
+use Rattle.basics.proofs.Booleans.{test, clash, cond-elim}
 use Rattle.lines.specs.declared.refusal.Refusal.{Refusal}
 use Rattle.lines.specs.declared.refusal.Refusal.the-variants.{BadLine, NameTwice, TooManySignals, BadFormula, UnknownName, TooManyParts}
 use Rattle.lines.specs.declared.problem.Kind.{Kind}
 use Rattle.lines.specs.Refusal.{numberOf, placeOf}
 use Rattle.lines.specs.Lines.{declareLine, ruleLine, isName, isText}
 use Rattle.lines.specs.Effect.{Signals, withSignal, isDeclared, isFull, allDeclared, isLarge, Effect, declares, states, refuses, declareEffect, readEffect, stateEffect}
-use Rattle.lines.proofs.EffectLaws.{pick-elim}
 use Rattle.lines.proofs.LineCases.{LineCase, same-name, same-text, not-both, line-case, declare-line, rule-line}
 use Rattle.lines.proofs.LineCases as case
 use Rattle.rules.specs.Problem.{Draft, partCount, operatorCount, withDeclared, withFormula, Outcome, after, effectAfter, blank}
@@ -61,15 +61,15 @@ module _ (d : Draft) (s : Sound (d .signals)) (line : ℕ) where
   unfolding declareEffect
   declare-said k name =
       let S = Said (declareLine k name) in
-      pick-elim S (not (isName name)) _ _
+      cond-elim S (not (isName name)) _ _
       (λ b. (
         bad-line (λ j x e t. clash (subst (λ y. isName y ≡ true) (sym (same-name k j name x e)) t) (not-true _ b))
             (λ x e. absurd (not-both k name x e)),
         refl,
       ))
-      (λ b. pick-elim S (isDeclared (d .signals) name) _ _ (λ t. (name-twice k name (not-false _ b) (declares-says name .0 t), refl))
+      (λ b. cond-elim S (isDeclared (d .signals) name) _ _ (λ t. (name-twice k name (not-false _ b) (declares-says name .0 t), refl))
       (λ f. let new : ¬ IsDeclared (d .signals) name = λ m. clash (declares-says name .1 m) f in
-      pick-elim S (isFull k (d .signals)) _ _
+      cond-elim S (isFull k (d .signals)) _ _
       (λ t. (too-many-signals k name (not-false _ b) new (λ w. clash t (few-room (d .signals) k name w)), refl))
       (λ r. declared k name (not-false _ b) new (few-more (d .signals) (s .few) k name r))))
 
@@ -79,17 +79,17 @@ module _ (d : Draft) (s : Sound (d .signals)) (line : ℕ) where
   read-said text t (some a next) e =
       let S = Said (ruleLine text) in
       let derived = sound text a next e in
-      pick-elim S (not (allDeclared (d .signals) text (tokens text 0))) _ _
+      cond-elim S (not (allDeclared (d .signals) text (tokens text 0))) _ _
       (λ b. (unknown-name text a t derived (λ f. clash (knows-says text .1 f) (not-true _ b)), refl))
       (λ b. let known = knows-says text .0 (not-false _ b) in
-      pick-elim S (isLarge (partCount d) (operatorCount d) (statedFormula d text a)) _ _
+      cond-elim S (isLarge (partCount d) (operatorCount d) (statedFormula d text a)) _ _
       (λ l. (too-many-parts text a t derived known (λ f. clash l (fits-small d (statedFormula d text a) f)), refl))
       (λ l. stated text a t derived known (small-fits d (statedFormula d text a) l)))
 
   state-said : (text : List ℕ) → Said (ruleLine text) (stateEffect line text (d .signals) (partCount d) (operatorCount d))
   unfolding stateEffect
   state-said text =
-      pick-elim (Said (ruleLine text)) (not (isText text)) _ _
+      cond-elim (Said (ruleLine text)) (not (isText text)) _ _
       (λ b. (
         bad-line (λ k name e. absurd (not-both k name text (sym e))) (λ x e t. clash (subst (λ y. isText y ≡ true) (sym (same-text text x e)) t)
             (not-true _ b)),
@@ -115,7 +115,7 @@ module _ (d : Draft) (s : Sound (d .signals)) (line : ℕ) where
   -- ---- and the other way round
 
   new-test : (name : Name) → ¬ IsDeclared (d .signals) name → isDeclared (d .signals) name ≡ false
-  new-test name n = elim (test (isDeclared (d .signals) name)) [ inl t ↦ absurd (n (declares-says name .0 t)) | inr f ↦ f ]
+  new-test name n = says-false (declares-says name) n
 
   pub read-after : {bytes : List ℕ} {d′ : Draft} (f : Draft → Outcome) → Reads d bytes d′ → after (effectAfter line bytes d) d f ≡ f d′
   unfolding declareEffect stateEffect
@@ -140,7 +140,7 @@ module _ (d : Draft) (s : Sound (d .signals)) (line : ℕ) where
   full-test k name n = elim (test (isFull k (d .signals))) [ inl t ↦ t | inr f ↦ absurd (n (few-more (d .signals) (s .few) k name f)) ]
 
   unknown-test : (text : List ℕ) → ¬ AllDeclared (d .signals) text → allDeclared (d .signals) text (tokens text 0) ≡ false
-  unknown-test text n = elim (test (allDeclared (d .signals) text (tokens text 0))) [ inl t ↦ absurd (n (knows-says text .0 t)) | inr f ↦ f ]
+  unknown-test text n = says-false (knows-says text) n
 
   large-test : (φ : Formula) → ¬ Fits (withFormula φ d) → isLarge (partCount d) (operatorCount d) φ ≡ true
   large-test φ n = elim (test (isLarge (partCount d) (operatorCount d) φ)) [ inl t ↦ t | inr f ↦ absurd (n (small-fits d φ f)) ]

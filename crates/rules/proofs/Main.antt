@@ -4,7 +4,7 @@ use mathlib.Core.Path.{_≡_}
 use mathlib.Core.Logic.{_↔_, _⊎_}
 use mathlib.Core.Bool.{true}
 use mathlib.Core.List.{List}
-use lib.ListN.{length}
+use lib.ListN.{length, replicate}
 use Rattle.grammar.specs.Names.{Name, indexOf}
 use Rattle.formula.specs.Formula.{Formula}
 use Rattle.formula.specs.Letter.{Counts, IsLetter, isLetter}
@@ -20,21 +20,24 @@ use Rattle.lines.specs.Refusal.{numberOf, placeOf, Told}
 use Rattle.lines.specs.Effect.{Signals, count, firstBit, withSignal}
 use Rattle.rules.specs.declared.judging.Verdict.the-variants.{True, False, Refused}
 use Rattle.rules.specs.Limits.{workSize}
-use Rattle.rules.specs.Problem.{Problem, formulaIn, problemParts, accepted, refused, readProblem}
+use Rattle.rules.specs.Problem.{Draft, Problem, formulaIn, problemParts, accepted, refused, blank, readProblem}
 use Rattle.rules.specs.Satisfies.{Satisfies}
 use Rattle.rules.specs.Within.{Few, Named, Within}
-use Rattle.rules.specs.Denotes.{IsDeclared, Denotes}
+use Rattle.rules.specs.Denotes.{IsDeclared, Reads, Denotes}
 use Rattle.rules.specs.Refuses.{Refuses}
 use Rattle.rules.specs.Trace.{RightLength, IsTrace, FirstBad}
-use Rattle.rules.specs.Judge.{countsIn, judged, toldVerdict, JudgedAs}
+use Rattle.rules.specs.Reading.{readingOf, toldReading, ReadAs}
+use Rattle.rules.specs.Judge.{countsIn, judged, workAfter, toldVerdict, JudgedAs}
 use Rattle.formula.proofs.Agreement
 use Rattle.formula.proofs.LetterLaws
 use Rattle.rules.proofs.SatisfiesLaws
 use Rattle.rules.proofs.ProblemLaws
 use Rattle.rules.proofs.DenotesLaws
 use Rattle.rules.proofs.RefusesLaws
+use Rattle.rules.proofs.ReadIffDue
 use Rattle.rules.proofs.WithinLimits
-use Rattle.rules.proofs.JudgedAsLaws
+use Rattle.rules.proofs.JudgeLaws
+use Rattle.rules.proofs.JudgedIffDue
 
 -- ---- a problem's text
 
@@ -46,6 +49,10 @@ module _ (source : List ℕ) where
   -- and a refusal is given exactly where document 01's table has its number and its place
   pub refusing : (r : Refusal) → (readProblem source ≡ refused r) ↔ Refuses source (numberOf r) (placeOf r)
   refusing = RefusesLaws.refused-iff source
+
+  -- both in document 01's terms: the numbers of signals, parts and operators, or a refusal's number and place
+  pub read-as : (a : Told) → (toldReading (readingOf (readProblem source)) ≡ a) ↔ ReadAs source a
+  read-as = ReadIffDue.read-iff source
 
   -- a text denotes a problem or is refused, and not both
   pub denotes-or-refuses : ((p : Problem) × Denotes source p) ⊎ ((number place : ℕ) × Refuses source number place)
@@ -65,7 +72,13 @@ module _ (source : List ℕ) where
   pub limits : (p : Problem) → readProblem source ≡ accepted p → Within p
   limits = WithinLimits.read-within source
 
--- so a name over 12 bytes is unknown
+-- after each line no signal has a name over 12 bytes, so one in a rule is unknown there
+pub named-first : Named (blank .signals)
+named-first = WithinLimits.named-blank
+
+pub named-next : {d d′ : Draft} {l : List ℕ} → Named (d .signals) → Reads d l d′ → Named (d′ .signals)
+named-next = WithinLimits.named-reads
+
 pub long-name : (g : Signals) → Named g → (name : Name) → nameLimit < length name → ¬ IsDeclared g name
 long-name = WithinLimits.long-unknown
 
@@ -78,21 +91,32 @@ next-bit = WithinLimits.next-bit
 
 -- a trace is judged exactly as document 01 asks, refusals included
 pub judging : (work : ℕ) (source : List ℕ) (π : Trace) (a : Told) → (toldVerdict (judged work source π) ≡ a) ↔ JudgedAs work source π a
-judging = JudgedAsLaws.judged-iff
+judging = JudgedIffDue.judged-iff
 
 -- verdict by verdict, in enough memory
 module _ (work : ℕ) (source : List ℕ) (π : Trace) (enough : workSize ≤ work) where
   pub judged-true : (judged work source π ≡ True) ↔ ((p : Problem) × Denotes source p × IsTrace (countsIn (p .signals)) π × Satisfies π p)
-  judged-true = JudgedAsLaws.true-iff work source π enough
+  judged-true = JudgedIffDue.true-iff work source π enough
 
   pub judged-false : (judged work source π ≡ False) ↔ ((p : Problem) × Denotes source p × IsTrace (countsIn (p .signals)) π × (¬ Satisfies π p))
-  judged-false = JudgedAsLaws.false-iff work source π enough
+  judged-false = JudgedIffDue.false-iff work source π enough
 
   pub judged-bad : (step : ℕ) → (judged work source π ≡ Refused (BadTrace step))
       ↔ ((p : Problem) × Denotes source p × (((step ≡ 0) × ¬ RightLength π) ⊎ (RightLength π × FirstBad (countsIn (p .signals)) π step)))
-  judged-bad = JudgedAsLaws.bad-trace-iff work source π enough
+  judged-bad = JudgedIffDue.bad-trace-iff work source π enough
+
+-- work memory that is too short stays as it was, and any other is all zero afterwards
+pub work-kept : (w : List ℕ) → length w < workSize → workAfter w ≡ w
+work-kept = JudgeLaws.work-kept
+
+pub work-cleared : (w : List ℕ) → workSize ≤ length w → workAfter w ≡ replicate (length w) 0
+work-cleared = JudgeLaws.work-cleared
 
 -- ---- what is executed
+
+-- a problem is satisfied where its joined rules are true at the first step
+pub joined-rules : (π : Trace) (p : Problem) → Satisfies π p ↔ Sat π 0 (formulaIn p)
+joined-rules = SatisfiesLaws.satisfies-formula
 
 -- the evaluator is the published relation
 pub evaluator : (φ : Formula) (π : Trace) → 0 < length π → (holds φ π ≡ true) ↔ Sat π 0 φ

@@ -60,6 +60,18 @@ module _ (g : Signals) (named : Named g) where
       below Observed w = omega (arith, w .observed, named .all)
       below Hidden w = omega (arith, w .hidden, named .all)
 
+-- no signal has a name that is too long, at first ..
+pub named-blank : Named (blank .signals)
+named-blank = record { all = refl; short = λ name m. empty name m }
+  where
+    empty : (name : Name) → name ∈ replicate bits [] → length name ≤ nameLimit
+    empty name m = let (i, h, e) = index-of [] m in subst (λ x. length x ≤ nameLimit) (sym (getD-replicate bits i [] [] h) ∙ e) (omega arith)
+
+-- .. and after each line
+pub named-reads : {d d′ : Draft} {l : List ℕ} → Named (d .signals) → Reads d l d′ → Named (d′ .signals)
+named-reads {d} n (declared k name named new few) = named-more (d .signals) n k name (name-short name named)
+named-reads n (stated text a is derives known fits) = n
+
 -- ---- formulas
 
 -- the formulas so far have parts that numbers hold
@@ -83,7 +95,7 @@ reads-small : {d d′ : Draft} {l : List ℕ} → Small d → Reads d l d′ →
 reads-small {d} s (declared k name named new few) =
     record {
       few = few;
-      named = named-more (d .signals) (s .named) k name (name-short name named);
+      named = named-reads {d = d} (s .named) (declared k name named new few);
       coded = s .coded;
       parts = s .parts;
       operators = s .operators;
@@ -116,14 +128,11 @@ unfolding CodedIn
 blank-small =
     record {
       few = record { outputs = omega arith; observed = omega arith; hidden = omega arith; total = omega arith };
-      named = record { all = refl; short = λ name m. empty name m };
+      named = named-blank;
       coded = tt;
       parts = omega arith;
       operators = omega arith;
     }
-  where
-    empty : (name : Name) → name ∈ replicate bits [] → length name ≤ nameLimit
-    empty name m = let (i, h, e) = index-of [] m in subst (λ x. length x ≤ nameLimit) (sym (getD-replicate bits i [] [] h) ∙ e) (omega arith)
 
 module _ (source : List ℕ) (p : Problem) (e : readProblem source ≡ accepted p) where
   -- a problem that is read is within the limits

@@ -1,4 +1,4 @@
--- What a problem's text means by the written grammar: the formula that its rules derive, with no reader in between.
+-- What a problem's text means by the written grammar: its signals, and the formula that each rule derives, with no reader in between.
 -- `proofs/DenotesLaws.antt` shows that reading a problem finds exactly this, and hence that it is one.
 -- Assumes nothing.
 use Prim.Native.Nat.{ℕ, _≤_}

@@ -1,4 +1,4 @@
--- Judging a trace by a problem's text: what the call answers, what it leaves, and what its answer means.
+-- Judging a trace by a problem's text: what the call answers, what it leaves, and what is due.
 -- Assumes nothing.
 use Prim.Native.Nat.{ℕ, _≤_, _<_}
 use mathlib.Core.Bool.{cond}

@@ -1,8 +1,8 @@
--- What reading a whole problem answers and leaves.
+-- What reading a whole problem answers and leaves, and what is due.
 -- Assumes nothing.
 use Prim.Native.Nat.{ℕ}
 use mathlib.Core.Path.{_≡_}
-use mathlib.Core.List.{List}
+use mathlib.Core.List.{List, [], _∷_}
 use lib.ListN.{length, replicate}
 use Rattle.lines.specs.declared.problem.Sizes.{Sizes}
 use Rattle.lines.specs.declared.problem.Reading.{Reading}
@@ -10,6 +10,10 @@ use Rattle.lines.specs.declared.problem.Reading.the-variants.{Accepted, Refused
 use Rattle.formula.specs.Formula.{size, operators}
 use Rattle.rules.specs.Problem.{Problem, formulaIn, problemParts, Outcome, accepted, refused}
 use Rattle.lines.specs.Memory.{storedFrom}
+use Rattle.lines.specs.Refusal.{Told, values, toldRefusal}
+use Rattle.lines.specs.Refusal as told
+use Rattle.rules.specs.Denotes.{Denotes}
+use Rattle.rules.specs.Refuses.{Refuses}
 
 abbrev pub sizesOf : Problem → Sizes
 sizesOf p =
@@ -34,3 +38,16 @@ PartsRead (refused r) q q′ = Unit {0}
 abbrev pub partsOfOutcome : Outcome → List ℕ → List ℕ
 partsOfOutcome (accepted p) q = storedFrom (problemParts p) 0 q
 partsOfOutcome (refused r) q = replicate (length q) 0
+
+-- ---- what is due
+
+-- a reading in document 01's terms: how many output, observed and hidden signals, parts and temporal operators; or a refusal's number and
+-- place
+abbrev pub toldReading : Reading → Told
+toldReading (Accepted s) = values (s .outputs ∷ s .observed ∷ s .hidden ∷ s .parts ∷ s .operators ∷ [])
+toldReading (Refused r) = toldRefusal r
+
+pub data ReadAs (source : List ℕ) : Told → Type 0 where
+  denoted : (p : Problem) → Denotes source p
+      → ReadAs source (values (p .signals .outputs ∷ p .signals .observed ∷ p .signals .hidden ∷ size (formulaIn p) ∷ operators (formulaIn p) ∷ []))
+  bad-source : (number place : ℕ) → Refuses source number place → ReadAs source (told.refused number place)

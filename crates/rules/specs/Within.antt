@@ -1,4 +1,4 @@
--- What a problem that is read keeps within the limits of document 01.
+-- The limits of document 01 that signals, names and a whole problem keep.
 -- Assumes nothing.
 use Prim.Native.Nat.{_+_, _≤_}
 use mathlib.Core.Path.{_≡_}

@@ -7,7 +7,7 @@ ghost use Rattle.formula.specs.Limits.{partLimit};
 ghost use Rattle.lines.specs.Lines.{lines};
 ghost use Rattle.rules.specs.Problem.{readLines, blank, readProblem};
 ghost use Rattle.lines.specs.Memory.{Kept, LineRead};
-ghost use Rattle.rules.specs.Reading.{readingOf, PartsRead, partsOfOutcome};
+ghost use Rattle.rules.specs.Reading.{readingOf, PartsRead, partsOfOutcome, toldReading, ReadAs};
 use basics::Class;
 use basics::clear_words;
 use basics::past;
@@ -107,6 +107,7 @@ pub fn read(source: &[u8], parts: &mut [u32]) -> Reading
     requires { ⌜ length (now parts) ≡ partLimit ⌝ }
     ensures { λ r. ⌜ r ≡ readingOf (readProblem (now (source .entry))) ⌝ }
     ensures { λ _. ⌜ now (parts .exit) ≡ partsOfOutcome (readProblem (now (source .entry))) (now (parts .entry)) ⌝ }
+    ensures { λ r. ⌜ ReadAs (now (source .entry)) (toldReading r) ⌝ }
 {
     match read_source(source, parts) {
         Reading::Accepted(s) => Reading::Accepted(s),

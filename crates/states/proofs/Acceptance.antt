@@ -15,6 +15,9 @@ use Rattle.formula.specs.Parts.{lastOf, partsOf}
 use Rattle.formula.specs.Values.{valueOn}
 use Rattle.formula.proofs.Agreement.{holds-iff-Sat}
 use Rattle.formula.proofs.FormulaValues.{value-parts}
+use Rattle.rules.specs.Problem.{Problem, problemParts}
+use Rattle.rules.specs.Satisfies.{Satisfies}
+use Rattle.rules.proofs.ProblemLaws.{means}
 use Rattle.search.specs.PatternSet.{member, start, accepts}
 use Rattle.obligations.specs.Obligation.{operatorsOf, valueAt, owedAt, back, patternOn}
 use Rattle.states.specs.States.{startState, stateAfter}
@@ -52,3 +55,9 @@ accepts-iff-holds φ (a ∷ π) h = accepts-value (partsOf φ) a π ∙ value-pa
 
 pub accepts-iff-Sat : (φ : Formula) (π : Trace) → 0 < length π → (accepts (stateAfter (partsOf φ) π) ≡ true) ↔ Sat π 0 φ
 accepts-iff-Sat φ π h = rw (accepts-iff-holds φ π h) (holds-iff-Sat φ π h)
+
+-- ---- of a problem
+
+pub accepts-iff-satisfies : (p : Problem) (π : Trace) → 0 < length π → (accepts (stateAfter (problemParts p) π) ≡ true) ↔ Satisfies π p
+accepts-iff-satisfies p [] h = absurd (omega arith)
+accepts-iff-satisfies p (a ∷ π) h = rw (accepts-value (problemParts p) a π) (means p (a ∷ π) h)

@@ -11,7 +11,9 @@ use Rattle.formula.specs.declared.parts.Part.{Part}
 use Rattle.formula.specs.Parts.{lastOf, partsOf}
 use Rattle.formula.specs.Semantics.{Trace, Sat}
 use Rattle.formula.specs.Values.{valueOn}
-use Rattle.formula.specs.Letter.{Counts, isLetter}
+use Rattle.formula.specs.Letter.{Counts, IsLetter}
+use Rattle.rules.specs.Problem.{Problem, problemParts}
+use Rattle.rules.specs.Satisfies.{Satisfies}
 use Rattle.basics.specs.Member.{_∈_, Distinct}
 use Rattle.search.specs.PatternSet.{PatternSet, member, accepts}
 use Rattle.obligations.specs.Obligation.{operatorsOf, valueAt, back}
@@ -27,6 +29,10 @@ use Rattle.obligations.proofs.LettersLaws
 -- the states accept exactly the traces that satisfy the formula
 pub acceptance : (φ : Formula) (π : Trace) → 0 < length π → (accepts (stateAfter (partsOf φ) π) ≡ true) ↔ Sat π 0 φ
 acceptance = Acceptance.accepts-iff-Sat
+
+-- and a problem's states exactly the traces that satisfy the problem
+pub acceptance-of-problem : (p : Problem) (π : Trace) → 0 < length π → (accepts (stateAfter (problemParts p) π) ≡ true) ↔ Satisfies π p
+acceptance-of-problem = Acceptance.accepts-iff-satisfies
 
 -- they accept exactly the traces on which the last part is true, for any parts
 pub acceptance-of-parts : (ps : List Part) (a : ℕ) (π : Trace) → accepts (stateAfter ps (a ∷ π)) ≡ valueOn ps (a ∷ π) (lastOf ps)
@@ -59,5 +65,5 @@ successor = NumberedSuccessors.successor-right
 
 -- the letters by number are those of the declared signals
 pub letters : (c : Counts) → c .outputs ≤ kindLimit → c .observed ≤ kindLimit → c .hidden ≤ kindLimit
-    → (a : ℕ) → (a ∈ lettersOf c) ↔ (isLetter c a ≡ true)
-letters = LettersLaws.letters-exact
+    → (a : ℕ) → (a ∈ lettersOf c) ↔ IsLetter c a
+letters = LettersLaws.letters-are

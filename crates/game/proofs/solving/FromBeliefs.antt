@@ -27,7 +27,7 @@ use Rattle.play.specs.Table.{listOf}
 use Rattle.play.specs.Answer.{moves, positions, verdictOf, cellsOf as verdictCells}
 use Rattle.tables.specs.Outcome.{outcomeOf}
 use Rattle.game.specs.Solution.{Solution, tooManyBeliefs, verdict, solutionOf}
-use Rattle.game.specs.Claim.{solvedWith, solvedOf, cellsOf}
+use Rattle.game.specs.SolvedAs.{solvedWith, solvedOf, cellsOf}
 use Rattle.beliefs.specs.BeliefMemory.{beliefAfter, countedBeliefs, finalsOf, movesOf}
 use Rattle.game.specs.StateMemory.{Widths, memorySolution}
 use Rattle.tables.specs.PositionMemory.{arenaIn, Positions}

@@ -29,7 +29,7 @@ use Rattle.game.specs.declared.solving.Solved.{Solved}
 use Rattle.game.specs.declared.solving.Solved.the-variants.{Refused}
 use Rattle.game.specs.Solution.{partsSolution, solution}
 use Rattle.basics.specs.Lists.{written}
-use Rattle.game.specs.Claim.{solvedOf, solvedFrom, cellsOf, cellsFrom}
+use Rattle.game.specs.SolvedAs.{solvedOf, solvedFrom, cellsOf, cellsFrom}
 
 -- a refusal is handed on
 pub refused-right : (o : Outcome) (r : Reading) (x : Refusal) (table : List ℕ) → r ≡ readingOf o → r ≡ reading.Refused x

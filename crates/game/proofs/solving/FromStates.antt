@@ -34,7 +34,7 @@ use Rattle.states.proofs.StatesLaws.{states-closed}
 use Rattle.game.specs.Solution.{automatonOf, solutionFrom, partsSolution}
 use Rattle.game.specs.declared.solving.Solved.{Solved}
 use Rattle.game.specs.declared.solving.Solved.the-variants.{Refused}
-use Rattle.game.specs.Claim.{solvedOf, cellsOf}
+use Rattle.game.specs.SolvedAs.{solvedOf, cellsOf}
 use Rattle.beliefs.specs.BeliefMemory.{Successors}
 use Rattle.game.specs.StateMemory.{Widths, memorySolution}
 use Rattle.game.proofs.LetterNumbers.{letter-count}

@@ -18,12 +18,12 @@ use Rattle.rules.specs.Problem.{readProblem}
 use Rattle.play.specs.Cells.{rowSize, tableSize}
 use Rattle.game.specs.declared.solving.Solved.{Solved}
 use Rattle.game.specs.declared.solving.Solved.the-variants.{Table, Refused}
-use Rattle.game.specs.Claim.{isShort, solvedFrom, solvedBy, toldSolved, cellsFrom, cellsBy, tableAfter, workAfter, usedRows, SolvedAs, short-memory}
-use Rattle.game.proofs.ClaimLaws.{not-short, short-says, due-read, Counted, due-counted}
+use Rattle.game.specs.SolvedAs.{isShort, solvedFrom, solvedBy, toldSolved, cellsFrom, cellsBy, tableAfter, workAfter, usedRows, SolvedAs, short-memory}
+use Rattle.game.proofs.SolvedAsLaws.{not-short, short-says, due-read, RowCells, due-cells}
 
 -- ---- the rows that are used are the cells that are due
 
-used-rows : (r : Solved) (cells room : List ℕ) → Counted (toldSolved r) cells → usedRows r (written cells room) ≡ cells
+used-rows : (r : Solved) (cells room : List ℕ) → RowCells (toldSolved r) cells → usedRows r (written cells room) ≡ cells
 used-rows (Table shape q) cells room e = take-at cells (drop (length cells) room) (shape .rows * rowSize) e
 used-rows (Refused x) cells room e = sym e
 
@@ -57,6 +57,6 @@ module _ (work room : List ℕ) (e : isShort (length work) (length room) ≡ fal
         ap (λ k. replicate k 0) l,
         rw (p, q) (subst (λ c. SolvedAs (length work) (length room) source (toldSolved (solvedFrom (readProblem source))) c)
             (sym (used-rows (solvedFrom (readProblem source)) (cellsFrom (readProblem source)) room
-            (due-counted (length work) (length room) source (toldSolved (solvedFrom (readProblem source))) (cellsFrom (readProblem source)) due)))
+            (due-cells (length work) (length room) source (toldSolved (solvedFrom (readProblem source))) (cellsFrom (readProblem source)) due)))
             due),
       )

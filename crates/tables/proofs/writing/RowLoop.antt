@@ -21,7 +21,7 @@ use Rattle.play.specs.Cells.{choiceAt, nextAt, rowSize}
 use Rattle.tables.specs.PositionMemory.{nextOf, rowsWith, rowWith}
 use Rattle.play.proofs.CellsLaws.{choice-length, choice-first, choice-next, choice-unused}
 use Rattle.tables.proofs.writing.CellLoop.{index-le, index-out, index-in, Written, written-more, written-next, written-all}
-use Rattle.play.proofs.AnswerLaws.{eqb-says}
+use Rattle.basics.proofs.SaysLaws.{eqb-says}
 
 -- ---- a list to which things are added one after another
 

@@ -36,7 +36,7 @@ use Rattle.play.proofs.Optimality.{answer, descends}
 use Rattle.play.proofs.RankedRows.{Ranked, rows-listed, rows-ranked}
 use Rattle.play.proofs.TableLaws.{row-stop, row-goes, row-width}
 use Rattle.play.proofs.CellsLaws.{choice-ext}
-use Rattle.play.proofs.AnswerLaws.{eqb-says}
+use Rattle.basics.proofs.SaysLaws.{eqb-says}
 use Rattle.tables.proofs.PositionMemoryLaws.{best-read}
 use Rattle.tables.proofs.writing.SearchTurns.{search-found, search-length, search-at, search-number}
 

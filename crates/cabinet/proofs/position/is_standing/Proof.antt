@@ -21,7 +21,7 @@ is-row-requires c κs =
     let a = c .before .before .before .before .args in
     let (e, inside) = guarded (isSized (length (a .table .now)) (a .shape)) _ (a .row) (a .shape .rows) (c .before .before .is-sized .ensures)
     (c .if1 .left) in
-    let s = sized-says (length (a .table .now)) (a .shape) e in
+    let s = sized-says (length (a .table .now)) (a .shape) .0 e in
     (s .room, (inside, s .seen))
 
 returns-2 : tie.Need-returns-2

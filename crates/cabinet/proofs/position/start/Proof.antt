@@ -98,10 +98,10 @@ module _ {M : Type 1} (𝓤 : URA M) (H : Heap 𝓤) (A : Atoms 𝓤) (W : Given
   Post = walkOf 𝓤 H A f.ended stayed (f.clauses 𝓤 H A at-mem run) .post (((κ′, (κ, tt)), (q′, (q, tt)), tt, x, at), tt)
 
   -- what the call by value promises
-  abbrev Told : Moved → Type 0
-  Told r = (r ≡ startOf ys shape h) × StartedAs ys shape h (toldAnswer (r .answer)) (r .position)
+  abbrev Promised : Moved → Type 0
+  Promised r = (r ≡ startOf ys shape h) × StartedAs ys shape h (toldAnswer (r .answer)) (r .position)
 
-  exits : (r : Moved) → Told r → Is RE (r .answer) (word (r .answer) ∷ []) → ent 𝓤
+  exits : (r : Moved) → Promised r → Is RE (r .answer) (word (r .answer) ∷ []) → ent 𝓤
       (⋆ 𝓤 H A (‵ (fobs γ (R .coded .code (r .position))) ∷ ‵ (fbor κ (Body (mem R) b o γ)) ∷ ‵ (flft κ q) ∷ (‵ (flft κ′ q′) ⊛ ‵ ftrue) ∷ ‵ Table ∷
       [])) (Post (word (r .answer)))
   exits r e ga =
@@ -128,8 +128,8 @@ module _ {M : Type 1} (𝓤 : URA M) (H : Heap 𝓤) (A : Atoms 𝓤) (W : Given
       move ! (1 ∷ 0 ∷ []) $ join ! $ frame ! $ done !
 
   went : (r : Moved) → ent 𝓤 (ensured 𝓤 H A callee.ended (callee.clauses 𝓤 H A at-mem run) (κ′, tt) (t, (shape, (h, tt))) tt r) (fact 𝓤
-      (Told r))
-  went r = exE 𝓤 _ (λ ws. snd∗ 𝓤 (sem 𝓤 H A (lasts callee.ended (κ′, tt) (t, (shape, (h, tt))) ws)) (fact 𝓤 (Told r)))
+      (Promised r))
+  went r = exE 𝓤 _ (λ ws. snd∗ 𝓤 (sem 𝓤 H A (lasts callee.ended (κ′, tt) (t, (shape, (h, tt))) ws)) (fact 𝓤 (Promised r)))
 
   module _ (C : Calls 𝓤 H) (Λ : Loops 𝓤 H) (fm : FmC 𝓤 H (W .laws) C) (known : Triple 𝓤 (C #callee) (StartFrom 𝓤 H A at-mem run)) where
     walk : Room u16 (length ys) → ent 𝓤 (onEntry 𝓤 H A f.signature (κ′, (κ, tt)) (q′, (q, tt)) x at) (WpFn 𝓤 H C Λ code.function
@@ -160,7 +160,7 @@ module _ {M : Type 1} (𝓤 : URA M) (H : Heap 𝓤) (A : Atoms 𝓤) (W : Given
         (from ! (stop !)) (look ! 12 refl)) (and-then ! (load ! (from ! (stop !)) (look ! 6 refl)) (no-more !)))) (λ w.
         use1 W (later (some (λ (r : Moved). ((‵ (flft κ′ q′) ⊛ ‵ ftrue) ⊛ ‵ (RS .own r (w ∷ []))) ⊛ raw
         (ensured 𝓤 H A callee.ended (callee.clauses 𝓤 H A at-mem run) (κ′, tt) (t, (shape, (h, tt))) tt r)))) (id⊢ 𝓤 _) $ await ! tt $ pick ! (λ r.
-        split ! $ move ! (1 ∷ []) $ use1 W (raw (fact 𝓤 (Told r))) (went r) $ heard ! (Told r) (λ e. split ! $
+        split ! $ move ! (1 ∷ []) $ use1 W (raw (fact 𝓤 (Promised r))) (went r) $ heard ! (Promised r) (λ e. split ! $
         move ! (1 ∷ []) $
         peeks ! RS (Is RS) (shows 𝓤 H A RS) r (w ∷ []) (λ is.
         -- [what the result owns; the table's token; what table owns; the struct's cell; the open borrow; obs; auth; the locals, at 7]

@@ -106,10 +106,10 @@ module _ {M : Type 1} (𝓤 : URA M) (H : Heap 𝓤) (A : Atoms 𝓤) (W : Given
   Post = walkOf 𝓤 H A f.ended stayed (f.clauses 𝓤 H A at-mem run) .post (((κ′, (κ, tt)), (q′, (q, tt)), tt, x, at), tt)
 
   -- what the call by value promises
-  abbrev Told : Moved → Type 0
-  Told r = (r ≡ stepOf ys shape n-observation h) × SteppedAs ys shape n-observation h (toldAnswer (r .answer)) (r .position)
+  abbrev Promised : Moved → Type 0
+  Promised r = (r ≡ stepOf ys shape n-observation h) × SteppedAs ys shape n-observation h (toldAnswer (r .answer)) (r .position)
 
-  exits : (r : Moved) → Told r → Is RE (r .answer) (word (r .answer) ∷ []) → ent 𝓤
+  exits : (r : Moved) → Promised r → Is RE (r .answer) (word (r .answer) ∷ []) → ent 𝓤
       (⋆ 𝓤 H A (‵ (fobs γ (R .coded .code (r .position))) ∷ ‵ (fbor κ (Body (mem R) b o γ)) ∷ ‵ (flft κ q) ∷ (‵ (flft κ′ q′) ⊛ ‵ ftrue) ∷ ‵ Table ∷
       [])) (Post (word (r .answer)))
   exits r e g =
@@ -147,9 +147,9 @@ module _ {M : Type 1} (𝓤 : URA M) (H : Heap 𝓤) (A : Atoms 𝓤) (W : Given
       move ! (1 ∷ 0 ∷ []) $ join ! $ frame ! $ done !
 
   went : (r : Moved) → ent 𝓤 (ensured 𝓤 H A callee.ended (callee.clauses 𝓤 H A at-mem run) (κ′, tt) (t, (shape, (n-observation, (h, tt)))) tt r)
-      (fact 𝓤 (Told r))
+      (fact 𝓤 (Promised r))
   went r = exE 𝓤 _ (λ ws. snd∗ 𝓤 (sem 𝓤 H A (lasts callee.ended (κ′, tt) (t, (shape, (n-observation, (h, tt)))) ws))
-      (fact 𝓤 (Told r)))
+      (fact 𝓤 (Promised r)))
 
   module _ (C : Calls 𝓤 H) (Λ : Loops 𝓤 H) (fm : FmC 𝓤 H (W .laws) C) (known : Triple 𝓤 (C #callee) (StepFrom 𝓤 H A at-mem run)) where
     walk : Room u16 (length ys) → ent 𝓤 (onEntry 𝓤 H A f.signature (κ′, (κ, tt)) (q′, (q, tt)) x at)
@@ -183,7 +183,7 @@ module _ {M : Type 1} (𝓤 : URA M) (H : Heap 𝓤) (A : Atoms 𝓤) (W : Given
         use1 W (later (some (λ (r : Moved). ((‵ (flft κ′ q′) ⊛ ‵ ftrue) ⊛ ‵ (RS .own r (w ∷ []))) ⊛ raw
         (ensured 𝓤 H A callee.ended (callee.clauses 𝓤 H A at-mem run) (κ′, tt) (t, (shape, (n-observation, (h, tt)))) tt r)))) (id⊢ 𝓤 _) $ await !
         tt $ pick ! (λ r.
-        split ! $ move ! (1 ∷ []) $ use1 W (raw (fact 𝓤 (Told r))) (went r) $ heard ! (Told r)
+        split ! $ move ! (1 ∷ []) $ use1 W (raw (fact 𝓤 (Promised r))) (went r) $ heard ! (Promised r)
         (λ e. split ! $ move ! (1 ∷ []) $
         peeks ! RS (Is RS) (shows 𝓤 H A RS) r (w ∷ []) (λ is.
         -- [what the result owns; the table's token; what table owns; the struct's cell; the open borrow; obs; auth; the locals, at 7]

@@ -4,8 +4,10 @@ use native.Mathlib.Omega.{arith}
 use borrow.Author.Needs.{needs}
 use Rattle.tables.proofs.first_cell.Reads as first-cell-reads
 use Rattle.tables.proofs.next_cell.Reads as next-cell-reads
+use Rattle.cabinet.specs.Position.{Standing}
 use Rattle.cabinet.proofs.AnswersDue.{step-told}
-use Rattle.cabinet.proofs.PositionLaws.{Stands, stands, row-room, Goes, goes, step-nowhere, step-astray, step-stopped, step-unseen, step-cell, step-row, step-moves}
+use Rattle.cabinet.proofs.PositionLaws.{stands, row-room, Goes, goes}
+use Rattle.cabinet.proofs.PositionLaws.{step-nowhere, step-astray, step-stopped, step-unseen, step-cell, step-row, step-moves}
 use Rattle.cabinet.proofs.position.is_standing.Reads as is-standing-reads
 use Rattle.cabinet.proofs.position.refuse.Reads as refuse-reads
 use Rattle.cabinet.proofs.position.move_to.Reads as move-to-reads
@@ -27,7 +29,7 @@ standing : (c : lts.Else1 (
   move-to-reads.Asked,
   move-to-reads.Learnt,
 ) reads.Pre reads.Post)
-    → let a = c .before .before .before .args in Stands (a .table .now) (a .shape) (a .position .row)
+    → let a = c .before .before .before .args in Standing (a .table .now) (a .shape) (a .position .row)
 standing c =
     let a = c .before .before .before .args in
     stands (a .table .now) (a .shape) (a .position .row) _ (c .before .is-standing .ensures) (c .if1 .left)

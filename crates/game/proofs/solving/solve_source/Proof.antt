@@ -26,14 +26,14 @@ array-share-prefix-parts c =
     let a = c .before .before .before .before .before .before .before .before .before .args in
     let read = c .before .before .before .before .read in
     let s = c .before .s in
-    omega (arith, few-parts (taken (a .source .now) (s .given .0 .0) (read .result) (read .ensures .0) (s .given .1) _ (read .ensures .1)), read .kept .1 .0)
+    omega (arith, few-parts (taken (a .source .now) (s .given .0 .0) (read .result) (read .ensures .0) (s .given .1) _ (read .ensures .1 .0)), read .kept .1 .0)
 
 slice-aggregate-solve-parts : tie.Need-slice-aggregate-solve-parts
 slice-aggregate-solve-parts c =
     let a = c .before .before .before .before .before .before .before .before .before .before .args in
     let read = c .before .before .before .before .before .read in
     let s = c .before .before .s in
-    sym (taken-length (taken (a .source .now) (s .given .0 .0) (read .result) (read .ensures .0) (s .given .1) _ (read .ensures .1)))
+    sym (taken-length (taken (a .source .now) (s .given .0 .0) (read .result) (read .ensures .0) (s .given .1) _ (read .ensures .1 .0)))
 
 solve-parts-requires : tie.Need-solve-parts-requires
 solve-parts-requires c κs =
@@ -41,7 +41,7 @@ solve-parts-requires c κs =
     let p = c .before .before .before .before .before .before .before .before .before .before .before .before .pre in
     let read = c .before .before .before .before .before .before .before .read in
     let s = c .before .before .before .before .s in
-    let t = taken (a .source .now) (s .given .0 .0) (read .result) (read .ensures .0) (s .given .1) _ (read .ensures .1) in
+    let t = taken (a .source .now) (s .given .0 .0) (read .result) (read .ensures .0) (s .given .1) _ (read .ensures .1 .0) in
     (stored-taken t, (sized-taken t, (p .0, p .1)))
 
 returns : tie.Need-returns
@@ -62,7 +62,7 @@ returns-2 c =
     let read = c .before .before .before .before .before .before .before .before .before .before .before .before .read in
     let s = c .before .before .before .before .before .before .before .before .before .s in
     let solved = c .before .before .before .before .solve-parts in
-    source-right (taken (a .source .now) (s .given .0 .0) (read .result) (read .ensures .0) (s .given .1) _ (read .ensures .1))
+    source-right (taken (a .source .now) (s .given .0 .0) (read .result) (read .ensures .0) (s .given .1) _ (read .ensures .1 .0))
     (solved .result) (a .table .now) (solved .last .1 .1 .1 .0) (solved .ensures .0) (solved .ensures .1)
 
 pub solve-source-spec : {M : Type 1} → statement M

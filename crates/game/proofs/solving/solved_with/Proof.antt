@@ -2,7 +2,7 @@
 -- Assumes nothing.
 use mathlib.Core.Path.{ap, sym}
 use borrow.Author.Needs.{needs}
-use Rattle.game.specs.Claim.{solvedWith}
+use Rattle.game.specs.SolvedAs.{solvedWith}
 use Rattle.game.proofs.solving.solved_with.Statement.{statement}
 use Rattle.game.proofs.solving.solved_with.Tie as tie
 

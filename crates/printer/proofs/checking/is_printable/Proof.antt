@@ -23,7 +23,7 @@ are-rows-requires c κs =
     let a = c .before .before .before .before .args in
     let (e, inside) = guarded (isSized (length (a .table .now)) (a .shape)) _ (a .worst) (a .shape .rows) (c .before .before .is-sized .ensures)
     (c .if1 .left) in
-    let s = sized-says (length (a .table .now)) (a .shape) e in
+    let s = sized-says (length (a .table .now)) (a .shape) .0 e in
     (s .room, s .seen)
 
 returns-2 : tie.Need-returns-2

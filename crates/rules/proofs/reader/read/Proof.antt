@@ -3,6 +3,7 @@
 use borrow.Author.Needs.{needs}
 use mathlib.Core.Path.{sym, _∙_}
 use Rattle.rules.specs.Problem.{readProblem}
+use Rattle.rules.proofs.ReadIffDue.{read-told}
 use Rattle.rules.proofs.ReadingLaws.{parts-accepted, parts-refused}
 use Rattle.rules.proofs.reader.read.Statement.{statement}
 use Rattle.rules.proofs.reader.read.Tie as tie
@@ -28,8 +29,10 @@ returns c =
     let start = at-read-source .before .before .before .before in
     let a = start .args in
     let done = at-read-source .read-source .ensures in
-    let is = c .before .s .given .1 in
-    (sym is ∙ done .0, parts-accepted (readProblem (a .source .now)) _ (done .0) (a .parts .now) _ is _ (done .1))
+    let is = c .before .s .given .1 in (
+      sym is ∙ done .0,
+      (parts-accepted (readProblem (a .source .now)) _ (done .0) (a .parts .now) _ is _ (done .1), read-told (a .source .now) _ (sym is ∙ done .0)),
+    )
 
 same-length-2 : tie.Need-same-length-2
 same-length-2 c = search needs
@@ -42,8 +45,13 @@ returns-2 c =
     let a = start .args in
     let done = at-read-source .read-source .ensures in
     let is = at-r .r .given .1 in
-    let kept = at-read-source .read-source .kept .1 .0 in
-    (sym is ∙ done .0, c .before .before .clear-words .ensures ∙ parts-refused (readProblem (a .source .now)) _ (done .0) (a .parts .now) _ is _ kept)
+    let kept = at-read-source .read-source .kept .1 .0 in (
+      sym is ∙ done .0,
+      (
+        c .before .before .clear-words .ensures ∙ parts-refused (readProblem (a .source .now)) _ (done .0) (a .parts .now) _ is _ kept,
+        read-told (a .source .now) _ (sym is ∙ done .0),
+      ),
+    )
 
 pub read-spec : {M : Type 1} → statement M
 read-spec =

@@ -2,7 +2,7 @@
 -- Assumes nothing.
 use Prim.Native.Nat.{ℕ, _*_, _^_, _≤_, _<_}
 use native.Mathlib.Omega.{arith}
-use mathlib.Core.Path.{_≡_, sym, subst}
+use mathlib.Core.Path.{_≡_, refl, sym, subst}
 use mathlib.Core.Bool.{true}
 use mathlib.Core.List.{List, [], _∷_}
 use lib.ListN.{length, take}
@@ -20,14 +20,14 @@ use Rattle.play.specs.Game.{Play}
 use Rattle.play.specs.Table.{tableStrategy, Laid}
 use Rattle.play.specs.Answer.{Solves}
 use Rattle.game.specs.Solution.{gameOf}
-use Rattle.game.specs.Claim.{Controller, SolvedAs}
+use Rattle.game.specs.SolvedAs.{Controller, SolvedAs}
 use Rattle.game.proofs.SolvedAsCases.{due-table}
 use Rattle.cabinet.specs.declared.position.Position.{Position}
 use Rattle.cabinet.specs.declared.printing.Printed.the-variants.{Text}
 use Rattle.printer.specs.Limits.{textSize}
 use Rattle.printer.specs.WellFormed.{isPrintable}
 use Rattle.printer.specs.Text.{tableText}
-use Rattle.cabinet.specs.Print.{printedBy}
+use Rattle.cabinet.specs.Print.{printedBy, bytesBy}
 use Rattle.cabinet.specs.Running.{answerTo, Runs}
 use Rattle.printer.proofs.WellFormedLaws.{side-le}
 use Rattle.cabinet.proofs.LaidRows.{printable}
@@ -37,13 +37,13 @@ module _ (work room : ℕ) (source : List ℕ) (shape : Shape) (r : ℕ) (table 
     (due : SolvedAs work room source (values (shape .rows ∷ shape .observed ∷ r ∷ [])) (take (shape .rows * rowSize) table)) (p : Problem)
     (denotes : Denotes source p) where
   -- what is due, told of the problem that the text denotes
-  abbrev Told : Problem → Type 0
-  Told q = (shape .observed ≡ q .signals .observed) × Controller q (shape .rows) r (take (shape .rows * rowSize) table)
+  abbrev DueFor : Problem → Type 0
+  DueFor q = (shape .observed ≡ q .signals .observed) × Controller q (shape .rows) r (take (shape .rows * rowSize) table)
 
-  told : Told p
+  told : DueFor p
   told =
       let (q, d, o, c) = due-table work room source (shape .rows) (shape .observed) r (take (shape .rows * rowSize) table) due in
-      subst Told (one-problem source q p d denotes) (o, c)
+      subst DueFor (one-problem source q p d denotes) (o, c)
 
   declared : shape .observed ≡ p .signals .observed
   declared = told .0
@@ -68,6 +68,7 @@ module _ (work room : ℕ) (source : List ℕ) (shape : Shape) (r : ℕ) (table 
       (subst (λ o. Laid (gameOf p .choices) (2 ^ o) (shape .rows) (take (shape .rows * rowSize) table)) (sym declared) (solves .laid))
       r (solves .below)
 
-  pub printing : (room : ℕ) → textSize ≤ room → printedBy table shape r room ≡ Text (length (tableText table shape r))
-  unfolding printedBy
-  printing room h = rw (le-ltb room textSize h, passes)
+  pub printed : (text : ℕ) → textSize ≤ text
+      → (printedBy table shape r text ≡ Text (length (tableText table shape r))) × (bytesBy table shape r text ≡ tableText table shape r)
+  unfolding printedBy bytesBy
+  printed text h = rw (le-ltb text textSize h, passes) (refl, refl)

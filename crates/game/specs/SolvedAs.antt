@@ -55,6 +55,9 @@ abbrev pub toldSolved : Solved → Told
 toldSolved (Table shape r) = values (shape .rows ∷ shape .observed ∷ r ∷ [])
 toldSolved (Refused x) = toldRefusal x
 
+abbrev pub toldBy : ℕ → ℕ → List ℕ → Told
+toldBy work table source = toldSolved (solvedBy work table source)
+
 -- ---- what is left in memory
 
 -- the cells of a solution's rows
@@ -104,7 +107,7 @@ pub data SolvedAs (work table : ℕ) (source : List ℕ) : Told → List ℕ →
   -- 12: lent memory is too short
   short-memory : Short work table → SolvedAs work table source (refused 12 0) []
   -- 1 to 8: the text denotes no problem
-  refused-text : (¬ Short work table) → (number place : ℕ) → Refuses source number place → SolvedAs work table source (refused number place) []
+  bad-source : (¬ Short work table) → (number place : ℕ) → Refuses source number place → SolvedAs work table source (refused number place) []
   -- 9: more than 128 states can be reached
   too-many-states : (¬ Short work table) → (p : Problem) → Denotes source p → ManyStates p → SolvedAs work table source (refused 9 0) []
   -- 10: they are within 128, and more than 256 beliefs can be reached

@@ -7,12 +7,11 @@ use mathlib.Core.Logic.{_↔_, inl, inr}
 use mathlib.Core.Bool.{false}
 use mathlib.Core.List.{List, [], _∷_}
 use lib.ListN.{length}
-use borrow.Author.Tests.{ltb-true, lt-ltb}
 use Rattle.basics.specs.Says.{Says}
 use Rattle.basics.proofs.Booleans.{test, clash}
-use Rattle.basics.proofs.SaysLaws.{says-or}
+use Rattle.basics.proofs.SaysLaws.{says-or, says-false, lt-says}
 use Rattle.lines.specs.Refusal.{Told, values, refused, numberOf, placeOf}
-use Rattle.lines.proofs.RefusalLaws.{same-told}
+use Rattle.lines.proofs.RefusalLaws.{same-told, told-apart}
 use Rattle.rules.specs.Limits.{workSize}
 use Rattle.rules.specs.Problem.{Problem, Outcome, accepted, readProblem}
 use Rattle.rules.specs.Problem as reading
@@ -25,22 +24,19 @@ use Rattle.play.specs.Cells.{rowSize, tableSize}
 use Rattle.game.specs.declared.solving.Solved.{Solved}
 use Rattle.game.specs.declared.solving.Solved.the-variants.{Table, Refused}
 use Rattle.game.specs.Solution.{Solution, solution}
-use Rattle.game.specs.Claim.{solvedOf, solvedFrom, solvedBy, toldSolved, isShort, cellsOf, cellsFrom, cellsBy, Short, SolvedAs, short-memory, refused-text, too-many-states, too-many-beliefs, unrealizable, table}
+use Rattle.game.specs.SolvedAs.{solvedOf, solvedFrom, solvedBy, toldSolved, isShort, cellsOf, cellsFrom, cellsBy, Short, SolvedAs, short-memory, bad-source, too-many-states, too-many-beliefs, unrealizable, table}
 use Rattle.game.proofs.SolutionCases.{Solving, states, beliefs, none, solving, states-due, beliefs-due, none-due, table-due}
 use Rattle.game.proofs.SolutionCases as cases
 
-pub no-refusal : (l : List ℕ) (number place : ℕ) → values l ≡ refused number place → ⊥
-no-refusal l number place e = let z : _≡_ {A = ℕ} 0 1 = cc in absurd (omega arith)
-
 -- the test of the lengths
 pub short-says : (work room : ℕ) → Says (isShort work room) (Short work room)
-short-says work room = says-or (ltb-true work workSize, lt-ltb work workSize) (ltb-true room tableSize, lt-ltb room tableSize)
+short-says work room = says-or (lt-says work workSize) (lt-says room tableSize)
 
 pub not-short : (work room : ℕ) → isShort work room ≡ false → ¬ Short work room
 not-short work room e s = clash (short-says work room .1 s) e
 
 pub is-long : (work room : ℕ) → ¬ Short work room → isShort work room ≡ false
-is-long work room f = elim (test (isShort work room)) [ inl t ↦ absurd (f (short-says work room .0 t)) | inr e ↦ e ]
+is-long work room f = says-false (short-says work room) f
 
 module _ (source : List ℕ) where
   few-signals : (p : Problem) → readProblem source ≡ accepted p → Few (p .signals)
@@ -61,7 +57,7 @@ module _ (source : List ℕ) where
       where
         at : (o : Outcome) → readProblem source ≡ o → SolvedAs work room source (toldSolved (solvedFrom o)) (cellsFrom o)
         at (accepted p) e = due-solution p (read-iff-denotes source p .0 e) (solution p) (solving p (few-signals p e))
-        at (reading.refused r) e = refused-text long (numberOf r) (placeOf r) (refused-iff source r .0 e)
+        at (reading.refused r) e = bad-source long (numberOf r) (placeOf r) (refused-iff source r .0 e)
 
   pub due-call : (work room : ℕ) → SolvedAs work room source (toldSolved (solvedBy work room source)) (cellsBy work room source)
   unfolding solvedBy cellsBy
@@ -93,7 +89,7 @@ module _ (source : List ℕ) where
     due-answered : (a : Told) (cells : List ℕ) → SolvedAs work room source a cells → Answered a cells
     unfolding solvedBy cellsBy
     due-answered a cells (short-memory s) = rw (short-says work room .1 s) (refl, refl)
-    due-answered a cells (refused-text f number place x) =
+    due-answered a cells (bad-source f number place x) =
         let (r, e, n, m) = told-refused source x in
         let (told, written) = long-answered f (reading.refused r) e in
         (told ∙ ap (λ k. refused k (placeOf r)) n ∙ ap (refused number) m, written)
@@ -111,18 +107,18 @@ module _ (source : List ℕ) where
 
 -- ---- the cells that are due are those of the rows that the answer tells
 
-abbrev pub Counted : Told → List ℕ → Type 0
-Counted (values []) cells = ⊥
-Counted (values (n ∷ l)) cells = length cells ≡ n * rowSize
-Counted (refused number place) cells = cells ≡ []
+abbrev pub RowCells : Told → List ℕ → Type 0
+RowCells (values []) cells = ⊥
+RowCells (values (n ∷ l)) cells = length cells ≡ n * rowSize
+RowCells (refused number place) cells = cells ≡ []
 
-pub due-counted : (work room : ℕ) (source : List ℕ) (a : Told) (cells : List ℕ) → SolvedAs work room source a cells → Counted a cells
-due-counted work room source a cells (short-memory s) = refl
-due-counted work room source a cells (refused-text f number place x) = refl
-due-counted work room source a cells (too-many-states f p d m) = refl
-due-counted work room source a cells (too-many-beliefs f p d s m) = refl
-due-counted work room source a cells (unrealizable f p d small u) = refl
-due-counted work room source a cells (table f p d small n r t c) = c .isTable .long
+pub due-cells : (work room : ℕ) (source : List ℕ) (a : Told) (cells : List ℕ) → SolvedAs work room source a cells → RowCells a cells
+due-cells work room source a cells (short-memory s) = refl
+due-cells work room source a cells (bad-source f number place x) = refl
+due-cells work room source a cells (too-many-states f p d m) = refl
+due-cells work room source a cells (too-many-beliefs f p d s m) = refl
+due-cells work room source a cells (unrealizable f p d small u) = refl
+due-cells work room source a cells (table f p d small n r t c) = c .isTable .long
 
 -- ---- an answer is known by its numbers and values
 
@@ -132,8 +128,8 @@ same-solved (Table shape r) (Table shape′ r′) e =
     let observed : shape .observed ≡ shape′ .observed = cc in
     let worst : r ≡ r′ = cc in
     rw (worst, rows, observed) refl
-same-solved (Table shape r) (Refused x) e = absurd (no-refusal (shape .rows ∷ shape .observed ∷ r ∷ []) (numberOf x) (placeOf x) e)
-same-solved (Refused x) (Table shape r) e = absurd (no-refusal (shape .rows ∷ shape .observed ∷ r ∷ []) (numberOf x) (placeOf x) (sym e))
+same-solved (Table shape r) (Refused x) e = told-apart (sym e)
+same-solved (Refused x) (Table shape r) e = told-apart e
 same-solved (Refused x) (Refused y) e =
     let number : numberOf x ≡ numberOf y = cc in
     let place : placeOf x ≡ placeOf y = cc in

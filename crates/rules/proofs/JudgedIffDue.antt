@@ -15,6 +15,7 @@ use Rattle.basics.specs.Member.{_∈_}
 use Rattle.basics.specs.Limits.{kindLimit}
 use Rattle.basics.proofs.Booleans.{test, clash, or-cases, or-left, or-right}
 use Rattle.lines.specs.declared.refusal.Refusal.the-variants.{BadTrace}
+use Rattle.lines.proofs.RefusalLaws.{told-apart, one-value, one-number, one-place}
 use Rattle.lines.specs.Refusal.{Told, values, refused}
 use Rattle.formula.specs.Letter.{Counts, IsLetter, isLetter}
 use Rattle.formula.specs.Semantics.{Trace, holds}
@@ -30,24 +31,9 @@ use Rattle.rules.specs.Satisfies.{Satisfies}
 use Rattle.rules.specs.Judge.{countsIn, judgedBy, judged, toldVerdict, JudgedAs, short-memory, bad-source, bad-length, bad-step, is-true, is-false}
 use Rattle.rules.proofs.SatisfiesLaws.{holds-iff-satisfies}
 use Rattle.rules.proofs.DenotesLaws.{read-denotes, denotes-read}
-use Rattle.rules.proofs.RefusesLaws.{refused-iff, told-refused}
-use Rattle.rules.proofs.ReadingNumbers.{refuses-number}
+use Rattle.rules.proofs.RefusesLaws.{refused-iff, told-refused, refuses-number}
 use Rattle.rules.proofs.TraceLaws.{badLength}
 use Rattle.rules.proofs.WithinLimits.{read-within}
-
--- ---- what is told
-
-told-apart : {C : Type 0} {number place : ℕ} {l : List ℕ} → refused number place ≡ values l → C
-told-apart e = let z : _≡_ {A = ℕ} 0 1 = cc in absurd (omega arith)
-
-one-value : {m n : ℕ} → values (m ∷ []) ≡ values (n ∷ []) → m ≡ n
-one-value e = cc
-
-one-number : {m n i j : ℕ} → refused m i ≡ refused n j → m ≡ n
-one-number e = cc
-
-one-place : {m n i j : ℕ} → refused m i ≡ refused n j → i ≡ j
-one-place e = cc
 
 -- ---- the length
 
