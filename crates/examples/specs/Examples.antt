@@ -15,20 +15,13 @@ use Rattle.rules.specs.Judge.{judged, toldVerdict}
 use Rattle.search.specs.PatternSet.{accepts}
 use Rattle.states.specs.States.{stateAfter}
 use Rattle.play.specs.Cells.{rowSize, stopCell, tableSize}
-use Rattle.game.specs.declared.solving.Solved.{Solved}
-use Rattle.game.specs.declared.solving.Solved.the-variants as solved
 use Rattle.game.specs.SolvedAs.{solvedBy, toldSolved, cellsBy}
 use Rattle.cabinet.specs.Response.{response}
 
--- where document 01 gives no row count: the worst case alone
-abbrev pub toldWorst : Solved → Told
-toldWorst (solved.Table shape worst) = values (worst ∷ [])
-toldWorst (solved.Refused r) = toldRefusal r
-
--- what is asked of a problem: its table's row count, observed signals and worst case; the worst case alone; the table's cells; the bytes
--- that are written for it; the verdict on a trace; or whether its states accept the trace
+-- what is asked of a problem: its table's row count, observed signals and worst case; the table's cells; the bytes that are written for it;
+-- the verdict on a trace; or whether its states accept the trace
 pub data Asked : Type 0 where
-  table worst cells text : Asked
+  table cells text : Asked
   judge accept : Trace → Asked
 
 -- 1 where the states of the problem accept the trace, and 0 where they do not
@@ -39,7 +32,6 @@ toldAccepted (reading.refused r) π = toldRefusal r
 -- what is told for a source, by the definitions that the calls are proved to compute, with as much memory as they ask for
 abbrev pub toldFor : List ℕ → Asked → Told
 toldFor source table = toldSolved (solvedBy workSize tableSize source)
-toldFor source worst = toldWorst (solvedBy workSize tableSize source)
 toldFor source cells = values (cellsBy workSize tableSize source)
 toldFor source text = values (response source)
 toldFor source (judge π) = toldVerdict (judged workSize source π)
@@ -65,10 +57,10 @@ examples =
     ∷ example "C" "out\ta\nhid\ts\nrule\ts -> X a\n" table (values (3 ∷ 0 ∷ 2 ∷ []))
     ∷ example "D" "hid\ts\nrule\tF s\n" table (refused 11 0)
     ∷ example "E" "hid\ts\nrule\t(s & N false) | (!s & X N false)\n" table (refused 11 0)
-    ∷ example "E" "see\ts\nrule\t(s & N false) | (!s & X N false)\n" worst (values (2 ∷ []))
+    ∷ example "E" "see\ts\nrule\t(s & N false) | (!s & X N false)\n" table (values (4 ∷ 1 ∷ 2 ∷ []))
     ∷ example "F" "rule\ttrue\n" table (values (2 ∷ 0 ∷ 1 ∷ []))
     ∷ example "G" "rule\tfalse\n" table (refused 11 0)
-    ∷ example "H" "rule\tX true\n" worst (values (2 ∷ []))
+    ∷ example "H" "rule\tX true\n" table (values (3 ∷ 0 ∷ 2 ∷ []))
     ∷ example "I" "rule\tX true\n" (judge (0 ∷ [])) (values (0 ∷ []))
     ∷ example "I" "rule\tX true\n" (accept (0 ∷ [])) (values (0 ∷ []))
     ∷ example "I" "rule\tN false\n" (judge (0 ∷ [])) (values (1 ∷ []))

@@ -24,7 +24,8 @@ use Rattle.play.specs.Cells.{rowSize, tableSize}
 use Rattle.game.specs.declared.solving.Solved.{Solved}
 use Rattle.game.specs.declared.solving.Solved.the-variants.{Table, Refused}
 use Rattle.game.specs.Solution.{Solution, solution}
-use Rattle.game.specs.SolvedAs.{solvedOf, solvedFrom, solvedBy, toldSolved, isShort, cellsOf, cellsFrom, cellsBy, Short, SolvedAs, short-memory, bad-source, too-many-states, too-many-beliefs, unrealizable, table}
+use Rattle.game.specs.SolvedAs.{solvedOf, solvedFrom, solvedBy, toldSolved, isShort, cellsOf, cellsFrom, cellsBy}
+use Rattle.game.specs.SolvedAs.{Short, SolvedAs, short-memory, bad-source, too-many-states, too-many-beliefs, unrealizable, table}
 use Rattle.game.proofs.SolutionCases.{Solving, states, beliefs, none, solving, states-due, beliefs-due, none-due, table-due}
 use Rattle.game.proofs.SolutionCases as cases
 

@@ -5,7 +5,8 @@ use mathlib.Core.Path.{_≡_, refl, sym, ap₂, _∙_}
 use mathlib.Core.List.{List, [], _∷_}
 use lib.ListN.{getD}
 use Rattle.lines.specs.declared.refusal.Refusal.{Refusal}
-use Rattle.lines.specs.declared.refusal.Refusal.the-variants.{LongSource, BadLine, NameTwice, TooManySignals, BadFormula, UnknownName, TooManyParts, NoFormula, TooManyStates, TooManyBeliefs, Unrealizable, ShortMemory, BadTable, Stopped, BadObservation, BadTrace}
+use Rattle.lines.specs.declared.refusal.Refusal.the-variants.{LongSource, BadLine, NameTwice, TooManySignals, BadFormula, UnknownName, TooManyParts, NoFormula}
+use Rattle.lines.specs.declared.refusal.Refusal.the-variants.{TooManyStates, TooManyBeliefs, Unrealizable, ShortMemory, BadTable, Stopped, BadObservation, BadTrace}
 use Rattle.lines.specs.Refusal.{numberOf, placeOf, values, refused}
 
 -- the refusals at a place, in the order of their numbers
