@@ -11,9 +11,9 @@ use Rattle.basics.specs.Lists.{tabulate}
 use Rattle.basics.proofs.ListsLaws.{length-tabulate, tabulate-suc}
 
 -- a list written over the front of another grows by a store
-pub put-next : (p d : List ℕ) (n a : ℕ) → length p ≡ n → n < length d → set (p ++ drop n d) n a ≡ p ++ (a ∷ []) ++ drop (n + 1) d
+pub put-next : {A : Type 0} (p d : List A) (n : ℕ) (a : A) → length p ≡ n → n < length d → set (p ++ drop n d) n a ≡ p ++ (a ∷ []) ++ drop (n + 1) d
 put-next p d n a e h =
-    ap (λ r. set (p ++ r) n a) (drop-cons d n 0 h) ∙ set-at p (getD d n 0) (drop (suc n) d) a n e
+    ap (λ r. set (p ++ r) n a) (drop-cons d n a h) ∙ set-at p (getD d n a) (drop (suc n) d) a n e
     ∙ sym (append-snoc p a (drop (suc n) d)) ∙ ap (λ m. p ++ (a ∷ []) ++ drop m d) (sym (add-one n))
 
 -- the same of the entries of a table

@@ -118,5 +118,5 @@ past-end n l i h =
     ap (λ y. getD (padded n l) y 0) e ∙ getD-append-add l _ (i - length l) 0 ∙ getD-zeros (n - length l) (i - length l)
 
 -- behind what is written all is as it was
-pub written-rest : (front l : List ℕ) (n : ℕ) → length front ≡ n → drop n (written front l) ≡ drop n l
+pub written-rest : {A : Type 0} (front l : List A) (n : ℕ) → length front ≡ n → drop n (written front l) ≡ drop n l
 written-rest front l n e = subst (λ k. drop k (written front l) ≡ drop k l) e (drop-append-seam front (drop (length front) l))

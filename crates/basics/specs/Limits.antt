@@ -1,5 +1,5 @@
--- The sizes of document 01, and of the machine, that several layers build on. What follows from them is worked out from them where it is
--- used.
+-- Limits (REFERENCE.md, Limits) and sizes of the machine that several layers build on. What follows from them is worked out from them where
+-- it is used.
 -- Assumes nothing.
 use Prim.Native.Nat.{ℕ, _^_}
 

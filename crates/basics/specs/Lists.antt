@@ -18,5 +18,5 @@ abbrev pub padded : ℕ → List ℕ → List ℕ
 padded n l = l ++ replicate (n - length l) 0
 
 -- what stands in front is written, and the rest is as it was
-abbrev pub written : List ℕ → List ℕ → List ℕ
+abbrev pub written : {A : Type 0} → List A → List A → List A
 written front l = front ++ drop (length front) l

@@ -1,4 +1,4 @@
-// The sizes of document 01, and of the machine, that several layers build on.
+// Limits (REFERENCE.md, Limits) and sizes of the machine that several layers build on.
 
 // The most signals of a kind, and in all.
 pub const KIND_LIMIT: usize = 4;

@@ -25,7 +25,7 @@ use Rattle.cabinet.proofs.ResponseLaws
 use Rattle.cabinet.proofs.AnswersDue
 use Rattle.cabinet.proofs.SolvedTable
 
--- ---- DEMAND 1 at the desk: for all lent memory the answers, in document 01's terms, and what is written to the text or the position are
+-- ---- DEMAND 1 at the desk: for all lent memory the answers, in the reference's terms, and what is written to the text or the position are
 -- exactly those that are due, by the cases of `RespondedAs`, `PrintedAs`, `StartedAs` and `SteppedAs`
 
 -- the whole desk, from a problem's bytes to the bytes that are written: 12, or the text of the answer that is due to the problem

@@ -1,4 +1,4 @@
--- The cabinet: its position (place in document 01), what its two calls answer and make of it, and what is due.
+-- The cabinet (REFERENCE.md, The cabinet): its position (a place in the trade's words), what its calls answer and make of it, what is due.
 -- Assumes nothing.
 use Prim.Native.Nat.{ℕ, _^_, _≤_, _<_}
 use mathlib.Core.Path.{_≡_}
@@ -17,7 +17,7 @@ use Rattle.cabinet.specs.declared.position.Answer.the-variants.{Choice, 
 use Rattle.cabinet.specs.declared.position.Moved.{Moved}
 use Rattle.printer.specs.WellFormed.{Sized, GoodRow, isSized, isRow}
 
--- the answer for document 01's number of it: 65535 is stop, another number a choice
+-- the answer for a row's first cell: 65535 is stop, another number a choice
 abbrev pub answerOf : ℕ → Answer
 answerOf c = cond (eqb c stopCell) Stop (Choice c)
 
@@ -48,7 +48,7 @@ stepOf t shape observation p =
     (cond (ltb observation (2 ^ (shape .observed))) (moveTo t (nextCell t (p .row) observation)) (refusedAt p BadObservation)))
     (refusedAt p BadTable)
 
--- ---- what is due: the answer in document 01's terms, and the position afterwards
+-- ---- what is due: the answer in the reference's terms, and the position afterwards
 
 -- a choice, 65535 for stop; or a refusal's number and place
 abbrev pub toldAnswer : Answer → Told

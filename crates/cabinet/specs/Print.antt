@@ -30,7 +30,7 @@ textAfter t shape worst text = written (bytesBy t shape worst (length text)) tex
 
 -- ---- what is due
 
--- an answer in document 01's terms: the text's length, or a refusal's number and place
+-- an answer in the reference's terms: the text's length, or a refusal's number and place
 abbrev pub toldPrinted : Printed → Told
 toldPrinted (Text n) = values (n ∷ [])
 toldPrinted (Refused r) = toldRefusal r

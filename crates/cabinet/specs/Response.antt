@@ -47,7 +47,7 @@ respondedTable work text source table = cond (ltb text textSize) table (tableAft
 unfoldable pub respondedWork : ℕ → ℕ → List ℕ → List ℕ
 respondedWork table text work = cond (ltb text textSize) work (workAfter table work)
 
--- ---- what is due, of a source and the lengths of the lent memory: the answer in document 01's terms, and the bytes that are written
+-- ---- what is due, of a source and the lengths of the lent memory: the answer in the reference's terms, and the bytes that are written
 pub data RespondedAs (work table text : ℕ) (source : List ℕ) : Told → List ℕ → Type 0 where
   short-memory : Short work table ⊎ (text < textSize) → RespondedAs work table text source (refused 12 0) []
   -- the text of the answer that is due to the source

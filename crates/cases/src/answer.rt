@@ -3,12 +3,12 @@ use cabinet::Answer;
 use cabinet::Moved;
 use cabinet::Printed;
 use game::Solved;
-use libc::STDOUT_FILENO;
+use rules::Reading;
 use rules::Refusal;
 use rules::Verdict;
 
 pub fn say(text: &[u8]) {
-    io::write_all(STDOUT_FILENO, text);
+    streams::say(b"cases", text);
 }
 
 // What is said where a line is not of the form asked for, or memory is not as it should be after a call.
@@ -18,7 +18,7 @@ pub fn wrong() {
 
 fn tell(word: &[u8], n: usize) {
     say(word);
-    io::print_decimal(STDOUT_FILENO, n as u64);
+    streams::say_number(b"cases", n as u64);
 }
 
 fn tell_two(word: &[u8], n: usize, m: usize) {
@@ -28,6 +28,18 @@ fn tell_two(word: &[u8], n: usize, m: usize) {
 
 fn refused(r: Refusal) {
     tell_two(b"\trefused\t", rules::number(r), rules::place(r));
+}
+
+// How many signals of each kind, parts and temporal operators were read.
+pub fn reading(r: Reading) {
+    match r {
+        Reading::Accepted(s) => {
+            tell_two(b"\tread\t", s.outputs, s.observed);
+            tell_two(b"\t", s.hidden, s.parts);
+            tell(b"\t", s.operators);
+        }
+        Reading::Refused(x) => refused(x),
+    }
 }
 
 pub fn verdict(v: Verdict) {

@@ -7,15 +7,17 @@ use crate::answer::solved;
 use crate::answer::verdict;
 use crate::answer::wrong;
 use crate::line::argument;
-use crate::line::field;
 use crate::line::read_numbers;
 use crate::line::read_text;
+use crate::parts::judge_list;
+use crate::parts::list;
+use basics::same;
 use cabinet::Position;
-use check::same;
 use game::ROW;
 use game::Shape;
 use game::TABLE_SIZE;
 use rules::WORK_SIZE;
+use streams::field;
 
 // Says so where memory is not a text with b behind it.
 fn look_at(memory: &[u8], text: &[u8], b: u8) {
@@ -88,10 +90,18 @@ fn run(line: &[u8], table: &[u16], starts: bool) {
     moved(cabinet::step_from(table, shape, observation, position));
 }
 
-// The number of a call by its name, from 0; 5 for an unknown one.
+// Whether call k has this name.
+fn is_call(name: &[u8], k: usize) -> bool {
+    same(
+        name,
+        field(b"judge\tsolve\tprint\tstart\tstep\tlist\tjudge-list", k),
+    )
+}
+
+// The number of a call by its name, from 0; 7 for an unknown one.
 fn call_number(name: &[u8]) -> usize {
     let mut k = 0;
-    while k < 5 && !same(name, field(b"judge\tsolve\tprint\tstart\tstep", k)) {
+    while k < 7 && !is_call(name, k) {
         k += 1;
     }
     k
@@ -105,6 +115,8 @@ fn call_in(line: &[u8], text: &[u8], cells: &[u16], memory: &mut [u8]) {
         2 => print(line, text, cells, memory),
         3 => run(line, cells, true),
         4 => run(line, cells, false),
+        5 => list(line, text, cells),
+        6 => judge_list(line, cells),
         _ => wrong(),
     }
 }

@@ -1,69 +1,25 @@
-// The fields of a line. In a text `\n` is a line end, `\t` a tab and `\\` a backslash; numbers are decimal, and parted by single spaces.
+// The texts and numbers in a line's fields. In a text `\n` is a line end, `\t` a tab and `\\` a backslash; numbers are decimal, and
+// those of a list are parted by single spaces.
 ghost use Prim.Native.Nat.{_≤_, _<_};
 ghost use lib.ListN.{length};
 use crate::answer::wrong;
+use basics::Class;
+use basics::past;
+use streams::Number;
+use streams::field;
+use streams::number_in;
 
-// The place of the next byte b, or the length.
-pub fn find(text: &[u8], from: usize, b: u8) -> usize
-    requires { ⌜ from ≤ length (now text) ⌝ }
-    ensures { λ r. ⌜ (from ≤ r) × (r ≤ length (now (text .entry))) ⌝ }
-{
-    let mut i = from;
-    while i < text.len() && text[i] != b {
-        i += 1;
-    }
-    i
-}
-
-// The place behind the next tab, or the length.
-fn past_tab(line: &[u8], from: usize) -> usize
-    requires { ⌜ from ≤ length (now line) ⌝ }
-    ensures { λ r. ⌜ r ≤ length (now (line .entry)) ⌝ }
-{
-    let i = find(line, from, b'\t');
-    if i < line.len() { i + 1 } else { i }
-}
-
-// The field with a number, from 0; empty where the line has none.
-pub fn field(line: &[u8], k: usize) -> &[u8] {
-    let mut start = 0;
-    let mut j = 0;
-    while j < k {
-        start = past_tab(line, start);
-        j += 1;
-    }
-    &line[start..find(line, start, b'\t')]
-}
-
-// A number with one digit more. Numbers are below 65,536.
-fn with_digit(n: usize, digit: u8) -> usize
-    requires { ⌜ n < 65536 ⌝ }
-    ensures { λ r. ⌜ r < 65536 ⌝ }
-{
-    if digit >= b'0' && digit <= b'9' {
-        let m = n * 10 + (digit - b'0') as usize;
-        if m < 65536 {
-            return m;
-        }
-    }
-    wrong();
-    0
-}
-
-// The number that digits stand for.
+// The number that digits stand for; 0 where they are wrong.
 fn number(digits: &[u8]) -> usize
     ensures { λ r. ⌜ r < 65536 ⌝ }
 {
-    if digits.len() == 0 {
-        wrong();
+    match number_in(digits) {
+        Number::Value(n) => n,
+        Number::Bad => {
+            wrong();
+            0
+        }
     }
-    let mut n = 0;
-    let mut i = 0;
-    while i < digits.len() {
-        n = with_digit(n, digits[i]);
-        i += 1;
-    }
-    n
 }
 
 // The number in a field; 0 where the field is empty.
@@ -90,6 +46,18 @@ fn put_number(numbers: &mut [u16], n: usize, digits: &[u8]) -> usize
     n
 }
 
+// The place behind a number, where a space or the list's end has to stand.
+fn number_end(list: &[u8], from: usize) -> usize
+    requires { ⌜ from ≤ length (now list) ⌝ }
+    ensures { λ r. ⌜ (from ≤ r) × (r ≤ length (now (list .entry))) ⌝ }
+{
+    let end = past(list, from, Class::Word);
+    if end < list.len() && list[end] != b' ' {
+        wrong();
+    }
+    end
+}
+
 // Reads numbers parted by spaces, and answers how many there are.
 pub fn read_numbers(list: &[u8], numbers: &mut [u16]) -> usize
     ensures { λ r. ⌜ r ≤ length (now (numbers .exit)) ⌝ }
@@ -97,7 +65,7 @@ pub fn read_numbers(list: &[u8], numbers: &mut [u16]) -> usize
     let mut n = 0;
     let mut i = 0;
     while i < list.len() {
-        let end = find(list, i, b' ');
+        let end = number_end(list, i);
         n = put_number(numbers, n, &list[i..end]);
         i = end + 1;
     }

@@ -7,37 +7,52 @@
 //     name, print, the text afterwards, the table, bytes not lent, rows, worst case, observed signals
 //     name, start, nothing, the table, 0, rows, observed signals, row and choice before
 //     name, step, nothing, the table, 0, rows, observed signals, row and choice before, observation
+//     name, list, the problem, its parts, 0, records lent
+//     name, judge-list, nothing, the trace, 0, records lent, signals of each kind, parts counted, the parts
 //
-// `line.rt` says how a text and a list of numbers are written. Lent memory holds ones before a call, and all of it is looked at afterwards: the
-// answer has the field `wrong` where it is not as it should be, or where the line is not of this form.
+// `line.rt` says how a text and a list of numbers are written, `parts.rt` how parts are. Lent memory holds ones before a call, and all of
+// it is looked at afterwards: the answer has the field `wrong` where it is not as it should be, or where the line is not of this form.
+use basics::Class;
 use libc::STDIN_FILENO;
+use streams::Input;
 
 mod answer;
 mod call;
 mod line;
+mod parts;
 
-// Runs the case of a line.
-fn run(line: &[u8]) {
-    answer::say(line::field(line, 0));
+// Runs the case of a line, and answers whether the end of its line could be written.
+fn run(line: &[u8]) -> bool {
+    answer::say(streams::field(line, 0));
     call::call(line);
-    answer::say(b"\n");
+    streams::say(b"cases", b"\n")
+}
+
+// Runs the cases up to one that could not be written.
+fn run_lines(input: &[u8]) -> bool {
+    let mut i = 0;
+    while i < input.len() {
+        let end = basics::past(input, i, Class::Line);
+        if !run(&input[i..end]) {
+            return false;
+        }
+        i = end + 1;
+    }
+    true
 }
 
 fn run_all(input: &[u8]) {
-    let mut i = 0;
-    while i < input.len() {
-        let end = line::find(input, i, b'\n');
-        run(&input[i..end]);
-        i = end + 1;
+    if run_lines(input) {
+        streams::close_output(b"cases");
     }
 }
 
-// The input is less than the buffer, or there may be more of it.
+// No case is run from a part of the input: one that fills the buffer may go on.
 fn main() {
     let mut input = io::large_buffer();
-    let n = io::read_full(STDIN_FILENO, &mut input);
-    if n == input.len() {
-        answer::wrong();
+    match streams::read_to_end(STDIN_FILENO, &mut input) {
+        Input::Whole(n) => run_all(streams::first(&input, n)),
+        Input::Longer => streams::tell(b"cases", b"standard input", b"over 65,535 bytes"),
+        Input::Failed => streams::fail(b"cases", b"standard input"),
     }
-    run_all(&input[..n]);
 }

@@ -1,4 +1,4 @@
--- The worked examples A to K of document 01, and counts of states. Assumes nothing.
+-- The worked examples A to K (REFERENCE.md, Examples), and counts of states. Assumes nothing.
 use mathlib.Core.Path.{_≡_}
 use mathlib.Core.List.{[], _∷_, map}
 use Rattle.formula.specs.Formula.{signal, True, False, X, F, U}

@@ -1,4 +1,4 @@
--- The examples A to K of document 01 ("Sheets and runs to hold to") as one table: a problem's bytes, what is asked of them, and the answer.
+-- The examples A to K (REFERENCE.md, Examples) as one table: a problem's bytes, what is asked of them, and the answer.
 -- Assumes nothing.
 use Prim.Native.Nat.{ℕ}
 use Prim.Native.String.{String}
@@ -37,7 +37,7 @@ toldFor source text = values (response source)
 toldFor source (judge π) = toldVerdict (judged workSize source π)
 toldFor source (accept π) = toldAccepted (readProblem source) π
 
--- document 01's letter, the problem, what is asked of it, and what is to be told
+-- the example's letter, the problem, what is asked of it, and what is to be told
 pub data Example : Type 0 where
   example : (letter source : String) → Asked → Told → Example
 

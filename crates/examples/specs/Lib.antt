@@ -1,3 +1,3 @@
--- The worked examples of document 01, and counts of states.
+-- The worked examples of REFERENCE.md, and counts of states.
 pub mod Examples
 pub mod StateCount

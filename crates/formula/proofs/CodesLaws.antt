@@ -83,7 +83,7 @@ part-coded q h =
 abbrev pub Held : List Part → Type 0
 Held ps = partsIn (codesOf ps) ≡ ps
 
-held-append : (ps qs : List Part) → Held ps → Held qs → Held (ps ++ qs)
+pub held-append : (ps qs : List Part) → Held ps → Held qs → Held (ps ++ qs)
 unfolding partsIn
 held-append ps qs h i = ap partsIn (map-append codeOf ps qs) ∙ map-append partOf (codesOf ps) (codesOf qs) ∙ ap₂ _++_ h i
 

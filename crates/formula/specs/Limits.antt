@@ -1,4 +1,4 @@
--- The sizes of document 01 that concern a problem's formula.
+-- The limit of a problem's formula (REFERENCE.md, Limits).
 -- Assumes nothing.
 use Prim.Native.Nat.{ℕ}
 

@@ -1,4 +1,4 @@
--- A formula as a list of parts (document 01's term), each after its operands. A part is an operator and the indices of its
+-- A formula as a list of parts (REFERENCE.md, Formulas), each after its operands. A part is an operator and the indices of its
 -- operands; code keeps it as one number (`Codes`), in which the byte that stands for the operator in a rule is the lowest.
 -- `partsOf` writes a formula's parts, and `formulaAt` reads the formula of a part back.
 -- Assumes nothing.
@@ -88,8 +88,12 @@ kindsOf ps = map (λ p. byteOf (p .kind)) ps
 
 -- ---- the formula of a part
 
+-- past the end of a list
+abbrev pub noPart : Part
+noPart = record { kind = op.False; left = 0; right = 0 }
+
 unfoldable pub partAt : List Part → ℕ → Part
-partAt ps i = getD ps i (record { kind = op.False; left = 0; right = 0 })
+partAt ps i = getD ps i noPart
 
 -- how many operands an operator has
 abbrev pub arity : Op → ℕ

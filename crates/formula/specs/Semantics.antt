@@ -1,4 +1,4 @@
--- What a formula means on a trace (a recorded run in document 01): a list of letters, one for each step.
+-- What a formula means on a trace (a run in the trade's words): a list of letters, one for each step (REFERENCE.md, Meaning).
 -- `Sat` is the published relation, and `holds` is the evaluator. `proofs/Agreement.antt` shows that they agree.
 -- Assumes nothing.
 use Prim.Native.Nat.{ℕ, suc, _≤_, _<_}

@@ -1,4 +1,4 @@
--- The values of parts on a trace, for any parts. An obligation (document 01's term) is what a temporal part needs to know of the
+-- The values of parts on a trace, for any parts. An obligation (REFERENCE.md, States) is what a temporal part needs to know of the
 -- next step; behind the last step none is met.
 -- Assumes nothing.
 use Prim.Native.Nat.{ℕ}

@@ -1,7 +1,7 @@
 // The operators of a formula, and what a part's value is.
 ghost use mathlib.Core.Path.{_≡_};
 ghost use Rattle.basics.specs.Bits.{bit};
-ghost use Rattle.formula.specs.Parts.{opOf, isTemporal};
+ghost use Rattle.formula.specs.Parts.{byteOf, opOf, isTemporal};
 ghost use Rattle.formula.specs.Values.{combine, owed};
 ghost use Rattle.formula.specs.Entries.{entry};
 
@@ -19,6 +19,27 @@ pub enum Op {
     Always,
     Until,
     Release,
+}
+
+// The byte that stands for an operator in a rule.
+pub(crate) fn byte_of(op: Op) -> u8
+    ensures { λ r. ⌜ r ≡ byteOf op ⌝ }
+{
+    match op {
+        Op::Signal => 97,
+        Op::True => 116,
+        Op::False => 102,
+        Op::Not => 33,
+        Op::And => 38,
+        Op::Or => 124,
+        Op::Implies => 45,
+        Op::Next => 88,
+        Op::WeakNext => 78,
+        Op::Eventually => 70,
+        Op::Always => 71,
+        Op::Until => 85,
+        Op::Release => 82,
+    }
 }
 
 // The operator that a byte stands for in a rule; `False` for a byte that stands for none.

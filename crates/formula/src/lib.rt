@@ -8,5 +8,7 @@ pub use formula::Op;
 pub use formula::bit_of;
 pub use formula::is_temporal;
 pub use parts::Part;
+pub use parts::code_of;
 pub use parts::is_temporal_at;
 pub use parts::part_at;
+pub use parts::part_of;

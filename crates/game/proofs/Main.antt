@@ -32,8 +32,8 @@ use Rattle.game.proofs.SolvedAsLaws
 use Rattle.game.proofs.SolvedAsCases
 use Rattle.game.proofs.LentMemory
 
--- ---- DEMAND 3, for every text and all lent memory: `toldBy` is what `solve` answers, in document 01's terms, and `cellsBy` what it writes to
--- the table
+-- ---- DEMAND 3, for every text and all lent memory: `toldBy` is what `solve` answers, in the reference's terms, and `cellsBy` what it
+-- writes to the table
 
 module _ (source : List ℕ) (work table : ℕ) where
   -- whole: they are these exactly where these are due. The cases of `SolvedAs` follow one by one
@@ -63,7 +63,7 @@ module _ (source : List ℕ) (work table : ℕ) where
         pub unrealizable : (toldBy work table source ≡ refused 11 0) ↔ ((σ : Strategy set) → IsStrategy (gameOf p) σ → ¬ Wins (gameOf p) σ)
         unrealizable = SolvedAsCases.unrealizable source work table enough room p denotes few-states few-beliefs
 
-        -- otherwise the table that document 01 lays down is written, and told with its row count, its observed signals and its worst case ..
+        -- otherwise the table that the reference lays down is written, and told with its row count, observed signals and worst case ..
         pub otherwise : (¬ (toldBy work table source ≡ refused 11 0))
             → (n : ℕ) × (r : ℕ) × (toldBy work table source ≡ values (n ∷ p .signals .observed ∷ r ∷ [])) × Controller p n r (cellsBy work table source)
         otherwise = SolvedAsCases.otherwise source work table enough room p denotes few-states few-beliefs
@@ -88,8 +88,8 @@ work-kept = LentMemory.work-kept
 pub work-cleared : (table : ℕ) (w : List ℕ) → (¬ Short (length w) table) → workAfter table w ≡ replicate (length w) 0
 work-cleared = LentMemory.work-cleared
 
--- what the table is good for: from row 0, whatever the observed and the hidden signals do at each step, it stops, within the worst case,
--- with a trace that satisfies the problem; one play takes as many steps; and every strategy that wins has a play of at least as many
+-- what the table is good for: every play of it ends within the worst case, with a trace that satisfies the problem; one play takes so long;
+-- and a strategy that wins has a play that takes as long, or longer
 pub plays : (p : Problem) (n r : ℕ) (t : List ℕ) → Controller p n r t
     → IsStrategy (gameOf p) (tableStrategy t)
     × ((play : Play (gameOf p)) → (m : ℕ) × (m ≤ r) × Steps (tableStrategy t) play m × Satisfies (run (gameOf p) (tableStrategy t) play m) p)
@@ -97,12 +97,12 @@ pub plays : (p : Problem) (n r : ℕ) (t : List ℕ) → Controller p n r t
     × ((σ : Strategy set) → IsStrategy (gameOf p) σ → Wins (gameOf p) σ → (play : Play (gameOf p)) × (m : ℕ) × Steps σ play m × (r ≤ m))
 plays = SolvedAsCases.plays
 
--- the ranks in it are those of document 01, for any histories' final beliefs: a final belief has rank 0 ..
+-- the ranks in it are those of the reference (REFERENCE.md, The game), for any histories' final beliefs: a final belief has rank 0 ..
 pub final-rank : (choices observations : ℕ) (Final : History → Type 0) → 0 < observations → (h : History)
     → Final h ↔ RankIs choices observations Final h 0
 final-rank = IsTableLaws.final-rank
 
--- .. and another has rank r, the smallest with a choice after which every observation leads to a rank below r
+-- .. and that of another is the least r for which some choice leads, at every observation, to a rank below r
 pub other-rank : (choices observations : ℕ) (Final : History → Type 0) → 0 < observations → (h : History) → (¬ Final h) → (r : ℕ)
     → RankIs choices observations Final h r
     ↔ (HasChoice choices observations Final r h × ((q : ℕ) → q < r → ¬ HasChoice choices observations Final q h))

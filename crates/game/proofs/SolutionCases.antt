@@ -10,9 +10,8 @@ use lib.Pow.{pow-mono, pow-pos}
 use Rattle.basics.specs.Limits.{kindLimit}
 use Rattle.basics.specs.Reach.{Listing, closed, over}
 use Rattle.basics.proofs.ReachLaws.{over-iff, closed-not-over}
-use Rattle.rules.specs.Judge.{countsIn}
+use Rattle.rules.specs.Within.{countsIn, Few}
 use Rattle.rules.specs.Problem.{Problem, problemParts}
-use Rattle.rules.specs.Within.{Few}
 use Rattle.search.specs.PatternSet.{PatternSet}
 use Rattle.search.specs.ReachableSets.{sameSet}
 use Rattle.search.proofs.ReachableSetsLaws.{sameSet-says}

@@ -8,7 +8,7 @@ use mathlib.Core.Bool.{true}
 use mathlib.Core.List.{List, [], _∷_, foldl}
 use lib.ListN.{length, getD}
 use lib.Pow.{pow-pos}
-use Rattle.rules.specs.Judge.{countsIn}
+use Rattle.rules.specs.Within.{countsIn}
 use Rattle.formula.specs.declared.parts.Part.{Part}
 use Rattle.rules.specs.Problem.{Problem, problemParts}
 use Rattle.rules.specs.Satisfies.{Satisfies}

@@ -1,5 +1,5 @@
--- What is believed after a history, and how many states and beliefs there are, as "States and beliefs" of document 01 counts them: by the
--- states that letters lead to, with no search and no numbers.
+-- What is believed after a history, and how many states and beliefs there are (REFERENCE.md, States and Beliefs): by the states that
+-- letters lead to, with no search and no numbers.
 -- Assumes nothing.
 use Prim.Native.Nat.{ℕ, suc}
 use mathlib.Core.Path.{_≡_}
@@ -8,7 +8,7 @@ use mathlib.Core.Bool.{true}
 use mathlib.Core.List.{List}
 use lib.ListN.{length}
 use Rattle.basics.specs.Member.{_∈_, Distinct}
-use Rattle.rules.specs.Judge.{countsIn}
+use Rattle.rules.specs.Within.{countsIn}
 use Rattle.rules.specs.Problem.{Problem, problemParts}
 use Rattle.obligations.specs.Letters.{lettersOf}
 use Rattle.search.specs.Limits.{stateLimit}
@@ -19,7 +19,7 @@ use Rattle.play.specs.History.{History, Possible, AtLeastBeliefs, Hidden, lette
 use Rattle.game.specs.Solution.{gameOf}
 
 module _ (p : Problem) where
-  -- s is one of the states that the hidden signals allow after the choices and observations so far
+  -- some hidden values lead to s, with the choices and observations of the history
   abbrev pub Believed : History → PatternSet → Type 0
   Believed h s = (x : ℕ → ℕ) × Hidden (gameOf p) x × (stateAfter (problemParts p) (letters (gameOf p) h x) ≡ s)
 
@@ -27,7 +27,7 @@ module _ (p : Problem) where
   abbrev pub SameBelief : History → History → Type 0
   SameBelief h k = (s : PatternSet) → Believed h s ↔ Believed k s
 
-  -- a final belief (stop belief in document 01) is one whose states all accept
+  -- a final belief (a stop belief in the trade's words): all states that it allows accept
   abbrev pub FinalBelief : History → Type 0
   FinalBelief h = (s : PatternSet) → Believed h s → accepts s ≡ true
 

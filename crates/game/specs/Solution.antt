@@ -4,7 +4,7 @@ use Prim.Native.Nat.{ℕ, _^_}
 use mathlib.Core.Bool.{Bool}
 use mathlib.Core.List.{List, []}
 use lib.ListN.{length, getD}
-use Rattle.rules.specs.Judge.{countsIn}
+use Rattle.rules.specs.Within.{countsIn}
 use Rattle.formula.specs.declared.parts.Part.{Part}
 use Rattle.formula.specs.Letter.{Counts, letterFrom}
 use Rattle.rules.specs.Problem.{Problem, problemParts}

@@ -1,4 +1,4 @@
--- What the whole call answers and leaves in lent memory, and what is due by document 01: demand 3, from a source's bytes to whole plays.
+-- What the whole call answers and leaves in lent memory, and what is due: demand 3 (GLOSSARY.md), from a source's bytes to whole plays.
 -- Assumes nothing.
 use Prim.Native.Nat.{ℕ, _*_, _<_}
 use mathlib.Core.Logic.{_⊎_}
@@ -50,7 +50,7 @@ isShort work table = ltb work workSize || ltb table tableSize
 unfoldable pub solvedBy : ℕ → ℕ → List ℕ → Solved
 solvedBy work table source = cond (isShort work table) (Refused refusal.ShortMemory) (solvedFrom (readProblem source))
 
--- in document 01's terms: the row count, the number of observed signals and the worst case; or a refusal's number and place
+-- in the reference's terms: the row count, the number of observed signals and the worst case; or a refusal's number and place
 abbrev pub toldSolved : Solved → Told
 toldSolved (Table shape r) = values (shape .rows ∷ shape .observed ∷ r ∷ [])
 toldSolved (Refused x) = toldRefusal x
@@ -87,7 +87,7 @@ usedRows (Refused x) table = []
 
 -- ---- what is due
 
--- the table that document 01 lays down for a problem, of n rows and with worst case r
+-- the table that the reference lays down for a problem (REFERENCE.md, The table), of n rows and with worst case r
 pub record Controller (p : Problem) (n r : ℕ) (cells : List ℕ) : Type 0 where
   -- one row per belief met: row 0 the start, rows numbered as first met, the smallest choice that leads below the row's rank, next rows
   -- by the moves
@@ -101,7 +101,7 @@ pub record Controller (p : Problem) (n r : ℕ) (cells : List ℕ) : Type 0 wher
 abbrev pub Short : (work table : ℕ) → Type 0
 Short work table = (work < workSize) ⊎ (table < tableSize)
 
--- DEMAND 3. What is due for a text where so many bytes of work memory and so many cells of a table are lent: the answer in document 01's
+-- DEMAND 3. What is due for a text where so many bytes of work memory and so many cells of a table are lent: the answer in the reference's
 -- terms, and the cells that are written.
 pub data SolvedAs (work table : ℕ) (source : List ℕ) : Told → List ℕ → Type 0 where
   -- 12: lent memory is too short

@@ -1,4 +1,4 @@
--- The written grammar of a formula text (document 01): a table of operators by level, and what it derives from a list of
+-- The written grammar of a formula text (REFERENCE.md, Formulas): a table of operators by level, and what it derives from a list of
 -- tokens. Levels by number: 4 `->`, 3 `|`, 2 `&`, 1 `U` and `R`, 0 the prefixes and the atoms.
 -- Assumes nothing.
 use mathlib.Core.Path.{_≡_}

@@ -1,4 +1,4 @@
--- The text of a formula (a rule in document 01), from its bytes to a tree of tokens and its cells. In reading order:
+-- The text of a formula (a rule in a problem's text), from its bytes to a tree of tokens and its cells. In reading order:
 pub mod Lex
 pub mod Tree
 pub mod Cells

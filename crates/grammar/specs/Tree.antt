@@ -1,4 +1,4 @@
--- The tree of a formula text, and the list of cells that stands for it: one for each part (document 01's term), after its operands'.
+-- The tree of a formula text, and the list of cells that stands for it: one for each part (REFERENCE.md, Formulas), after its operands'.
 -- Assumes nothing.
 use Prim.Native.Nat.{ℕ, _+_, _*_, _%_}
 use mathlib.Core.List.{List, [], _∷_, _++_}

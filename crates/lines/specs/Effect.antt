@@ -1,5 +1,5 @@
--- What one line of a problem says: it declares a signal, states a formula, or is refused, with the tests of document 01 in their
--- order.
+-- What one line of a problem says: it declares a signal, states a formula, or is refused, by the tests in their order
+-- (REFERENCE.md, A problem and Refusals).
 -- Assumes nothing.
 use Prim.Native.Nat.{ℕ, zero, suc, _+_, _*_}
 use mathlib.Core.Bool.{Bool, true, not, _&&_, _||_, cond}

@@ -1,4 +1,4 @@
--- The sizes of document 01 that concern one line of a problem.
+-- The limits of one line of a problem (REFERENCE.md, Limits).
 -- Assumes nothing.
 use Prim.Native.Nat.{ℕ}
 

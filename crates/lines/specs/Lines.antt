@@ -1,4 +1,4 @@
--- The lines of a problem's text (a sheet in document 01) and their two fields.
+-- The lines of a problem's text (a sheet in the trade's words) and their two fields (REFERENCE.md, A problem).
 -- Assumes nothing.
 use Prim.Native.Nat.{ℕ, _+_}
 use mathlib.Core.Bool.{Bool, true, false, not, _&&_, _||_, cond}

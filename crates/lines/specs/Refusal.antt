@@ -1,4 +1,4 @@
--- What a call may say no to (document 01, "What the desk may say no to"): the number of each refusal and its place.
+-- What a call may say no to (REFERENCE.md, Refusals): the number of each refusal and its place.
 -- Assumes nothing.
 use Prim.Native.Nat.{ℕ}
 use mathlib.Core.List.{List}
@@ -42,7 +42,7 @@ placeOf Stopped = 0
 placeOf BadObservation = 0
 placeOf (BadTrace n) = n
 
--- an answer in the terms of document 01: its values, or a refusal's number and place
+-- an answer in the reference's terms: its values, or a refusal's number and place
 pub data Told : Type 0 where
   values : List ℕ → Told
   refused : (number place : ℕ) → Told

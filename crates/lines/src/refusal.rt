@@ -1,4 +1,4 @@
-// What a call may say no to, with the number and the place that document 01 gives.
+// What a call may say no to, with its number and its place (REFERENCE.md, Refusals).
 ghost use mathlib.Core.Path.{_≡_};
 ghost use Rattle.lines.specs.Refusal.{numberOf, placeOf};
 
@@ -21,7 +21,7 @@ pub enum Refusal {
     BadTrace(usize),
 }
 
-// The number of a refusal in document 01.
+// The number of a refusal.
 pub fn number(r: Refusal) -> usize
     ensures { λ n. ⌜ n ≡ numberOf r ⌝ }
 {

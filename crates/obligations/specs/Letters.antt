@@ -1,5 +1,5 @@
 -- The letters of a problem: one for every way to set its signals. They are numbered without gaps, the output signals lowest
--- and the hidden ones highest; a letter itself has each kind at its place of document 01.
+-- and the hidden ones highest; a letter itself has each kind at its own bits (REFERENCE.md, Letters).
 -- Assumes nothing.
 use Prim.Native.Nat.{ℕ, _+_, _/_, _%_, _^_}
 use mathlib.Core.List.{List}

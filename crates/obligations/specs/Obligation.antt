@@ -1,4 +1,4 @@
--- Obligations (document 01's term): what the parts of a formula need to know of the next step. There is one bit for each
+-- Obligations (REFERENCE.md, States): what the parts of a formula need to know of the next step. There is one bit for each
 -- temporal operator, in the order of the parts, and on top one for the whole formula. A pattern gives every obligation a bit;
 -- all zero fits "no next step".
 -- Assumes nothing.

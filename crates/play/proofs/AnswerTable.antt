@@ -1,4 +1,4 @@
--- The table that is answered is the one that document 01 lays down, and its worst case the rank of the start.
+-- The table that is answered is the one that the reference lays down (`IsTable`), and its worst case the rank of the start.
 -- Assumes nothing.
 use Prim.Native.Nat.{ℕ, _≤_, _<_}
 use native.Mathlib.Nat.{le-refl}

@@ -1,4 +1,4 @@
--- A belief is the set of states that the hidden signals allow after the choices and observations so far.
+-- A belief holds exactly the states that some hidden values lead to, with the choices and observations of the history.
 -- Assumes nothing.
 use Prim.Native.Nat.{ℕ, zero, suc, _<_}
 use mathlib.Core.Path.{_≡_, refl, sym, subst}

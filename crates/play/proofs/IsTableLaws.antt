@@ -1,5 +1,5 @@
--- The ranks of histories are those of document 01: "A stop belief has rank 0. Another has rank r, the smallest with a choice after which
--- every reading leads to a rank below r".
+-- The ranks of histories are those of the reference (REFERENCE.md, The game): a final belief's is 0, and another's the smallest number
+-- below which some choice leads at every observation.
 -- Assumes nothing.
 use Prim.Native.Nat.{ℕ, zero, suc, _≤_, _<_}
 use native.Mathlib.Nat.{le-refl}

@@ -1,4 +1,4 @@
--- There is only one table as document 01 lays it down, and a belief has only one rank and only one choice.
+-- There is only one table as the reference lays it down (`IsTable`), and a belief has only one rank and only one choice.
 -- Assumes nothing.
 use Prim.Native.Nat.{ℕ, zero, suc, _*_, _/_, _%_, _-_, _≤_, _<_}
 use native.Mathlib.Nat.{div-add-mod', le-refl}

@@ -1,4 +1,4 @@
--- The game of document 01, for either order of a step, by the theory of plans; and its best strategy for the order `set`.
+-- The game, for either order of a step, by the theory of plans; and its best strategy for the order `set`.
 -- Assumes nothing.
 use Prim.Native.Nat.{ℕ, zero, suc, _≤_, _<_, pred}
 use native.Mathlib.Omega.{arith}

@@ -1,4 +1,4 @@
--- The table that is computed is the one that document 01 lays down, and the only one.
+-- The table that is computed is the one that the reference lays down (`IsTable`), and the only one.
 -- Assumes nothing.
 use Prim.Native.Nat.{ℕ, zero, suc, _≤_, _<_}
 use native.Mathlib.Nat.{le-refl}
@@ -218,7 +218,7 @@ module _ (A : Arena) (same : A .K → A .K → Bool) (says : (a b : A .K) → Sa
               };
         }
 
-  -- the table that is computed is the one that document 01 lays down
+  -- the table that is computed is the one that the reference lays down
   pub table-is : IsTable choices observations Same Final (length (rows A same choices observations n)) (tableCells A same choices observations n)
   table-is =
       let steps : A .K → List (A .K) = followers A same choices observations n in

@@ -1,5 +1,5 @@
--- Beliefs: the sets of states that the hidden values allow after the choices and observations so far, as "States and beliefs" of document 01 has
--- them. The states of a deterministic automaton are numbered from 0; a belief is the list that says of each whether it is in.
+-- Beliefs: the sets of states that the hidden values allow after the choices and observations so far (REFERENCE.md, Beliefs).
+-- The states of a deterministic automaton are numbered from 0; a belief is the list that says of each whether it is in.
 -- Assumes nothing.
 use Prim.Native.Nat.{ℕ}
 use mathlib.Core.Bool.{Bool, false, not, _&&_, _||_}

@@ -1,5 +1,5 @@
--- The game: strategies, plays, runs and winning, as "The game" of document 01 defines them, for any numbers of choices, observations
--- (readings there) and hidden values, any way to make a letter of them, any meaning of traces, and either order of a step.
+-- The game (REFERENCE.md, The game): strategies, plays, their traces and winning, for any numbers of choices, observations (readings in the
+-- trade's words) and hidden values, any way to make a letter of them, any meaning of traces, and either order of a step.
 -- Assumes nothing.
 use Prim.Native.Nat.{ℕ, _≤_, _<_}
 use mathlib.Core.Path.{_≡_}
@@ -69,7 +69,7 @@ module _ {G : Game} {o : Order} (σ : Strategy o) (p : Play G) where
   abbrev pub GoesOn : ℕ → Type 0
   GoesOn n = (m : ℕ) → m < n → (a : Answer o) × (σ (seen p m) ≡ choose a)
 
-  -- the play stops as soon as the list of its observations so far is mapped to "stop": it takes n steps
+  -- the play takes n steps: the answer to its first n observations is "stop", and no earlier one is
   abbrev pub Steps : ℕ → Type 0
   Steps n = (σ (seen p n) ≡ stop) × GoesOn n
 
@@ -79,15 +79,15 @@ choiceOf stop s = 0
 
 module _ (G : Game) {o : Order} (σ : Strategy o) where
   -- the letters of a play's first n steps: the strategy adds its choice, made from the observations before the step, to each pair.
-  -- The trace (document 01's run) of a play that takes n steps is `run p n`
+  -- The trace of a play that takes n steps is `run p n`
   abbrev pub run : Play G → ℕ → List ℕ
   run p n = tabulate n (λ i. G .letter (choiceOf (σ (seen p i)) ((p i) .observation)) ((p i) .observation) ((p i) .hidden))
 
-  -- a strategy wins if every play stops after finitely many steps with a true trace
+  -- it wins: no play goes on for ever, and each ends with a true trace
   abbrev pub Wins : Type 0
   Wins = (p : Play G) → (n : ℕ) × Steps σ p n × G .IsTrue (run p n)
 
-  -- its worst case is the most steps that any of its plays takes
+  -- its worst case: no play takes more steps, and one takes as many
   pub record WorstCase (r : ℕ) : Type 0 where
     pub at-most : (p : Play G) (n : ℕ) → Steps σ p n → n ≤ r
     pub reached : (p : Play G) × Steps σ p r
@@ -99,6 +99,6 @@ pub record Optimal (G : Game) {o : Order} (σ : Strategy o) (r : ℕ) : Type 0 w
   pub worst : WorstCase G σ r
   pub least : (τ : Strategy o) → IsStrategy G τ → Wins G τ → (p : Play G) × (n : ℕ) × Steps τ p n × (r ≤ n)
 
--- no strategy of the order wins (unwinnable in document 01)
+-- no strategy of the order wins (unwinnable in the trade's words)
 abbrev pub Unrealizable : Game → Order → Type 0
 Unrealizable G o = (σ : Strategy o) → IsStrategy G σ → ¬ Wins G σ

@@ -1,4 +1,4 @@
--- The table that "The game" of document 01 lays down, said of histories alone: no position has a number, and nothing is searched.
+-- The table of a problem (REFERENCE.md, The table), said of histories alone: no position has a number, and nothing is searched.
 -- `proofs/TableIs` shows that `tableCells` is such a table, and `proofs/OneTable` that there is only one.
 -- Assumes nothing.
 use Prim.Native.Nat.{ℕ, zero, suc, _*_, _≤_, _<_}

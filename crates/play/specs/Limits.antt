@@ -1,4 +1,4 @@
--- The sizes of document 01 that concern the game.
+-- The limits of the game (REFERENCE.md, Limits).
 -- Assumes nothing.
 use Prim.Native.Nat.{ℕ, _*_, _^_}
 use Rattle.basics.specs.Limits.{kindLimit}

@@ -1,4 +1,4 @@
--- Ranks: how far a position lies from a sure stop, as "The game" of document 01 defines them for beliefs.
+-- Ranks: how far a position lies from a sure stop (REFERENCE.md, The game).
 -- Assumes nothing.
 use Prim.Native.Nat.{ℕ, zero, suc, _<_, pred}
 use mathlib.Core.Path.{_≡_}

@@ -1,4 +1,4 @@
--- Tables: the cells of a solved game, and a table read as a strategy, as "The game" of document 01 has them.
+-- Tables: the cells of a solved game, and a table read as a strategy (REFERENCE.md, The table).
 -- Assumes nothing.
 use Prim.Native.Nat.{ℕ, _*_, _≤_, _<_}
 use mathlib.Core.Path.{_≡_}
@@ -13,8 +13,8 @@ use Rattle.play.specs.Cells.{rowSize, firstCell, isStop, nextCell, stopR
 use Rattle.play.specs.Game.{set, choose, stop, Strategy}
 use Rattle.play.specs.Rank.{Arena, bestChoice}
 
--- read as a strategy, from a row: the table moves with each observation to the next row for it, and answers the row's choice, or
--- "stop" from a stop row on
+-- a table as a strategy, from a row on: each observation leads to another row, and the answer is the choice of the row where it ends; behind
+-- a stop row it is "stop"
 abbrev pub readFrom : List ℕ → ℕ → Strategy set
 readFrom t row [] = elim (isStop t row) [ true ↦ stop | false ↦ choose (firstCell t row) ]
 readFrom t row (s ∷ h) = elim (isStop t row) [ true ↦ stop | false ↦ readFrom t (nextCell t row s) h ]

@@ -1,4 +1,4 @@
--- The sizes of document 01 that concern the printing.
+-- The least memory for a table's text (REFERENCE.md, Limits).
 -- Assumes nothing.
 use Prim.Native.Nat.{ℕ}
 

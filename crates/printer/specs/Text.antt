@@ -1,4 +1,4 @@
--- The text that a table and a refusal are printed as ("The desk's printing" of document 01).
+-- The text that a table and a refusal are printed as (REFERENCE.md, The text).
 -- Assumes nothing.
 use Prim.Native.Nat.{ℕ, _^_}
 use mathlib.Core.Bool.{cond}
@@ -15,7 +15,7 @@ use Rattle.tables.specs.declared.shape.Shape.{Shape}
 abbrev pub nextFields : List ℕ → ℕ → ℕ → List (List ℕ)
 nextFields t row n = tabulate n (λ s. decimal (nextCell t row s))
 
--- a row: `stop`, or the choice and a next row for each possible observation upward
+-- a row: the word `stop`, or its choice and then its next rows, from observation 0 on
 abbrev pub rowFields : List ℕ → Shape → ℕ → List (List ℕ)
 rowFields t shape row = cond (isStop t row) (bytesOf "stop" ∷ []) (decimal (firstCell t row) ∷ nextFields t row (2 ^ (shape .observed)))
 

@@ -1,4 +1,4 @@
--- What a table must be, where number 13 of document 01 is not met, and the tests of it. The printer holds every row to them, the cabinet the row it stands on.
+-- What a table must be, by number 13 (REFERENCE.md, Refusals), and the tests: the printer asks it of every row, the cabinet of its own.
 -- Assumes nothing.
 use Prim.Native.Nat.{ℕ, _*_, _^_, _≤_, _<_}
 use mathlib.Core.Path.{_≡_}

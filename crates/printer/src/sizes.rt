@@ -1,4 +1,4 @@
-// The sizes of document 01 that concern a table in use.
+// The least memory for a table's text (REFERENCE.md, Limits).
 
 // The least bytes of a text.
 pub const TEXT_SIZE: usize = 19456;

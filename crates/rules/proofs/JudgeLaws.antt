@@ -123,9 +123,9 @@ module _ (source work : List ℕ) (π : Trace) where
       let j = judged-told (Refused ShortMemory) (rw (lt-ltb (length work) workSize h)) in
       (j .0, rw (lt-ltb (length work) workSize h) refl, j .1)
 
-  pub long-memory : workSize ≤ length work → (v : Verdict) → v ≡ judgedBy (readProblem source) π → (n : ℕ) → n ≡ length work
-      → (v ≡ judged (length work) source π) × (replicate n 0 ≡ workAfter work) × JudgedAs (length work) source π (toldVerdict v)
+  pub long-memory : workSize ≤ length work → (v : Verdict) → v ≡ judgedBy (readProblem source) π
+      → (v ≡ judged (length work) source π) × (replicate (length work) 0 ≡ workAfter work) × JudgedAs (length work) source π (toldVerdict v)
   unfolding judged
-  long-memory h v e n m =
+  long-memory h v e =
       let j = judged-told v (e ∙ rw (le-ltb (length work) workSize h) refl) in
-      (j .0, rw (le-ltb (length work) workSize h, m) refl, j .1)
+      (j .0, rw (le-ltb (length work) workSize h) refl, j .1)

@@ -11,6 +11,7 @@ pub mod WithinLimits
 pub mod ReadingLaws
 -- judging a trace
 pub mod TraceLaws
+pub mod VerdictCases
 pub mod JudgedIffDue
 pub mod JudgeLaws
 -- the front page

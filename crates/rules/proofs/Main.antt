@@ -22,12 +22,12 @@ use Rattle.rules.specs.declared.judging.Verdict.the-variants.{True, Fals
 use Rattle.rules.specs.Limits.{workSize}
 use Rattle.rules.specs.Problem.{Draft, Problem, formulaIn, problemParts, accepted, refused, blank, readProblem}
 use Rattle.rules.specs.Satisfies.{Satisfies}
-use Rattle.rules.specs.Within.{Few, Named, Within}
+use Rattle.rules.specs.Within.{Few, Named, Within, countsIn}
 use Rattle.rules.specs.Denotes.{IsDeclared, Reads, Denotes}
 use Rattle.rules.specs.Refuses.{Refuses}
 use Rattle.rules.specs.Trace.{RightLength, IsTrace, FirstBad}
 use Rattle.rules.specs.Reading.{readingOf, toldReading, ReadAs}
-use Rattle.rules.specs.Judge.{countsIn, judged, workAfter, toldVerdict, JudgedAs}
+use Rattle.rules.specs.Judge.{judged, workAfter, toldVerdict, JudgedAs}
 use Rattle.formula.proofs.Agreement
 use Rattle.formula.proofs.LetterLaws
 use Rattle.rules.proofs.SatisfiesLaws
@@ -46,11 +46,11 @@ module _ (source : List ℕ) where
   pub reading : (p : Problem) → (readProblem source ≡ accepted p) ↔ Denotes source p
   reading = DenotesLaws.read-iff-denotes source
 
-  -- and a refusal is given exactly where document 01's table has its number and its place
+  -- and a refusal is given exactly where its number and its place are due (REFERENCE.md, Refusals)
   pub refusing : (r : Refusal) → (readProblem source ≡ refused r) ↔ Refuses source (numberOf r) (placeOf r)
   refusing = RefusesLaws.refused-iff source
 
-  -- both in document 01's terms: the numbers of signals, parts and operators, or a refusal's number and place
+  -- both in the reference's terms: the numbers of signals, parts and operators, or a refusal's number and place
   pub read-as : (a : Told) → (toldReading (readingOf (readProblem source)) ≡ a) ↔ ReadAs source a
   read-as = ReadIffDue.read-iff source
 
@@ -89,7 +89,7 @@ next-bit = WithinLimits.next-bit
 
 -- ---- judging
 
--- a trace is judged exactly as document 01 asks, refusals included
+-- a trace is judged exactly as it is due (REFERENCE.md, Judging), refusals included
 pub judging : (work : ℕ) (source : List ℕ) (π : Trace) (a : Told) → (toldVerdict (judged work source π) ≡ a) ↔ JudgedAs work source π a
 judging = JudgedIffDue.judged-iff
 

@@ -1,4 +1,4 @@
--- Reading refuses a text exactly with the number and the place of document 01's table; hence a text denotes one problem or has one refusal.
+-- Reading refuses a text exactly with the number and the place that are due; hence a text denotes one problem or has one refusal.
 -- Assumes nothing.
 use Prim.Native.Nat.{ℕ, suc, _≤_}
 use native.Mathlib.Omega.{arith}

@@ -1,4 +1,4 @@
--- What reading keeps within the limits of document 01. Assumes nothing.
+-- What reading keeps within the limits. Assumes nothing.
 use Prim.Native.Nat.{ℕ, _+_, _≤_, _<_}
 use native.Mathlib.Omega.{arith}
 use mathlib.Core.Path.{_≡_, refl, sym, ap, subst, _∙_}

@@ -13,15 +13,11 @@ use Rattle.formula.specs.Semantics.{Trace, holds}
 use Rattle.rules.specs.Problem.{Problem, formulaIn, Outcome, accepted, readProblem}
 use Rattle.rules.specs.Problem as outcome
 use Rattle.lines.specs.Refusal.{Told, values, refused, toldRefusal}
-use Rattle.lines.specs.Effect.{Signals}
 use Rattle.rules.specs.Denotes.{Denotes}
 use Rattle.rules.specs.Refuses.{Refuses}
 use Rattle.rules.specs.Satisfies.{Satisfies}
 use Rattle.rules.specs.Trace.{RightLength, IsTrace, FirstBad, verdictOn}
-use Rattle.formula.specs.Letter.{Counts}
-
-abbrev pub countsIn : Signals → Counts
-countsIn g = record { outputs = g .outputs; observed = g .observed; hidden = g .hidden }
+use Rattle.rules.specs.Within.{countsIn}
 
 abbrev pub judgedBy : Outcome → Trace → Verdict
 judgedBy (accepted p) π = verdictOn (countsIn (p .signals)) π (holds (formulaIn p) π)
@@ -35,13 +31,13 @@ judged n source π = cond (ltb n workSize) (Refused ShortMemory) (judgedBy (read
 abbrev pub workAfter : List ℕ → List ℕ
 workAfter w = cond (ltb (length w) workSize) w (replicate (length w) 0)
 
--- a verdict in the terms of document 01: 1 for true and 0 for false
+-- a verdict in the reference's terms: 1 for true and 0 for false
 abbrev pub toldVerdict : Verdict → Told
 toldVerdict True = values (1 ∷ [])
 toldVerdict False = values (0 ∷ [])
 toldVerdict (Refused r) = toldRefusal r
 
--- what is to be answered, by document 01's table of refusals, the written grammar and the published meaning
+-- what is to be answered, by the refusals (REFERENCE.md, Refusals), the written grammar and the published meaning
 pub data JudgedAs (work : ℕ) (source : List ℕ) (π : Trace) : Told → Type 0 where
   short-memory : work < workSize → JudgedAs work source π (refused 12 0)
   bad-source : {number place : ℕ} → workSize ≤ work → Refuses source number place → JudgedAs work source π (refused number place)

@@ -1,4 +1,4 @@
--- The sizes of document 01 that concern a problem's text, a trace and lent memory.
+-- The limits of a problem's text, of a trace and of lent memory (REFERENCE.md, Limits).
 -- Assumes nothing.
 use Prim.Native.Nat.{ℕ}
 

@@ -1,4 +1,4 @@
--- A problem (a sheet in document 01): what it keeps, and how it is read, line by line, with the tests of document 01 in their order.
+-- A problem (a sheet in the trade's words; REFERENCE.md, A problem): what it keeps, and how it is read, line by line and test by test.
 -- Assumes nothing.
 use Prim.Native.Nat.{ℕ, suc}
 use mathlib.Core.Bool.{cond}

@@ -41,8 +41,8 @@ partsOfOutcome (refused r) q = replicate (length q) 0
 
 -- ---- what is due
 
--- a reading in document 01's terms: how many output, observed and hidden signals, parts and temporal operators; or a refusal's number and
--- place
+-- a reading in the reference's terms: how many output, observed and hidden signals, parts and temporal operators; or a refusal's number
+-- and place
 abbrev pub toldReading : Reading → Told
 toldReading (Accepted s) = values (s .outputs ∷ s .observed ∷ s .hidden ∷ s .parts ∷ s .operators ∷ [])
 toldReading (Refused r) = toldRefusal r

@@ -1,5 +1,5 @@
--- Which texts are refused, with which number and at which place: rows 1 to 8 of document 01's table of refusals, beside `Denotes`. A number
--- is due where its row says so and no number before it is. `proofs/RefusesLaws.antt` shows that reading refuses exactly so.
+-- Which texts are refused, with which number and at which place: numbers 1 to 8 (REFERENCE.md, Refusals), beside `Denotes`. A number is due
+-- where its row there says so and no number before it is. `proofs/RefusesLaws.antt` shows that reading refuses exactly so.
 -- Assumes nothing.
 use Prim.Native.Nat.{ℕ, suc, _≤_, _<_}
 use mathlib.Core.Path.{_≡_}

@@ -1,4 +1,4 @@
--- Judging a recorded trace (a run in document 01): which traces are refused, and the verdict on the others.
+-- Judging a recorded trace (a run in the trade's words; REFERENCE.md, Judging): which traces are refused, and the verdict on the others.
 -- Assumes nothing.
 use Prim.Native.Nat.{ℕ, suc, _≤_}
 use mathlib.Core.Bool.{Bool, _||_, cond}

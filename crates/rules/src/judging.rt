@@ -64,10 +64,9 @@ const TRACE_LIMIT: usize = 1000;
 
 pub const WORK_SIZE: usize = 65536;
 
-// The verdict on a trace by a formula's parts; the entries are room to work in.
-fn judge_trace(parts: &[u32], s: Sizes, trace: &[u16], entries: &mut [u8]) -> Verdict
-    requires { ⌜ 0 < length (now parts) ⌝ }
-    requires { ⌜ (length (now parts) ≤ length (now entries)) × (indexLimit ≤ length (now entries)) ⌝ }
+// The verdict on a trace by parts. It serves the crate above too, which shows what it asks.
+pub fn judge_trace(parts: &[u32], s: Sizes, trace: &[u16]) -> Verdict
+    requires { ⌜ (0 < length (now parts)) × (length (now parts) ≤ indexLimit) ⌝ }
     requires { ⌜ (s .outputs ≤ kindLimit) × (s .observed ≤ kindLimit) × (s .hidden ≤ kindLimit) ⌝ }
     ensures { λ r. ⌜ r ≡ verdictOn (countsOf s) (now (trace .entry))
         (valueOn (partsIn (now (parts .entry))) (now (trace .entry)) (lastOf (partsIn (now (parts .entry))))) ⌝ }
@@ -80,16 +79,16 @@ fn judge_trace(parts: &[u32], s: Sizes, trace: &[u16], entries: &mut [u8]) -> Ve
     if bad != 0 {
         return Verdict::Refused(Refusal::BadTrace(bad));
     }
-    if holds_on(parts, trace, entries) {
+    let mut entries = [0u8; INDEX_LIMIT];
+    if holds_on(parts, trace, &mut entries) {
         Verdict::True
     } else {
         Verdict::False
     }
 }
 
-// The verdict on a trace by a problem's text; the entries are room to work in.
-fn judge_source(source: &[u8], trace: &[u16], entries: &mut [u8]) -> Verdict
-    requires { ⌜ indexLimit ≤ length (now entries) ⌝ }
+// The verdict on a trace by a problem's text.
+fn judge_source(source: &[u8], trace: &[u16]) -> Verdict
     ensures { λ r. ⌜ r ≡ judgedBy (readProblem (now (source .entry))) (now (trace .entry)) ⌝ }
 {
     let mut parts = [0u32; PART_LIMIT];
@@ -97,7 +96,7 @@ fn judge_source(source: &[u8], trace: &[u16], entries: &mut [u8]) -> Verdict
         Reading::Refused(r) => Verdict::Refused(r),
         Reading::Accepted(s) => {
             let n = s.parts;
-            judge_trace(&parts[..n], s, trace, entries)
+            judge_trace(&parts[..n], s, trace)
         }
     }
 }
@@ -112,7 +111,7 @@ pub fn judge(source: &[u8], trace: &[u16], work: &mut [u8]) -> Verdict
     if work.len() < WORK_SIZE {
         return Verdict::Refused(Refusal::ShortMemory);
     }
-    let r = judge_source(source, trace, &mut work[..INDEX_LIMIT]);
+    let r = judge_source(source, trace);
     clear(work);
     r
 }

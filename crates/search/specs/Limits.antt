@@ -1,4 +1,4 @@
--- The sizes of document 01 that concern states, and those of the memory that a search keeps them in.
+-- The limit of states (REFERENCE.md, Limits), and the sizes of the memory that a search keeps them in.
 -- Assumes nothing.
 use Prim.Native.Nat.{ℕ, suc, _/_, _^_}
 use Rattle.basics.specs.Limits.{signalLimit, operatorLimit}

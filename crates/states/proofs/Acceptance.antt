@@ -33,7 +33,7 @@ accepts-value ps a π =
     ∙ pattern-whole ps (owedAt ps a (patternOn ps π)) (valueAt ps a (patternOn ps π) (lastOf ps))
     ∙ value-pattern ps a π (lastOf ps)
 
--- the state after some letters is the set of the patterns under which the formula holds from the first step
+-- a pattern is in the state after some letters exactly if, carried back over them, it makes the formula true at the first
 pub member-stateAfter : (ps : List Part) (a : ℕ) (π : Trace) (p : ℕ) → p < 2 ^ suc (operatorsOf ps)
     → member (stateAfter ps (a ∷ π)) p ≡ valueAt ps a (foldr (back ps) p π) (lastOf ps)
 unfolding stateAfter startState start back

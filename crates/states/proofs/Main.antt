@@ -42,7 +42,7 @@ acceptance-of-parts = Acceptance.accepts-value
 pub start-rejects : (ps : List Part) → accepts (startState ps) ≡ false
 start-rejects = Acceptance.start-state-rejects
 
--- a state is the set of the patterns under which the formula holds from the first step
+-- a pattern is in the state exactly if, carried back over the letters, it makes the formula true at the first of them
 pub meaning : (ps : List Part) (a : ℕ) (π : Trace) (p : ℕ) → p < 2 ^ suc (operatorsOf ps)
     → member (stateAfter ps (a ∷ π)) p ≡ valueAt ps a (foldr (back ps) p π) (lastOf ps)
 meaning = Acceptance.member-stateAfter

@@ -1,4 +1,4 @@
--- The states of a formula (document 01's term): the sets of obligation patterns that letters can reach.
+-- The states of a formula (REFERENCE.md, States): the sets of obligation patterns that letters can reach.
 -- Assumes nothing.
 use Prim.Native.Nat.{ℕ}
 use mathlib.Core.List.{List}

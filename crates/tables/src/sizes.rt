@@ -1,4 +1,4 @@
-// The sizes of document 01 that concern tables, and those of the memory that positions are kept in.
+// The sizes that concern tables (REFERENCE.md, Limits), and those of the memory that positions are kept in.
 use basics::KIND_LIMIT;
 
 // The most beliefs.

@@ -11,7 +11,7 @@ use Rattle.lines.specs.declared.problem.Reading.{Reading}
 use Rattle.lines.specs.declared.problem.Reading.the-variants as reading
 use Rattle.formula.specs.Formula.{operators}
 use Rattle.basics.specs.Limits.{operatorLimit}
-use Rattle.rules.specs.Judge.{countsIn}
+use Rattle.rules.specs.Within.{countsIn}
 use Rattle.rules.specs.Reading.{readingOf, sizesOf}
 use Rattle.formula.specs.Codes.{partsIn}
 use Rattle.formula.specs.Parts.{partAt, arity}

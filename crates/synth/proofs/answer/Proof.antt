@@ -31,19 +31,22 @@ array-share-prefix-text c =
     (respond .result) (respond .last .1 .1 .1 .0) (respond .ensures .0) (respond .ensures .1 .0) (n .0 .0) (n .1) in
     omega (arith, respond .kept .1 .1 .1 .0)
 
-slice-aggregate-write-all : tie.Need-slice-aggregate-write-all
-slice-aggregate-write-all c =
+slice-aggregate-write : tie.Need-slice-aggregate-write
+slice-aggregate-write c =
     let respond = c .before .before .before .before .before .before .before .respond in
     let n = c .before .before .n .given in
     sym (length-take-le (n .0 .0) (respond .last .1 .1 .1 .0) (text-within
     (c .before .before .before .before .before .before .before .before .before .before .before .before .args .source .now) _ _ _ (respond .result)
     (respond .last .1 .1 .1 .0) (respond .ensures .0) (respond .ensures .1 .0) (n .0 .0) (n .1)))
 
-write-all-requires : tie.Need-write-all-requires
-write-all-requires c κs = search needs
+write-requires : tie.Need-write-requires
+write-requires c κs = search needs
 
 enum-told : tie.Need-enum-told
 enum-told c = search needs
+
+tell-short-requires : tie.Need-tell-short-requires
+tell-short-requires c κs = search needs
 
 returns : tie.Need-returns
 returns c = search needs
@@ -61,8 +64,9 @@ answer-spec =
     respond-requires
     enum-known-n
     array-share-prefix-text
-    slice-aggregate-write-all
-    write-all-requires
+    slice-aggregate-write
+    write-requires
     enum-told
+    tell-short-requires
     returns
     returns-2)

@@ -5,22 +5,16 @@ use Rattle.cases.proofs.call.call_number.Statement.{statement}
 use Rattle.cases.proofs.call.call_number.Tie as tie
 
 abbrev Inv-loop : tie.InvT-loop
-Inv-loop name k₀ t3 k = k ≤ 5
+Inv-loop name k₀ k = k ≤ 7
 
 abbrev μ-loop : tie.MeasureT-loop
-μ-loop name k₀ t3 k = 5 - k
+μ-loop name k₀ k = 7 - k
 
 loop-holds : tie.Need-loop-holds Inv-loop μ-loop
 loop-holds c = search needs
 
-slice-aggregate-field : tie.Need-slice-aggregate-field Inv-loop μ-loop
-slice-aggregate-field c = search needs
-
-field-requires : tie.Need-field-requires Inv-loop μ-loop
-field-requires c κs = search needs
-
-same-requires : tie.Need-same-requires Inv-loop μ-loop
-same-requires c κs = search needs
+is-call-requires : tie.Need-is-call-requires Inv-loop μ-loop
+is-call-requires c κs = search needs
 
 add-k : tie.Need-add-k Inv-loop μ-loop
 add-k c = search needs
@@ -44,9 +38,7 @@ call-number-spec =
     Inv-loop
     μ-loop
     loop-holds
-    slice-aggregate-field
-    field-requires
-    same-requires
+    is-call-requires
     add-k
     loop-less
     loop-again

@@ -1,51 +1,31 @@
--- `cases::line::number` meets its contract: each digit keeps the number below 65,536. Assumes nothing.
-use Prim.Native.Nat.{_<_, _-_}
-use lib.ListN.{length}
+-- `cases::line::number` meets its contract: a number in digits is below 65,536. Assumes nothing.
+use mathlib.Core.Path.{sym, _∙_}
 use borrow.Author.Needs.{needs}
+use Rattle.streams.proofs.FieldsLaws.{number-below}
 use Rattle.cases.proofs.line.number.Statement.{statement}
 use Rattle.cases.proofs.line.number.Tie as tie
 
-abbrev Inv-loop : tie.InvT-loop
-Inv-loop digits n₀ i₀ n i = n < 65536
+number-in-requires : tie.Need-number-in-requires
+number-in-requires c κs = search needs
 
-abbrev μ-loop : tie.MeasureT-loop
-μ-loop digits n₀ i₀ n i = length digits - i
+enum-known-n : tie.Need-enum-known-n
+enum-known-n c = search needs
 
-wrong-requires : tie.Need-wrong-requires Inv-loop μ-loop
+enum-told : tie.Need-enum-told
+enum-told c = search needs
+
+wrong-requires : tie.Need-wrong-requires
 wrong-requires c κs = search needs
 
-loop-holds : tie.Need-loop-holds Inv-loop μ-loop
-loop-holds c = search needs
+returns : tie.Need-returns
+returns c =
+    let at-number-in = c .before .before .before in
+    let a = at-number-in .before .before .args in
+    number-below (a .digits .now) (c .before .n .given .0 .0) (sym (c .before .n .given .1) ∙ at-number-in .number-in .ensures)
 
-shared-slice-read-with-digit : tie.Need-shared-slice-read-with-digit Inv-loop μ-loop
-shared-slice-read-with-digit c = search needs
-
-with-digit-requires : tie.Need-with-digit-requires Inv-loop μ-loop
-with-digit-requires c κs = search needs
-
-add-i : tie.Need-add-i Inv-loop μ-loop
-add-i c = search needs
-
-loop-less : tie.Need-loop-less Inv-loop μ-loop
-loop-less c = search needs
-
-loop-again : tie.Need-loop-again Inv-loop μ-loop
-loop-again c = search needs
-
-returns : tie.Need-returns Inv-loop μ-loop
-returns c = search needs
+returns-2 : tie.Need-returns-2
+returns-2 c = search needs
 
 pub number-spec : {M : Type 1} → statement M
 number-spec =
-    tie.close
-    (tie.spec
-    Inv-loop
-    μ-loop
-    wrong-requires
-    loop-holds
-    shared-slice-read-with-digit
-    with-digit-requires
-    add-i
-    loop-less
-    loop-again
-    returns)
+    tie.close (tie.spec number-in-requires enum-known-n enum-told wrong-requires returns returns-2)

@@ -15,8 +15,8 @@ abbrev μ-loop : tie.MeasureT-loop
 loop-holds : tie.Need-loop-holds Inv-loop μ-loop
 loop-holds c = search needs
 
-find-requires : tie.Need-find-requires Inv-loop μ-loop
-find-requires c κs = search needs
+number-end-requires : tie.Need-number-end-requires Inv-loop μ-loop
+number-end-requires c κs = search needs
 
 sub-put-number : tie.Need-sub-put-number Inv-loop μ-loop
 sub-put-number c = search needs
@@ -52,7 +52,7 @@ read-numbers-spec =
     Inv-loop
     μ-loop
     loop-holds
-    find-requires
+    number-end-requires
     sub-put-number
     part-put-number-start
     part-put-number-end

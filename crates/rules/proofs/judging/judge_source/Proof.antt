@@ -23,40 +23,37 @@ enum-known-s c = search needs
 array-share-prefix-parts : tie.Need-array-share-prefix-parts
 array-share-prefix-parts c =
     let at-read = c .before .before .before .before in
-    let start = at-read .before .before .before .before .before in
+    let start = at-read .before .before .before .before in
     let t = taken (start .args .source .now) _ _ (at-read .read .ensures .0) (c .before .s .given .1) _ (at-read .read .ensures .1 .0) in
     omega (arith, few-parts t, at-read .read .kept .1 .0)
 
 slice-aggregate-judge-trace : tie.Need-slice-aggregate-judge-trace
 slice-aggregate-judge-trace c =
     let at-read = c .before .before .before .before .before in
-    let start = at-read .before .before .before .before .before in
+    let start = at-read .before .before .before .before in
     sym (taken-length (taken (start .args .source .now) _ _ (at-read .read .ensures .0) (c .before .before .s .given .1) _ (at-read .read .ensures .1 .0)))
 
 judge-trace-requires : tie.Need-judge-trace-requires
 judge-trace-requires c κs =
-    let at-s = c .before .before .before in
+    let at-s = c .before .before in
     let at-read = at-s .before .before .before in
-    let start = at-read .before .before .before .before .before in
+    let start = at-read .before .before .before .before in
     let t = taken (start .args .source .now) _ _ (at-read .read .ensures .0) (at-s .s .given .1) _ (at-read .read .ensures .1 .0) in
-    (some-parts t, ((omega (arith, taken-length t, few-parts t, start .pre), start .pre), few-signals t))
+    ((some-parts t, omega (arith, taken-length t, few-parts t)), few-signals t)
 
 returns : tie.Need-returns
 returns c =
     let at-read = c .before .before .before .before in
-    let start = at-read .before .before .before .before .before in
+    let start = at-read .before .before .before .before in
     refused-source (readProblem (start .args .source .now)) (start .args .trace .now) _ _ (at-read .read .ensures .0) (c .before .r .given .1)
-
-same-length : tie.Need-same-length
-same-length c = search needs
 
 returns-2 : tie.Need-returns-2
 returns-2 c =
-    let at-s = c .before .before .before .before .before .before in
+    let at-s = c .before .before .before in
     let at-read = at-s .before .before .before in
-    let start = at-read .before .before .before .before .before in
+    let start = at-read .before .before .before .before in
     let t = taken (start .args .source .now) _ _ (at-read .read .ensures .0) (at-s .s .given .1) _ (at-read .read .ensures .1 .0) in
-    judged-source t _ _ (c .before .before .judge-trace .ensures)
+    judged-source t _ _ (c .judge-trace .ensures)
 
 pub judge-source-spec : {M : Type 1} → statement M
 judge-source-spec =
@@ -70,5 +67,4 @@ judge-source-spec =
     slice-aggregate-judge-trace
     judge-trace-requires
     returns
-    same-length
     returns-2)

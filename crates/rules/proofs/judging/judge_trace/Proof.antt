@@ -11,8 +11,7 @@ use Rattle.rules.proofs.judging.judge_trace.Tie as tie
 
 returns : tie.Need-returns
 returns c =
-    let start = c .before .before .before .before in
-    let a = start .args in
+    let a = c .before .before .before .args in
     sym (verdict-length (countsOf (a .s)) (a .trace .now) _ (c .if1 .taken))
 
 bad-step-requires : tie.Need-bad-step-requires
@@ -20,36 +19,30 @@ bad-step-requires c κs = search needs
 
 returns-2 : tie.Need-returns-2
 returns-2 c =
-    let start = c .before .before .before .before .before .before in
-    let a = start .args in
+    let a = c .before .before .before .before .before .args in
     let bad = c .before .bad-step in
     sym (verdict-step (countsOf (a .s)) (a .trace .now) _ _ (c .before .before .if1 .left) (bad .ensures) (c .if2 .taken))
+
+slice-aggregate-holds-on : tie.Need-slice-aggregate-holds-on
+slice-aggregate-holds-on c = search needs
 
 holds-on-requires : tie.Need-holds-on-requires
 holds-on-requires c κs = search needs
 
-same-length : tie.Need-same-length
-same-length c = search needs
-
 returns-3 : tie.Need-returns-3
 returns-3 c =
-    let at-holds-on = c .before .before .before in
+    let at-holds-on = c .before .before in
     let at-bad-step = at-holds-on .before .before .before in
-    let start = at-bad-step .before .before .before .before .before in
-    let a = start .args in
+    let a = at-bad-step .before .before .before .before .args in
     sym (verdict-judged (countsOf (a .s)) (a .trace .now) _ _ _
     (at-bad-step .before .if1 .left) (at-bad-step .bad-step .ensures) (at-holds-on .before .before .if2 .left) (at-holds-on .holds-on .ensures .0)
     ∙ ap (λ b. cond b True False) (c .if3 .taken))
 
-same-length-2 : tie.Need-same-length-2
-same-length-2 c = search needs
-
 returns-4 : tie.Need-returns-4
 returns-4 c =
-    let at-holds-on = c .before .before .before in
+    let at-holds-on = c .before .before in
     let at-bad-step = at-holds-on .before .before .before in
-    let start = at-bad-step .before .before .before .before .before in
-    let a = start .args in
+    let a = at-bad-step .before .before .before .before .args in
     sym (verdict-judged (countsOf (a .s)) (a .trace .now) _ _ _
     (at-bad-step .before .if1 .left) (at-bad-step .bad-step .ensures) (at-holds-on .before .before .if2 .left) (at-holds-on .holds-on .ensures .0)
     ∙ ap (λ b. cond b True False) (c .if3 .left))
@@ -61,8 +54,7 @@ judge-trace-spec =
     returns
     bad-step-requires
     returns-2
+    slice-aggregate-holds-on
     holds-on-requires
-    same-length
     returns-3
-    same-length-2
     returns-4)

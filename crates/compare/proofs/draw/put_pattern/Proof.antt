@@ -1,0 +1,64 @@
+-- `compare::draw::put_pattern` is safe and ends. Assumes nothing.
+use Prim.Native.Nat.{_-_}
+use mathlib.Core.Path.{_≡_}
+use lib.ListN.{length}
+use borrow.Author.Needs.{needs}
+use Rattle.compare.proofs.draw.put_pattern.Statement.{statement}
+use Rattle.compare.proofs.draw.put_pattern.Tie as tie
+
+abbrev Inv-loop : tie.InvT-loop
+Inv-loop text₀ d patterns e₀ i₀ text e i = length text ≡ length text₀
+
+abbrev μ-loop : tie.MeasureT-loop
+μ-loop text₀ d patterns e₀ i₀ text e i = length patterns - i
+
+pattern-at-requires : tie.Need-pattern-at-requires Inv-loop μ-loop
+pattern-at-requires c κs = search needs
+
+loop-holds : tie.Need-loop-holds Inv-loop μ-loop
+loop-holds c = search needs
+
+shared-slice-read-if1 : tie.Need-shared-slice-read-if1 Inv-loop μ-loop
+shared-slice-read-if1 c = search needs
+
+shared-slice-read-put-symbol : tie.Need-shared-slice-read-put-symbol Inv-loop μ-loop
+shared-slice-read-put-symbol c = search needs
+
+put-symbol-requires : tie.Need-put-symbol-requires Inv-loop μ-loop
+put-symbol-requires c κs = search needs
+
+add-i : tie.Need-add-i Inv-loop μ-loop
+add-i c = search needs
+
+loop-less : tie.Need-loop-less Inv-loop μ-loop
+loop-less c = search needs
+
+loop-again : tie.Need-loop-again Inv-loop μ-loop
+loop-again c = search needs
+
+put-requires : tie.Need-put-requires Inv-loop μ-loop
+put-requires c κs = search needs
+
+same-length : tie.Need-same-length Inv-loop μ-loop
+same-length c = search needs
+
+returns : tie.Need-returns Inv-loop μ-loop
+returns c = search needs
+
+pub put-pattern-spec : {M : Type 1} → statement M
+put-pattern-spec =
+    tie.close
+    (tie.spec
+    Inv-loop
+    μ-loop
+    pattern-at-requires
+    loop-holds
+    shared-slice-read-if1
+    shared-slice-read-put-symbol
+    put-symbol-requires
+    add-i
+    loop-less
+    loop-again
+    put-requires
+    same-length
+    returns)

@@ -1,0 +1,2 @@
+-- What the proofs of the functions for patterns use.
+pub mod DigitsBelow

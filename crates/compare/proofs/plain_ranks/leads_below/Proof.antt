@@ -1,0 +1,66 @@
+-- `compare::plain_ranks::leads_below` is safe and ends. Assumes nothing.
+use Prim.Native.Nat.{_-_, _≤_}
+use borrow.Author.Needs.{needs}
+use Rattle.compare.proofs.plain_ranks.leads_below.Statement.{statement}
+use Rattle.compare.proofs.plain_ranks.leads_below.Tie as tie
+
+abbrev Inv-loop : tie.InvT-loop
+Inv-loop moves ranks observations choice r o₀ o = o ≤ observations
+
+abbrev μ-loop : tie.MeasureT-loop
+μ-loop moves ranks observations choice r o₀ o = observations - o
+
+loop-holds : tie.Need-loop-holds Inv-loop μ-loop
+loop-holds c = search needs
+
+mul-index : tie.Need-mul-index Inv-loop μ-loop
+mul-index c = search needs
+
+add-index : tie.Need-add-index Inv-loop μ-loop
+add-index c = search needs
+
+element-copy-out-index : tie.Need-element-copy-out-index Inv-loop μ-loop
+element-copy-out-index c = search needs
+
+index-requires : tie.Need-index-requires Inv-loop μ-loop
+index-requires c κs = search needs
+
+mul-if1 : tie.Need-mul-if1 Inv-loop μ-loop
+mul-if1 c = search needs
+
+element-copy-out-if1 : tie.Need-element-copy-out-if1 Inv-loop μ-loop
+element-copy-out-if1 c = search needs
+
+returns : tie.Need-returns Inv-loop μ-loop
+returns c = search needs
+
+add-o : tie.Need-add-o Inv-loop μ-loop
+add-o c = search needs
+
+loop-less : tie.Need-loop-less Inv-loop μ-loop
+loop-less c = search needs
+
+loop-again : tie.Need-loop-again Inv-loop μ-loop
+loop-again c = search needs
+
+returns-2 : tie.Need-returns-2 Inv-loop μ-loop
+returns-2 c = search needs
+
+pub leads-below-spec : {M : Type 1} → statement M
+leads-below-spec =
+    tie.close
+    (tie.spec
+    Inv-loop
+    μ-loop
+    loop-holds
+    mul-index
+    add-index
+    element-copy-out-index
+    index-requires
+    mul-if1
+    element-copy-out-if1
+    returns
+    add-o
+    loop-less
+    loop-again
+    returns-2)

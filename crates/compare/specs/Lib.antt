@@ -1,0 +1,2 @@
+-- The sizes of the plain solver's arrays.
+pub mod Sizes

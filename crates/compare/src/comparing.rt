@@ -1,0 +1,116 @@
+// Both solvers on one problem.
+ghost use Prim.Native.Nat.{_+_, _<_};
+ghost use lib.ListN.{length};
+ghost use Rattle.play.specs.Cells.{tableSize};
+use crate::plain;
+use crate::plain::Answer;
+use crate::plain::Table;
+use crate::plain::refused;
+use basics::same;
+use game::Solved;
+use game::solve;
+use rules::SOURCE_LIMIT;
+use rules::WORK_SIZE;
+use rules::number;
+use rules::place;
+use tables::BELIEF_LIMIT;
+use tables::ROW;
+use tables::TABLE_SIZE;
+
+// Room for a text: one byte more than a problem may have.
+pub const ROOM: usize = SOURCE_LIMIT + 1;
+
+// What every cell of the table holds before the call.
+const BEFORE: u16 = 1;
+
+// The number of a refusal, or 0 with a table's worst case, as the plain solver answers; and whether the proved one agrees.
+pub struct Compared {
+    pub number: usize,
+    pub worst_case: usize,
+    pub agrees: bool,
+}
+
+// The answer of the proved solver, told as the plain one tells it.
+fn told(s: Solved) -> Answer {
+    match s {
+        Solved::Table { shape, worst_case } => Answer {
+            number: 0,
+            place: 0,
+            rows: shape.rows,
+            worst_case,
+        },
+        Solved::Refused(r) => refused(number(r), place(r)),
+    }
+}
+
+fn same_answer(a: Answer, b: Answer) -> bool {
+    (a.number == b.number)
+        & (a.place == b.place)
+        & (a.rows == b.rows)
+        & (a.worst_case == b.worst_case)
+}
+
+// Whether work memory is all zero.
+fn is_clear(work: &[u8]) -> bool {
+    for i in 0..work.len() {
+        if work[i] != 0 {
+            return false;
+        }
+    }
+    true
+}
+
+// The cell that a table must have at a place: those of so many rows, and behind them what was there before.
+fn expected(cells: &Table, rows: usize, i: usize) -> u16
+    requires { ⌜ i < tableSize ⌝ }
+{
+    if i / ROW < rows {
+        return cells[i / ROW][i % ROW];
+    }
+    BEFORE
+}
+
+fn same_cells(table: &[u16; TABLE_SIZE], cells: &Table, rows: usize) -> bool {
+    for i in 0..TABLE_SIZE {
+        if table[i] != expected(cells, rows, i) {
+            return false;
+        }
+    }
+    true
+}
+
+// Solves a problem by both.
+pub fn compare(text: &[u8]) -> Compared {
+    let mut cells = [[0u16; ROW]; BELIEF_LIMIT];
+    let answer = plain::solve(text, &mut cells);
+    let mut work = [1u8; WORK_SIZE];
+    let mut table = [BEFORE; TABLE_SIZE];
+    let other = told(solve(text, &mut work, &mut table));
+    Compared {
+        number: answer.number,
+        worst_case: answer.worst_case,
+        agrees: same_answer(answer, other)
+            & is_clear(&work)
+            & same_cells(&table, &cells, answer.rows),
+    }
+}
+
+// Puts the word `see` at a place.
+fn put_see(text: &mut [u8], i: usize)
+    requires { ⌜ i + 3 < length (now text) ⌝ }
+{
+    text[i] = b's';
+    text[i + 1] = b'e';
+    text[i + 2] = b'e';
+}
+
+// Turns hidden signals into observed ones. In a text that is read without refusal a tab stands behind a line's first word alone.
+pub fn observe(text: &mut [u8]) {
+    let mut i = 0;
+    while i + 3 < text.len() {
+        if same(&text[i..i + 4], b"hid\t") {
+            put_see(text, i);
+        }
+        i += 1;
+    }
+}

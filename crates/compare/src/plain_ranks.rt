@@ -1,0 +1,110 @@
+// Ranks: in how many steps a belief is brought to a final one at the latest.
+ghost use Prim.Native.Nat.{_≤_, _<_};
+ghost use Rattle.play.specs.Limits.{beliefLimit, sideLimit};
+use crate::plain_beliefs::Moves;
+use crate::plain_sets::Set;
+use crate::plain_sets::Sets;
+use crate::plain_sets::index;
+use crate::plain_states::Widths;
+use search::STATE_LIMIT;
+use tables::BELIEF_LIMIT;
+use tables::PAIR_LIMIT;
+use tables::SIDE_LIMIT;
+
+pub type Ranks = [u16; BELIEF_LIMIT];
+
+// The rank of a belief that has none.
+pub const NO_RANK: u16 = 65535;
+
+// Whether all states of a belief accept: they hold the pattern that is all zero.
+fn is_final(states: &Sets, belief: &Set) -> bool {
+    for s in 0..STATE_LIMIT {
+        if belief[s] & !states[s][0] {
+            return false;
+        }
+    }
+    true
+}
+
+// Final beliefs have rank 0, and so far no other has a rank.
+fn rank_finals(states: &Sets, beliefs: &Sets, n: usize) -> Ranks
+    requires { ⌜ n ≤ beliefLimit ⌝ }
+{
+    let mut ranks = [NO_RANK; BELIEF_LIMIT];
+    for b in 0..n {
+        if is_final(states, &beliefs[b]) {
+            ranks[b] = 0;
+        }
+    }
+    ranks
+}
+
+// Whether every observation after a choice leads to a rank below r.
+fn leads_below(
+    moves: &[u8; PAIR_LIMIT],
+    ranks: &Ranks,
+    observations: usize,
+    choice: usize,
+    r: u16,
+) -> bool
+    requires { ⌜ observations ≤ sideLimit ⌝ }
+    requires { ⌜ choice < sideLimit ⌝ }
+{
+    for o in 0..observations {
+        if ranks[index(moves[choice + SIDE_LIMIT * o])] >= r {
+            return false;
+        }
+    }
+    true
+}
+
+// The smallest choice that leads below r; 0 where none does.
+pub fn smallest_choice(moves: &[u8; PAIR_LIMIT], ranks: &Ranks, w: Widths, r: u16) -> usize
+    requires { ⌜ w .choices ≤ sideLimit ⌝ }
+    requires { ⌜ w .observations ≤ sideLimit ⌝ }
+    ensures { λ c. ⌜ c < sideLimit ⌝ }
+{
+    for choice in 0..w.choices {
+        if leads_below(moves, ranks, w.observations, choice, r) {
+            return choice;
+        }
+    }
+    0
+}
+
+// The rank of a belief after round r: it is r where it had none, and some choice leads below r.
+fn ranked(moves: &[u8; PAIR_LIMIT], ranks: &Ranks, w: Widths, r: u16, rank: u16) -> u16
+    requires { ⌜ w .choices ≤ sideLimit ⌝ }
+    requires { ⌜ w .observations ≤ sideLimit ⌝ }
+{
+    let choice = smallest_choice(moves, ranks, w, r);
+    if (rank == NO_RANK) & leads_below(moves, ranks, w.observations, choice, r) {
+        return r;
+    }
+    rank
+}
+
+// Round r for all beliefs. A rank that it gives is not below r.
+fn rank_round(moves: &Moves, n: usize, w: Widths, r: u16, ranks: &mut Ranks)
+    requires { ⌜ n ≤ beliefLimit ⌝ }
+    requires { ⌜ w .choices ≤ sideLimit ⌝ }
+    requires { ⌜ w .observations ≤ sideLimit ⌝ }
+{
+    for b in 0..n {
+        let rank = ranks[b];
+        ranks[b] = ranked(&moves[b], ranks, w, r, rank);
+    }
+}
+
+// The ranks of n beliefs: each is below n.
+pub fn ranks_of(states: &Sets, beliefs: &Sets, moves: &Moves, n: usize, w: Widths) -> Ranks
+    requires { ⌜ n ≤ beliefLimit ⌝ }
+    requires { ⌜ w .choices ≤ sideLimit ⌝ }
+    requires { ⌜ w .observations ≤ sideLimit ⌝ }
+{
+    let mut ranks = rank_finals(states, beliefs, n);
+    for r in 1..n {
+        rank_round(moves, n, w, r as u16, &mut ranks);
+    }
+    ranks
+}

@@ -1,0 +1,118 @@
+// How many problems of a kind were drawn, on how many the solvers agree, and what kinds of answers these have.
+ghost use Prim.Native.Nat.{_≤_};
+ghost use lib.ListN.{length};
+use crate::answer::say;
+use crate::answer::tell;
+use crate::comparing::Compared;
+use crate::comparing::ROOM;
+use crate::comparing::compare;
+use crate::comparing::observe;
+use crate::draw::Kind;
+use crate::draw::draw;
+use crate::line::argument;
+use std::num::wrapping_add_u64;
+use std::num::wrapping_add_usize;
+use streams::field;
+
+// What is counted: all problems; those on which both solvers agree, and of these the tables and the refusals by number; tables with a worst
+// case over 1 and over 2; and where it matters that hidden signals are hidden.
+const DRAWN: usize = 0;
+
+const AGREE: usize = 1;
+
+const TABLES: usize = 2;
+
+const OVER_ONE: usize = TABLES + 12;
+
+const OVER_TWO: usize = OVER_ONE + 1;
+
+const HIDDEN_MATTER: usize = OVER_TWO + 1;
+
+pub const CLASSES: usize = HIDDEN_MATTER + 1;
+
+type Counts = [u64; CLASSES];
+
+// Ends the line of a kind, and answers whether its end could be written. What fails before is told.
+pub fn write(counts: &Counts) -> bool {
+    for k in 0..CLASSES {
+        tell(counts[k]);
+    }
+    say(b"\n")
+}
+
+// Whether a problem was solved: by a table, or as unrealizable.
+fn is_solved(c: Compared) -> bool {
+    (c.number == 0) | (c.number == 11)
+}
+
+// Whether it matters that hidden signals are hidden, where d is the answer if they are observed: both are solved, and the number or the
+// worst case is another.
+fn hidden_matter(c: Compared, d: Compared) -> bool {
+    is_solved(c) & is_solved(d) & ((c.number != d.number) | (c.worst_case != d.worst_case))
+}
+
+// Counts one more in a class.
+fn add(counts: &mut Counts, class: usize) {
+    if class < CLASSES {
+        counts[class] = wrapping_add_u64(counts[class], 1);
+    }
+}
+
+fn add_if(counts: &mut Counts, class: usize, is_in: bool) {
+    if is_in {
+        add(counts, class);
+    }
+}
+
+// Counts a problem on which both solvers agree, also if the hidden signals are observed.
+fn add_agreed(counts: &mut Counts, c: Compared, d: Compared) {
+    add(counts, AGREE);
+    add(counts, wrapping_add_usize(TABLES, c.number));
+    add_if(counts, OVER_ONE, c.worst_case > 1);
+    add_if(counts, OVER_TWO, c.worst_case > 2);
+    add_if(counts, HIDDEN_MATTER, hidden_matter(c, d));
+}
+
+// Solves a text by both. If they differ, and have not before on a problem of the kind, the text is written.
+fn compare_shown(text: &[u8], counts: &Counts, agreed: bool) -> Compared {
+    let c = compare(text);
+    if agreed & !c.agrees & (counts[DRAWN] == counts[AGREE]) {
+        say(b"\n");
+        say(text);
+    }
+    c
+}
+
+// Solves a text by both, then with its hidden signals observed, and counts it.
+fn count(text: &mut [u8], counts: &mut Counts) {
+    let c = compare_shown(text, counts, true);
+    observe(text);
+    let d = compare_shown(text, counts, c.agrees);
+    add(counts, DRAWN);
+    if c.agrees & d.agrees {
+        add_agreed(counts, c, d);
+    }
+}
+
+// Draws a problem of a line's kind.
+fn draw_by(line: &[u8], seed: u64, text: &mut [u8]) -> usize
+    ensures { λ r. ⌜ r ≤ length (now (text .exit)) ⌝ }
+{
+    let kind = Kind {
+        outputs: argument(line, 3),
+        observed: argument(line, 4),
+        hidden: argument(line, 5),
+        rules: argument(line, 6),
+        size: argument(line, 7),
+        operators: argument(line, 8),
+        damage: argument(line, 9),
+    };
+    draw(kind, field(line, 10), seed, text)
+}
+
+// Draws a problem of a line's kind, and counts it.
+pub fn draw_one(line: &[u8], seed: u64, counts: &mut Counts) {
+    let mut text = [0u8; ROOM];
+    let n = draw_by(line, seed, &mut text);
+    count(&mut text[..n], counts);
+}

@@ -1,0 +1,2 @@
+-- What the proofs of `records::lending` use.
+pub mod Walk

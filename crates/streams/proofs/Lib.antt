@@ -1,0 +1,3 @@
+pub mod FieldsLaws
+pub mod MovedBytes
+pub mod ReadingLaws

@@ -1,0 +1,60 @@
+// What `synth --help` writes: one screen.
+use crate::write;
+
+pub fn explain() {
+    write(
+        b"synth finds a controller for a problem of LTLf synthesis under partial
+observability, with the smallest worst-case number of steps, or says that none
+wins, or refuses the problem with a number.
+
+  synth            reads the problem on standard input, to its end
+  synth FILE       reads it in a file
+  synth --help     writes this text
+
+A problem is lines of two fields parted by ONE TAB, each ended by a line feed:
+  out   NAME       a signal that the controller sets
+  see   NAME       a signal that it reads
+  hid   NAME       a signal that it never sees
+  rule  FORMULA    what the run must satisfy; rules are joined by \"and\"
+A name is a lowercase letter and up to 11 more, digits or _; not true or false.
+A formula uses names declared above it. Operators, loosest first:
+  p -> q           implies; groups to the right
+  p | q            or; to the left
+  p & q            and; to the left
+  p U q, p R q     p until q, and q must come; p releases q; to the right
+  !p               not; the prefixes bind tightest: !p U q is (!p) U q
+  X p, N p         at the next step; at the last step X p is false, N p true
+  F p, G p         at some step from here; at all of them
+  true, false, NAME, (p)
+
+In each step the controller first sets its signals, and then reads. The answer
+is a table, its fields parted by tabs: here for out a, see s, rule s -> X a.
+  table  3  2      3 rows; every run stops after 2 steps at the latest
+  row  0  0  1  2  row 0, the start: choice 0; then row 1 if s is false, else 2
+  row  1  stop     row 1: the run ends
+  row  2  1  1  1  row 2: choice 1 sets a; then row 1 in either case
+A choice is the sum of the out signals that are set: 1 for the first declared,
+2, 4 and 8 for those after it. An observation is such a sum of the see signals;
+behind the choice stands the next row for observation 0, 1, 2 and so on.
+
+Or the answer is one line: refused, a number, and the line it is about, or 0:
+   1  over 4,096 bytes
+   2  the line is not a word, one tab, a name or 1 to 240 bytes of formula, and
+      a line feed. Often a space for the tab, or a carriage return (CRLF)
+   3  the name is declared already
+   4  the fifth signal of its kind, or the tenth
+   5  the formula breaks the grammar. Often && for &, || for |, or CRLF
+   6  the formula has a name that is not declared above
+   7  the 97th name, constant, operator or joining \"and\", or the 8th of XNFGUR
+   8  no rule
+   9  over 128 states
+  10  over 256 beliefs
+  11  no controller wins. Often X where N is meant: s at the last step breaks
+      G(s -> X a), and does not break G(s -> N a)
+
+What cannot be read or written is told on standard error. A problem that was not
+read to its end gets no answer, but for number 1. The exit status tells nothing:
+it is 0 after a refusal or a failure too.
+",
+    );
+}
