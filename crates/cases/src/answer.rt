@@ -7,12 +7,12 @@ use rules::Reading;
 use rules::Refusal;
 use rules::Verdict;
 
-pub fn say(text: &[u8]) {
+pub(crate) fn say(text: &[u8]) {
     streams::say(b"cases", text);
 }
 
 // What is said where a line is not of the form asked for, or memory is not as it should be after a call.
-pub fn wrong() {
+pub(crate) fn wrong() {
     say(b"\twrong");
 }
 
@@ -31,7 +31,7 @@ fn refused(r: Refusal) {
 }
 
 // How many signals of each kind, parts and temporal operators were read.
-pub fn reading(r: Reading) {
+pub(crate) fn reading(r: Reading) {
     match r {
         Reading::Accepted(s) => {
             tell_two(b"\tread\t", s.outputs, s.observed);
@@ -42,7 +42,7 @@ pub fn reading(r: Reading) {
     }
 }
 
-pub fn verdict(v: Verdict) {
+pub(crate) fn verdict(v: Verdict) {
     match v {
         Verdict::True => say(b"\ttrue"),
         Verdict::False => say(b"\tfalse"),
@@ -50,14 +50,14 @@ pub fn verdict(v: Verdict) {
     }
 }
 
-pub fn solved(s: Solved) {
+pub(crate) fn solved(s: Solved) {
     match s {
         Solved::Table { shape, worst_case } => tell_two(b"\ttable\t", shape.rows, worst_case),
         Solved::Refused(r) => refused(r),
     }
 }
 
-pub fn printed(p: Printed) {
+pub(crate) fn printed(p: Printed) {
     match p {
         Printed::Text(n) => tell(b"\ttext\t", n),
         Printed::Refused(r) => refused(r),
@@ -73,7 +73,7 @@ fn choice(a: Answer) {
 }
 
 // The answer and the position behind it.
-pub fn moved(m: Moved) {
+pub(crate) fn moved(m: Moved) {
     let answer = m.answer;
     choice(answer);
     tell(b"\trow\t", m.position.row);

@@ -146,7 +146,7 @@ fn call_on(line: &[u8], text: &[u8]) {
 }
 
 // Makes the call of a line, with its text, and writes what is answered.
-pub fn call(line: &[u8]) {
+pub(crate) fn call(line: &[u8]) {
     let mut text = io::large_buffer();
     let n = read_text(field(line, 2), &mut text);
     call_on(line, &text[..n]);

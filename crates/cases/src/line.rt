@@ -23,7 +23,7 @@ fn number(digits: &[u8]) -> usize
 }
 
 // The number in a field; 0 where the field is empty.
-pub fn argument(line: &[u8], k: usize) -> usize
+pub(crate) fn argument(line: &[u8], k: usize) -> usize
     ensures { λ r. ⌜ r < 65536 ⌝ }
 {
     let digits = field(line, k);
@@ -59,7 +59,7 @@ fn number_end(list: &[u8], from: usize) -> usize
 }
 
 // Reads numbers parted by spaces, and answers how many there are.
-pub fn read_numbers(list: &[u8], numbers: &mut [u16]) -> usize
+pub(crate) fn read_numbers(list: &[u8], numbers: &mut [u16]) -> usize
     ensures { λ r. ⌜ r ≤ length (now (numbers .exit)) ⌝ }
 {
     let mut n = 0;
@@ -87,7 +87,7 @@ fn escaped(raw: &[u8], i: usize) -> u8 {
 }
 
 // Reads a text, and answers its length. There is room for the longest: as much as for the whole input.
-pub fn read_text(raw: &[u8], text: &mut [u8]) -> usize
+pub(crate) fn read_text(raw: &[u8], text: &mut [u8]) -> usize
     ensures { λ r. ⌜ r ≤ length (now (text .exit)) ⌝ }
 {
     let mut n = 0;

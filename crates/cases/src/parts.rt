@@ -62,7 +62,7 @@ fn look_at_parts(codes: &[u32], numbers: &[u16]) {
 }
 
 // Lists the parts of a problem, and looks at them.
-pub fn list(line: &[u8], source: &[u8], numbers: &[u16]) {
+pub(crate) fn list(line: &[u8], source: &[u8], numbers: &[u16]) {
     let l = records::list_parts(source, argument(line, 5));
     let r = l.reading;
     reading(r);
@@ -85,7 +85,7 @@ fn judge_by(line: &[u8], numbers: &[u16], trace: &[u16]) {
     verdict(records::judge_list(l, argument(line, 5), s, trace));
 }
 
-pub fn judge_list(line: &[u8], trace: &[u16]) {
+pub(crate) fn judge_list(line: &[u8], trace: &[u16]) {
     let mut numbers = [0u16; 3 * PART_LIMIT];
     let n = read_numbers(field(line, 10), &mut numbers);
     judge_by(line, &numbers[..n], trace);

@@ -80,7 +80,7 @@ fn same_cells(table: &[u16; TABLE_SIZE], cells: &Table, rows: usize) -> bool {
 }
 
 // Solves a problem by both.
-pub fn compare(text: &[u8]) -> Compared {
+pub(crate) fn compare(text: &[u8]) -> Compared {
     let mut cells = [[0u16; ROW]; BELIEF_LIMIT];
     let answer = plain::solve(text, &mut cells);
     let mut work = [1u8; WORK_SIZE];
@@ -105,7 +105,7 @@ fn put_see(text: &mut [u8], i: usize)
 }
 
 // Turns hidden signals into observed ones. In a text that is read without refusal a tab stands behind a line's first word alone.
-pub fn observe(text: &mut [u8]) {
+pub(crate) fn observe(text: &mut [u8]) {
     let mut i = 0;
     while i + 3 < text.len() {
         if same(&text[i..i + 4], b"hid\t") {

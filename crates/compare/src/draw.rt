@@ -327,7 +327,7 @@ fn smaller(m: usize, n: usize) -> usize
 
 // Draws a problem of a kind, each rule by one of some patterns, which are parted by spaces, and answers its length. A text that does not
 // fit is cut.
-pub fn draw(kind: Kind, patterns: &[u8], seed: u64, text: &mut [u8]) -> usize
+pub(crate) fn draw(kind: Kind, patterns: &[u8], seed: u64, text: &mut [u8]) -> usize
     ensures { λ r. ⌜ r ≤ length (now (text .exit)) ⌝ }
 {
     let d = put_problem(text, kind, patterns, seed);

@@ -6,7 +6,7 @@ use streams::field;
 use streams::number_in;
 
 // The number in a field; 0 where it is wrong, which is said.
-pub fn argument(line: &[u8], k: usize) -> usize
+pub(crate) fn argument(line: &[u8], k: usize) -> usize
     ensures { λ r. ⌜ r < 65536 ⌝ }
 {
     match number_in(field(line, k)) {

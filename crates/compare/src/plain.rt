@@ -40,7 +40,7 @@ pub struct Answer {
     pub worst_case: usize,
 }
 
-pub fn refused(number: usize, place: usize) -> Answer {
+pub(crate) fn refused(number: usize, place: usize) -> Answer {
     Answer {
         number,
         place,
@@ -138,7 +138,7 @@ fn solve_parts(parts: &[u32], operators: usize, w: Widths, table: &mut Table) ->
 }
 
 // Solves a problem. The table's cells are 0 before.
-pub fn solve(source: &[u8], table: &mut Table) -> Answer {
+pub(crate) fn solve(source: &[u8], table: &mut Table) -> Answer {
     let mut parts = [0u32; PART_LIMIT];
     match read(source, &mut parts) {
         Reading::Refused(r) => refused(number(r), place(r)),

@@ -92,7 +92,7 @@ fn follow_pairs(
 }
 
 // Finds all beliefs, that of the start state alone first; answers how many there are, or one more than the most where there are too many.
-pub fn explore_beliefs(
+pub(crate) fn explore_beliefs(
     successors: &Successors,
     w: Widths,
     beliefs: &mut Sets,

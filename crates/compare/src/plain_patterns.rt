@@ -19,7 +19,7 @@ type Pattern = [bool; INDEX_LIMIT + 1];
 type Values = [bool; INDEX_LIMIT];
 
 // Binary digit k of a number.
-pub fn digit(n: usize, k: usize) -> bool {
+pub(crate) fn digit(n: usize, k: usize) -> bool {
     let mut m = n;
     for _ in 0..k {
         m = m / 2;
@@ -164,7 +164,7 @@ fn pattern_before(parts: &[u32], letter: usize, next: &Pattern) -> Pattern
 }
 
 // The same by number.
-pub fn carried(parts: &[u32], letter: usize, p: usize) -> usize
+pub(crate) fn carried(parts: &[u32], letter: usize, p: usize) -> usize
     requires { ⌜ length (now parts) ≤ indexLimit ⌝ }
     ensures { λ r. ⌜ r < patternCount ⌝ }
 {

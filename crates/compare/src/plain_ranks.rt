@@ -59,7 +59,7 @@ fn leads_below(
 }
 
 // The smallest choice that leads below r; 0 where none does.
-pub fn smallest_choice(moves: &[u8; PAIR_LIMIT], ranks: &Ranks, w: Widths, r: u16) -> usize
+pub(crate) fn smallest_choice(moves: &[u8; PAIR_LIMIT], ranks: &Ranks, w: Widths, r: u16) -> usize
     requires { ⌜ w .choices ≤ sideLimit ⌝ }
     requires { ⌜ w .observations ≤ sideLimit ⌝ }
     ensures { λ c. ⌜ c < sideLimit ⌝ }
@@ -97,7 +97,7 @@ fn rank_round(moves: &Moves, n: usize, w: Widths, r: u16, ranks: &mut Ranks)
 }
 
 // The ranks of n beliefs: each is below n.
-pub fn ranks_of(states: &Sets, beliefs: &Sets, moves: &Moves, n: usize, w: Widths) -> Ranks
+pub(crate) fn ranks_of(states: &Sets, beliefs: &Sets, moves: &Moves, n: usize, w: Widths) -> Ranks
     requires { ⌜ n ≤ beliefLimit ⌝ }
     requires { ⌜ w .choices ≤ sideLimit ⌝ }
     requires { ⌜ w .observations ≤ sideLimit ⌝ }

@@ -79,7 +79,7 @@ fn put_belief(
 }
 
 // Writes the table, whose cells are 0 before, and answers how many rows it has.
-pub fn put_table(moves: &Moves, ranks: &Ranks, w: Widths, table: &mut Table) -> usize
+pub(crate) fn put_table(moves: &Moves, ranks: &Ranks, w: Widths, table: &mut Table) -> usize
     requires { ⌜ w .choices ≤ sideLimit ⌝ }
     requires { ⌜ w .observations ≤ sideLimit ⌝ }
     ensures { λ r. ⌜ r ≤ beliefLimit ⌝ }

@@ -11,7 +11,7 @@ pub type Set = [bool; PATTERNS];
 pub type Sets = [Set; BELIEF_LIMIT + 1];
 
 // How many there are after one that was put behind n others got number j: one more where that is n. There are at most `most`.
-pub fn count_with(n: usize, j: usize, most: usize) -> usize
+pub(crate) fn count_with(n: usize, j: usize, most: usize) -> usize
     requires { ⌜ n ≤ most ⌝ }
     ensures { λ r. ⌜ (n ≤ r) × (r ≤ most) ⌝ }
 {
@@ -24,7 +24,7 @@ pub fn count_with(n: usize, j: usize, most: usize) -> usize
 }
 
 // A byte as an index.
-pub fn index(b: u8) -> usize
+pub(crate) fn index(b: u8) -> usize
     ensures { λ r. ⌜ r < indexLimit ⌝ }
 {
     b as usize
@@ -53,7 +53,7 @@ fn first_like(sets: &Sets, n: usize) -> usize
 }
 
 // Puts a set behind n others, and answers its number: n where it is new.
-pub fn add_set(sets: &mut Sets, n: usize, set: Set) -> usize
+pub(crate) fn add_set(sets: &mut Sets, n: usize, set: Set) -> usize
     requires { ⌜ n ≤ beliefLimit ⌝ }
     ensures { λ r. ⌜ r ≤ n ⌝ }
 {

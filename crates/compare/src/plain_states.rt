@@ -30,7 +30,7 @@ pub struct Widths {
 }
 
 // Whether a number has a choice and an observation of the problem.
-pub fn is_pair(w: Widths, pair: usize) -> bool {
+pub(crate) fn is_pair(w: Widths, pair: usize) -> bool {
     (pair % SIDE_LIMIT < w.choices) & (pair / SIDE_LIMIT < w.observations)
 }
 
@@ -112,7 +112,7 @@ fn follow_letters(
 }
 
 // Finds all states, the start first; answers how many there are, or one more than the most where there are too many.
-pub fn explore_states(
+pub(crate) fn explore_states(
     parts: &[u32],
     patterns: usize,
     w: Widths,

@@ -33,7 +33,7 @@ pub const CLASSES: usize = HIDDEN_MATTER + 1;
 type Counts = [u64; CLASSES];
 
 // Ends the line of a kind, and answers whether its end could be written. What fails before is told.
-pub fn write(counts: &Counts) -> bool {
+pub(crate) fn write(counts: &Counts) -> bool {
     for k in 0..CLASSES {
         tell(counts[k]);
     }
@@ -111,7 +111,7 @@ fn draw_by(line: &[u8], seed: u64, text: &mut [u8]) -> usize
 }
 
 // Draws a problem of a line's kind, and counts it.
-pub fn draw_one(line: &[u8], seed: u64, counts: &mut Counts) {
+pub(crate) fn draw_one(line: &[u8], seed: u64, counts: &mut Counts) {
     let mut text = [0u8; ROOM];
     let n = draw_by(line, seed, &mut text);
     count(&mut text[..n], counts);

@@ -1,7 +1,7 @@
 // What `synth --help` writes: one screen.
 use crate::write;
 
-pub fn explain() {
+pub(crate) fn explain() {
     write(
         b"synth finds a controller for a problem of LTLf synthesis under partial
 observability, with the smallest worst-case number of steps, or says that none
