@@ -1,4 +1,4 @@
-// Both solvers on one problem.
+// Both solvers on one problem, which may be written in two ways.
 ghost use Prim.Native.Nat.{_+_, _<_};
 ghost use lib.ListN.{length};
 ghost use Rattle.play.specs.Cells.{tableSize};
@@ -23,11 +23,13 @@ pub const ROOM: usize = SOURCE_LIMIT + 1;
 // What every cell of the table holds before the call.
 const BEFORE: u16 = 1;
 
-// The number of a refusal, or 0 with a table's worst case, as the plain solver answers; and whether the proved one agrees.
+// The number of a refusal, or 0 with a table's worst case, as the plain solver answers; whether the proved one agrees, on both texts; and
+// whether these differ.
 pub struct Compared {
     pub number: usize,
     pub worst_case: usize,
     pub agrees: bool,
+    pub texts_differ: bool,
 }
 
 // The answer of the proved solver, told as the plain one tells it.
@@ -79,19 +81,28 @@ fn same_cells(table: &[u16; TABLE_SIZE], cells: &Table, rows: usize) -> bool {
     true
 }
 
-// Solves a problem by both.
-pub(crate) fn compare(text: &[u8]) -> Compared {
-    let mut cells = [[0u16; ROW]; BELIEF_LIMIT];
-    let answer = plain::solve(text, &mut cells);
+// Whether the proved solver answers a text so, with these cells, and leaves no trace in work memory.
+fn answers(text: &[u8], answer: Answer, cells: &Table) -> bool {
     let mut work = [1u8; WORK_SIZE];
     let mut table = [BEFORE; TABLE_SIZE];
-    let other = told(solve(text, &mut work, &mut table));
+    let own = told(solve(text, &mut work, &mut table));
+    same_answer(own, answer) & is_clear(&work) & same_cells(&table, cells, answer.rows)
+}
+
+// Whether it answers a second text so too, where the texts differ.
+fn answers_too(text: &[u8], other: &[u8], answer: Answer, cells: &Table) -> bool {
+    same(text, other) || answers(other, answer, cells)
+}
+
+// Solves a text by both, and a second text of the same problem by the proved solver alone.
+pub(crate) fn compare(text: &[u8], other: &[u8]) -> Compared {
+    let mut cells = [[0u16; ROW]; BELIEF_LIMIT];
+    let answer = plain::solve(text, &mut cells);
     Compared {
         number: answer.number,
         worst_case: answer.worst_case,
-        agrees: same_answer(answer, other)
-            & is_clear(&work)
-            & same_cells(&table, &cells, answer.rows),
+        agrees: answers(text, answer, &cells) & answers_too(text, other, answer, &cells),
+        texts_differ: !same(text, other),
     }
 }
 

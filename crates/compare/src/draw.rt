@@ -1,10 +1,12 @@
-// Problems drawn from a seed: signals, and rules made of patterns and random trees.
+// Problems drawn from a seed: signals, and rules made of patterns and random trees. A pattern may be a pair, two sides with `=` between them,
+// such as a plan word and what it stands for: then a problem can be drawn in two ways, with the same patterns, signals and operands.
 ghost use Prim.Native.Nat.{_+_, _≤_, _<_};
 ghost use lib.ListN.{length};
 use std::num::wrapping_add_usize;
 
 // What is drawn: so many signals of each kind and so many rules. A random tree has at most `size` parts, and all rules together have
-// at most `operators` temporal operators. Where `damage` is not 0, one byte of the text is overwritten by another of its bytes.
+// at most `operators` temporal operators. Where `damage` is not 0, one byte of the text is overwritten by another of its bytes. `second`
+// says which side of a pair is put.
 pub struct Kind {
     pub outputs: usize,
     pub observed: usize,
@@ -13,6 +15,7 @@ pub struct Kind {
     pub size: usize,
     pub operators: usize,
     pub damage: usize,
+    pub second: bool,
 }
 
 // Where drawing stands: the generator, the length of the text, the temporal operators left, and whose turn it is among the signals; then
@@ -26,6 +29,7 @@ struct Drawing {
     observed: usize,
     inputs: usize,
     size: usize,
+    second: bool,
 }
 
 // Words are numbers of up to eight bytes, the first byte lowest: `out`, `see`, `hid` and `rule` with a tab, and `true`.
@@ -217,23 +221,38 @@ fn signed(start: Drawing, b: u8) -> u64 {
     }
 }
 
-// What a byte of a pattern draws: `1` is one of `X` and `N`, and `2` one of `U` and `R`.
+// What a byte of a pattern draws: `Y` is one of `X` and `N`, `V` one of `U` and `R`, and `W` the small letter, as in `Within`. Others, such
+// as digits and the letters of the other plan words, stand for themselves.
 fn drawn(b: u8, seed: u64) -> u8 {
     let first = seed >> 20 & 1 == 0;
     match b {
-        b'1' => if first { b'X' } else { b'N' },
-        b'2' => if first { b'U' } else { b'R' },
+        b'Y' => if first { b'X' } else { b'N' },
+        b'V' => if first { b'U' } else { b'R' },
+        b'W' => b'w',
         _ => b,
     }
 }
 
-// Puts what a byte of a pattern stands for: `v` and `w` are inputs, `x` and `y` outputs, `#` is a tree, `>` is the arrow.
+// Puts a random formula without temporal operators, the same wherever it stands in the pattern: an operand of a plan word.
+fn put_operand(text: &mut [u8], d: Drawing, start: Drawing) -> Drawing {
+    let mut e = start;
+    e.at = d.at;
+    e.operators = 0;
+    e = put_tree(text, e, tree_size(start));
+    e.operators = d.operators;
+    e
+}
+
+// Puts what a byte of a pattern stands for: `v` and `w` are inputs, `x` and `y` outputs, `#` is a tree, `%` an operand, `>` the arrow.
 fn put_symbol(text: &mut [u8], d: Drawing, start: Drawing, b: u8) -> Drawing {
     if (b >= b'v') & (b <= b'y') {
         return put(text, d, signed(start, b));
     }
     if b == b'#' {
         return put_tree(text, d, tree_size(d));
+    }
+    if b == b'%' {
+        return put_operand(text, d, start);
     }
     put_operator(text, d, drawn(b, d.seed))
 }
@@ -254,15 +273,47 @@ fn pattern_at(patterns: &[u8], seed: u64) -> usize {
     0
 }
 
-// Puts one of the patterns, and the line's end.
-fn put_pattern(text: &mut [u8], d: Drawing, patterns: &[u8]) -> Drawing {
-    let mut e = d;
-    let mut i = pattern_at(patterns, d.seed);
+// Where the second side begins of the pattern that begins at a place: behind `=`, or at the same place where the pattern is no pair.
+fn second_at(patterns: &[u8], first: usize) -> usize {
+    let mut i = first;
     while i < patterns.len() && patterns[i] != b' ' {
+        if patterns[i] == b'=' {
+            return i + 1;
+        }
+        i += 1;
+    }
+    first
+}
+
+// Puts the side of a pattern that begins at a place.
+fn put_side(text: &mut [u8], d: Drawing, patterns: &[u8], first: usize) -> Drawing {
+    let mut e = d;
+    let mut i = first;
+    while i < patterns.len() && patterns[i] != b' ' && patterns[i] != b'=' {
         e = put_symbol(text, e, d, patterns[i]);
         i += 1;
     }
-    put(text, e, LINE_END)
+    e
+}
+
+// The place of the side that is put.
+fn side_at(d: Drawing, first: usize, second: usize) -> usize {
+    if d.second { second } else { first }
+}
+
+// Where drawing goes on behind a pattern: behind a pair from where it began, so that what comes is the same behind either side.
+fn behind(start: Drawing, e: Drawing, is_pair: bool) -> Drawing {
+    let mut next = if is_pair { start } else { e };
+    next.at = e.at;
+    next
+}
+
+// Puts one side of one of the patterns, and the line's end.
+fn put_pattern(text: &mut [u8], d: Drawing, patterns: &[u8]) -> Drawing {
+    let first = pattern_at(patterns, d.seed);
+    let second = second_at(patterns, first);
+    let e = put_side(text, d, patterns, side_at(d, first, second));
+    put(text, behind(d, e, second != first), LINE_END)
 }
 
 fn put_rules(text: &mut [u8], d: Drawing, patterns: &[u8], n: usize) -> Drawing {
@@ -299,6 +350,7 @@ fn begun(kind: Kind, seed: u64) -> Drawing {
         observed: kind.observed,
         inputs: wrapping_add_usize(kind.observed, kind.hidden),
         size: kind.size,
+        second: kind.second,
     }
 }
 

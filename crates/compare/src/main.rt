@@ -1,7 +1,8 @@
 // Draws problems, solves each by the proved solver and by a plain one, and writes how many agree: the refusal and its place, or the row
-// count, the worst case and every cell of the table. Standard input has a line for each kind of problems, in fields parted by tabs: its
-// name, the seed of the first problem, how many are drawn, and what `draw.rt` asks for. The answer has a line for each, with the numbers
-// that `summary.rt` counts. The first problem of a kind on which the two differ is written out.
+// count, the worst case and every cell of the table. A problem may be drawn in two ways, as with plan words and with what they stand for:
+// then the proved solver has to give the same answer to both. Standard input has a line for each kind of problems, in fields parted by
+// tabs: its name, the seed of the first problem, how many are drawn, and what `draw.rt` asks for. The answer has a line for each, with the
+// numbers that `summary.rt` counts. The first problem of a kind on which answers differ is written out, in both ways.
 use basics::Class;
 use basics::past;
 use libc::STDIN_FILENO;
@@ -48,7 +49,7 @@ fn run_lines(input: &[u8]) -> bool {
 // The names of what is counted.
 fn write_names() -> bool {
     answer::say(
-        b"kind\tdrawn\tagree\ttables\t1\t2\t3\t4\t5\t6\t7\t8\t9\t10\t11\tover 1 step\tover 2 steps\thidden matter\n",
+        b"kind\tdrawn\tagree\ttables\t1\t2\t3\t4\t5\t6\t7\t8\t9\t10\t11\tover 1 step\tover 2 steps\thidden matter\talike\n",
     )
 }
 

@@ -1,4 +1,5 @@
-// How many problems of a kind were drawn, on how many the solvers agree, and what kinds of answers these have.
+// How many problems of a kind were drawn, on how many the solvers agree, what kinds of answers these have, and how many of them were asked
+// in two ways.
 ghost use Prim.Native.Nat.{_≤_};
 ghost use lib.ListN.{length};
 use crate::answer::say;
@@ -15,7 +16,7 @@ use std::num::wrapping_add_usize;
 use streams::field;
 
 // What is counted: all problems; those on which both solvers agree, and of these the tables and the refusals by number; tables with a worst
-// case over 1 and over 2; and where it matters that hidden signals are hidden.
+// case over 1 and over 2; where it matters that hidden signals are hidden; and those whose two texts differ and are answered alike.
 const DRAWN: usize = 0;
 
 const AGREE: usize = 1;
@@ -28,7 +29,9 @@ const OVER_TWO: usize = OVER_ONE + 1;
 
 const HIDDEN_MATTER: usize = OVER_TWO + 1;
 
-pub const CLASSES: usize = HIDDEN_MATTER + 1;
+const ALIKE: usize = HIDDEN_MATTER + 1;
+
+pub const CLASSES: usize = ALIKE + 1;
 
 type Counts = [u64; CLASSES];
 
@@ -64,38 +67,53 @@ fn add_if(counts: &mut Counts, class: usize, is_in: bool) {
     }
 }
 
-// Counts a problem on which both solvers agree, also if the hidden signals are observed.
+// Counts a problem on which both solvers agree, where d is the answer if the hidden signals are observed.
 fn add_agreed(counts: &mut Counts, c: Compared, d: Compared) {
     add(counts, AGREE);
     add(counts, wrapping_add_usize(TABLES, c.number));
     add_if(counts, OVER_ONE, c.worst_case > 1);
     add_if(counts, OVER_TWO, c.worst_case > 2);
     add_if(counts, HIDDEN_MATTER, hidden_matter(c, d));
+    add_if(counts, ALIKE, c.texts_differ);
 }
 
-// Solves a text by both. If they differ, and have not before on a problem of the kind, the text is written.
-fn compare_shown(text: &[u8], counts: &Counts, agreed: bool) -> Compared {
-    let c = compare(text);
+// Writes a problem, in both ways where they differ.
+fn show(text: &[u8], other: &[u8], c: Compared) {
+    say(b"\n");
+    say(text);
+    if c.texts_differ {
+        say(other);
+    }
+}
+
+// Solves a problem by both. If they differ, and have not before on a problem of the kind, it is written.
+fn compare_shown(text: &[u8], other: &[u8], counts: &Counts, agreed: bool) -> Compared {
+    let c = compare(text, other);
     if agreed & !c.agrees & (counts[DRAWN] == counts[AGREE]) {
-        say(b"\n");
-        say(text);
+        show(text, other, c);
     }
     c
 }
 
-// Solves a text by both, then with its hidden signals observed, and counts it.
-fn count(text: &mut [u8], counts: &mut Counts) {
-    let c = compare_shown(text, counts, true);
-    observe(text);
-    let d = compare_shown(text, counts, c.agrees);
+// Counts a problem, where d is the answer if the hidden signals are observed.
+fn add_compared(counts: &mut Counts, c: Compared, d: Compared) {
     add(counts, DRAWN);
     if c.agrees & d.agrees {
         add_agreed(counts, c, d);
     }
 }
 
-// Draws a problem of a line's kind.
-fn draw_by(line: &[u8], seed: u64, text: &mut [u8]) -> usize
+// Solves a problem by both, then with its hidden signals observed, and counts it.
+fn count(text: &mut [u8], other: &mut [u8], counts: &mut Counts) {
+    let c = compare_shown(text, other, counts, true);
+    observe(text);
+    observe(other);
+    let d = compare_shown(text, other, counts, c.agrees);
+    add_compared(counts, c, d);
+}
+
+// Draws a problem of a line's kind, by one side of its pairs.
+fn draw_by(line: &[u8], seed: u64, second: bool, text: &mut [u8]) -> usize
     ensures { λ r. ⌜ r ≤ length (now (text .exit)) ⌝ }
 {
     let kind = Kind {
@@ -106,13 +124,16 @@ fn draw_by(line: &[u8], seed: u64, text: &mut [u8]) -> usize
         size: argument(line, 7),
         operators: argument(line, 8),
         damage: argument(line, 9),
+        second,
     };
     draw(kind, field(line, 10), seed, text)
 }
 
-// Draws a problem of a line's kind, and counts it.
+// Draws a problem of a line's kind in both ways, and counts it.
 pub(crate) fn draw_one(line: &[u8], seed: u64, counts: &mut Counts) {
     let mut text = [0u8; ROOM];
-    let n = draw_by(line, seed, &mut text);
-    count(&mut text[..n], counts);
+    let mut other = [0u8; ROOM];
+    let n = draw_by(line, seed, false, &mut text);
+    let m = draw_by(line, seed, true, &mut other);
+    count(&mut text[..n], &mut other[..m], counts);
 }

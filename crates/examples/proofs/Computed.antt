@@ -6,10 +6,12 @@ use Rattle.basics.specs.Bounded.{firstThat}
 use Rattle.basics.specs.Bytes.{lower, wordByte, run, past, sameBytes}
 use Rattle.basics.specs.Reach.{isIn, indexIn, addNew, addAll, explore, reachable}
 use Rattle.basics.specs.Text.{digits}
-use Rattle.grammar.specs.Lex.{wordKind, tokenFrom, tokenAt, more, tokensF, tokens}
+use Rattle.syntax.specs.Lex.{planKind, wordKind, tokenFrom, tokenAt, more, tokensF, tokens}
 use Rattle.grammar.specs.Grammar.{isOp, leftward, isPre, isLeaf}
-use Rattle.grammar.specs.Parse.{bind, on, close, parseF, parse, parseFormula}
+use Rattle.grammar.specs.Parse.{bind, on, close, parseF, parse}
+use Rattle.grammar.specs.PlanParse.{numberAt, headOf, headAt, secondAt, planAt, parseFormula}
 use Rattle.grammar.specs.Names.{indexOf, leafValue}
+use Rattle.formula.specs.Constraints.{soon, hold, delay}
 use Rattle.formula.specs.Formula.{size, operators}
 use Rattle.formula.specs.Letter.{isLetter}
 use Rattle.formula.specs.Parts.{opOf, temporals, partsFrom, partsOf, partAt, bottomUp, resultAt}
@@ -32,7 +34,8 @@ use Rattle.examples.specs.Examples.{answer, expected, examples}
 
 pub computed : map answer examples ≡ map expected examples
 unfolding fromBits firstThat lower wordByte run past sameBytes isIn indexIn addNew addAll explore reachable digits flatMap
-    wordKind tokenFrom tokenAt more tokensF tokens isOp leftward isPre isLeaf bind on close parseF parse parseFormula indexOf leafValue
+    planKind wordKind tokenFrom tokenAt more tokensF tokens isOp leftward isPre isLeaf bind on close parseF parse
+    numberAt headOf headAt secondAt planAt parseFormula soon hold delay indexOf leafValue
     size operators isLetter opOf temporals partsFrom partsOf partAt bottomUp resultAt holds valueWith
     lines tabPlace wordOf isName isText formulaOf allDeclared declareEffect stateEffect effectOf readLines readProblem badStep verdictOn judged
     operatorsOf numberOf spotsTo spots valueAt owedAt back lettersOf member setOf start accepts next after sameSet nextSets reachableSets

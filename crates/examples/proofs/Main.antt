@@ -1,4 +1,4 @@
--- The worked examples A to K (REFERENCE.md, Examples), and counts of states. Assumes nothing.
+-- The worked examples (REFERENCE.md, Examples and Plan words), and counts of states. Assumes nothing.
 use mathlib.Core.Path.{_≡_}
 use mathlib.Core.List.{[], _∷_, map}
 use Rattle.formula.specs.Formula.{signal, True, False, X, F, U}
@@ -11,7 +11,7 @@ use Rattle.examples.specs.StateCount.{count}
 use Rattle.examples.proofs.Computed.{computed}
 use Rattle.examples.proofs.SmallStateSpaces
 
--- A to K, each from a problem's bytes to what is answered: one table
+-- A to K and plan words, each from a problem's bytes to what is answered: one table
 pub examples-right : map answer examples ≡ map expected examples
 examples-right = computed
 

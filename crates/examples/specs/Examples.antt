@@ -1,4 +1,5 @@
--- The examples A to K (REFERENCE.md, Examples) as one table: a problem's bytes, what is asked of them, and the answer.
+-- The examples A to K, and of plan words (REFERENCE.md, Examples and Plan words), as one table: a problem's bytes, what is asked of them, and
+-- the answer.
 -- Assumes nothing.
 use Prim.Native.Nat.{ℕ}
 use Prim.Native.String.{String}
@@ -37,15 +38,15 @@ toldFor source text = values (response source)
 toldFor source (judge π) = toldVerdict (judged workSize source π)
 toldFor source (accept π) = toldAccepted (readProblem source) π
 
--- the example's letter, the problem, what is asked of it, and what is to be told
+-- the example's name, the problem, what is asked of it, and what is to be told
 pub data Example : Type 0 where
-  example : (letter source : String) → Asked → Told → Example
+  example : (name source : String) → Asked → Told → Example
 
 abbrev pub answer : Example → Told
-answer (example letter source asked told) = toldFor (bytesOf source) asked
+answer (example name source asked told) = toldFor (bytesOf source) asked
 
 abbrev pub expected : Example → Told
-expected (example letter source asked told) = told
+expected (example name source asked told) = told
 
 abbrev pub examples : List Example
 examples =
@@ -71,4 +72,33 @@ examples =
     ∷ example "J" "out\ta\nout\tb\nrule\ta U b\n" (accept (1 ∷ [])) (values (0 ∷ []))
     ∷ example "K" "out\ta\nout\tb\nrule\ta R b\n" (judge (2 ∷ [])) (values (1 ∷ []))
     ∷ example "K" "out\ta\nout\tb\nrule\ta R b\n" (accept (2 ∷ [])) (values (1 ∷ []))
+    ∷ example "once" "out\ta\nrule\tonce(a)\n" (judge (1 ∷ 1 ∷ 0 ∷ [])) (values (1 ∷ []))
+    ∷ example "once" "out\ta\nrule\tonce(a)\n" (judge (1 ∷ 0 ∷ 1 ∷ [])) (values (0 ∷ []))
+    ∷ example "before" "out\ta\nout\tb\nrule\tbefore(a,b)\n" (judge (2 ∷ 1 ∷ [])) (values (1 ∷ []))
+    ∷ example "before" "out\ta\nout\tb\nrule\tbefore(a,b)\n" (judge (3 ∷ [])) (values (0 ∷ []))
+    ∷ example "after" "out\ta\nout\tb\nrule\tafter(a,b)\n" (judge (3 ∷ [])) (values (1 ∷ []))
+    ∷ example "after" "out\ta\nout\tb\nrule\tafter(a,b)\n" (judge (1 ∷ 0 ∷ [])) (values (0 ∷ []))
+    ∷ example "within" "out\ta\nout\tb\nrule\twithin(1,a,b)\n" (judge (1 ∷ 2 ∷ [])) (values (1 ∷ []))
+    ∷ example "within" "out\ta\nout\tb\nrule\twithin(1,a,b)\n" (judge (1 ∷ 0 ∷ 2 ∷ [])) (values (0 ∷ []))
+    ∷ example "during" "out\ta\nrule\tduring(2,3,a)\n" (judge (0 ∷ 1 ∷ 1 ∷ 0 ∷ [])) (values (1 ∷ []))
+    ∷ example "during" "out\ta\nrule\tduring(2,3,a)\n" (judge (0 ∷ 1 ∷ 0 ∷ [])) (values (0 ∷ []))
+    ∷ example "during" "out\ta\nsee\ts\nrule\tduring(1,2,s -> a) & X true\n" table (values (3 ∷ 1 ∷ 2 ∷ []))
+    ∷ example "during" "out\ta\nrule\tduring(2,3,a)\n" (judge (0 ∷ [])) (values (1 ∷ []))
+    ∷ example "during" "out\ta\nrule\tX during(1,2,a)\n" (judge (0 ∷ 1 ∷ 1 ∷ 0 ∷ [])) (values (1 ∷ []))
+    ∷ example "within" "out\ta\nout\tb\nrule\twithin(5,a,b)\n" (judge (1 ∷ 0 ∷ 0 ∷ 0 ∷ 0 ∷ 2 ∷ [])) (values (1 ∷ []))
+    ∷ example "within" "out\ta\nout\tb\nrule\twithin(5,a,b)\n" (judge (1 ∷ 0 ∷ 0 ∷ 0 ∷ 0 ∷ 0 ∷ 2 ∷ [])) (values (0 ∷ []))
+    ∷ example "within 6" "out\ta\nrule\twithin(6,a,a)\n" table (refused 5 2)
+    ∷ example "two digits" "out\ta\nrule\twithin(03,a,a)\n" table (refused 5 2)
+    ∷ example "during from 0" "out\ta\nrule\tduring(0,1,a)\n" table (refused 5 2)
+    ∷ example "during backwards" "out\ta\nrule\tduring(2,1,a)\n" table (refused 5 2)
+    ∷ example "during to 8" "out\ta\nrule\tduring(1,8,a)\n" table (refused 5 2)
+    ∷ example "X in an operand" "out\ta\nrule\tonce(X a)\n" table (refused 5 2)
+    ∷ example "U in an operand" "out\ta\nrule\tonce(a U a)\n" table (refused 5 2)
+    ∷ example "one operand too many" "out\ta\nrule\tonce(a,a)\n" table (refused 5 2)
+    ∷ example "one operand too few" "out\ta\nrule\tbefore(a)\n" table (refused 5 2)
+    ∷ example "no parenthesis" "out\ta\nrule\tonce & a\n" table (refused 5 2)
+    ∷ example "5 before 6" "rule\twithin(9,zz,zz)\n" table (refused 5 1)
+    ∷ example "6 in an operand" "rule\tonce(zz)\n" table (refused 6 1)
+    ∷ example "a word in an operand" "out\ta\nrule\tonce(during(1,1,a))\n" table (refused 5 2)
+    ∷ example "a word as a name" "out\tonce\n" table (refused 2 1)
     ∷ []

@@ -1,5 +1,8 @@
 -- the evaluator is the published relation
 pub mod Agreement
+-- the plan words mean what PDDL 3.0 says, `during` what the request's window does; how large they are
+pub mod ConstraintsLaws
+pub mod ConstraintsCounts
 -- letters
 pub mod LetterLaws
 -- parts, and the operators among them

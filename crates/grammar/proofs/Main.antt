@@ -1,16 +1,21 @@
--- The theorems of this crate: what the tokens of a formula's text are, and that it is read exactly as the written grammar derives it, and so has
--- one reading.
+-- The theorems of this crate: that a formula's text is read exactly as the written grammar derives it, and so has one reading. Before them, what
+-- its tokens are, by laws of `syntax`.
 -- Assumes nothing.
 use Prim.Native.Nat.{ℕ, _≤_}
 use mathlib.Core.Path.{_≡_}
 use mathlib.Core.Logic.{_↔_}
+use mathlib.Core.Bool.{not}
 use mathlib.Core.List.{List, [], _∷_}
+use lib.Dec.{eqb}
 use lib.ListN.{length}
-use Rattle.grammar.specs.Lex.{endKind, tokenAt, tokens}
-use Rattle.grammar.specs.Tree.{Tree}
+use Rattle.syntax.specs.Kinds.{endKind, nameKind}
+use Rattle.syntax.specs.Lex.{isReserved, wordKind, tokenAt, tokens}
+use Rattle.syntax.specs.Tree.{Tree}
 use Rattle.grammar.specs.Grammar.{Derived}
-use Rattle.grammar.specs.Parse.{none, some, parseFormula}
-use Rattle.grammar.proofs.Spelt
+use Rattle.grammar.specs.Parse.{none, some}
+use Rattle.grammar.specs.PlanParse.{parseFormula}
+use Rattle.syntax.proofs.LexLaws
+use Rattle.syntax.proofs.Spelt
 use Rattle.grammar.proofs.ReadIffDerived
 
 -- ---- tokens
@@ -22,6 +27,10 @@ module _ (text : List ℕ) (at : ℕ) (inside : at ≤ length text) where
 
   pub tokens-more : ¬ (tokenAt text at .kind ≡ endKind) → tokens text at ≡ tokenAt text at ∷ tokens text (tokenAt text at .next)
   tokens-more = Spelt.tokens-more text at inside
+
+-- a word is a name exactly where it is not reserved
+pub names : (w : List ℕ) → eqb (wordKind w) nameKind ≡ not (isReserved w)
+names = LexLaws.reserved-kind
 
 -- ---- reading
 

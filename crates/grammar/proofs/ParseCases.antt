@@ -1,10 +1,14 @@
--- Case analysis on what the reader gives. Assumes nothing.
+-- Case analysis on what the reader gives, and the test for a kind of tokens. Assumes nothing.
 use mathlib.Core.Path.{_≡_, refl}
 use mathlib.Core.Bool.{Bool, true, false}
 use Prim.Native.Nat.{ℕ}
+use lib.Dec.{eqb}
 use native.Mathlib.Omega.{arith}
-use Rattle.grammar.specs.Tree.{Tree}
+use Rattle.syntax.specs.Tree.{Tree}
 use Rattle.grammar.specs.Parse.{Res, none, some, bind, on}
+
+abbrev pub isKind : ℕ → ℕ → Bool
+isKind c k = eqb k c
 
 pub none-some : {C : Type 0} (a : Tree) (m : ℕ) → none ≡ some a m → C
 none-some a m e = let z : _≡_ {A = ℕ} 0 1 = cc in absurd (omega arith)

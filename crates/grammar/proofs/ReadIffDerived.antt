@@ -1,20 +1,23 @@
--- A formula's text has one reading: the reader finds a tree exactly when the written grammar derives it, and there is at most one. Assumes nothing.
+-- A formula's text has one reading: the reader finds a tree exactly when the written grammar derives it, and there is at most one.
+-- Assumes nothing.
 use mathlib.Core.Path.{_≡_, refl, sym, subst, ap, _∙_}
+use mathlib.Core.Bool.{true}
 use mathlib.Core.Logic.{_↔_}
 use mathlib.Core.List.{List, [], _++_, append-nil}
 use Prim.Native.Nat.{ℕ}
 use native.Mathlib.Omega.{arith}
 use borrow.Author.Tests.{eqb-true, eq-eqb}
-use Rattle.grammar.specs.Lex.{tokens}
-use Rattle.grammar.specs.Tree.{Tree}
-use Rattle.grammar.specs.Grammar.{Derives, ltlf, Derived}
-use Rattle.grammar.specs.Parse.{Res, none, some, parse, parseFormula}
+use Rattle.syntax.specs.Lex.{tokens}
+use Rattle.syntax.specs.Tree.{Tree}
+use Rattle.grammar.specs.Grammar.{Derives, formulas, Derived}
+use Rattle.grammar.specs.Parse.{Res, none, some, parse}
+use Rattle.grammar.specs.PlanParse.{parseFormula}
 use Rattle.grammar.proofs.ParseCases.{none-some, on-elim, bind-elim, on-true, bind-some}
 use Rattle.grammar.proofs.ReadsInside.{some-one, parse-in}
-use Rattle.grammar.proofs.Spelt.{first, first-token, tokens-end}
+use Rattle.syntax.proofs.Spelt.{first, first-token, tokens-end}
 use Rattle.grammar.proofs.Sound.{parse-sound}
 use Rattle.grammar.proofs.Complete.{complete}
-use Rattle.grammar.proofs.GrammarLaws.{ltlf-laws, ltlf-exact}
+use Rattle.grammar.proofs.PlanParseLaws.{formulas-laws, formulas-exact}
 
 module _ (text : List ℕ) where
   pub sound : (a : Tree) (next : ℕ) → parseFormula text ≡ some a next → Derived text a
@@ -22,17 +25,19 @@ module _ (text : List ℕ) where
   sound a next e =
       bind-elim _ _ _ _ e (λ b m eb es.
       on-elim _ _ _ _ es
-      (λ o e₁. let i = parse-sound ltlf-laws ltlf-exact text _ 4 0 b m (omega arith) eb in
-      let q = i .spells ∙ ap (λ ts. i .us ++ ts) (tokens-end text m (parse-in ltlf-laws text _ 4 0 b m (omega arith) eb .high) (eqb-true _ _ o))
-      ∙ append-nil (i .us) in
-      subst (λ x. Derived text x) (some-one b a m next e₁) (subst (λ ts. Derives ltlf 4 ts b) (sym q) (i .derives)))
+      (λ o e₁. let i = parse-sound (formulas-laws true) formulas-exact text _ 4 0 b m (omega arith) eb in
+      let h = parse-in (formulas-laws true) text _ 4 0 b m (omega arith) eb .high in
+      let q = i .spells ∙ ap (λ ts. i .us ++ ts) (tokens-end text m h (eqb-true _ _ o)) ∙ append-nil (i .us) in
+      subst (λ x. Derived text x) (some-one b a m next e₁) (subst (λ ts. Derives (formulas true) 4 ts b) (sym q) (i .derives)))
       (λ _ e₁. none-some a next e₁))
 
   pub found : (a : Tree) → Derived text a → (next : ℕ) × (parseFormula text ≡ some a next)
   unfolding parseFormula first
   found a d =
-      let f = complete ltlf-laws ltlf-exact text d 0 [] (omega arith) (omega arith) (sym (append-nil (tokens text 0))) (ltlf-exact .end-op) in
-      (f .next, bind-some _ _ a (f .next) (f .found) ∙ on-true _ _ _ (eq-eqb _ _ (sym (first-token text (f .next) (f .inside)) ∙ ap first (f .after))))
+      let f = complete (formulas-laws true) formulas-exact text d 0 [] (omega arith) (omega arith)
+      (sym (append-nil (tokens text 0))) (formulas-exact .end-op) in
+      let z = sym (first-token text (f .next) (f .inside)) ∙ ap first (f .after) in
+      (f .next, bind-some _ _ a (f .next) (f .found) ∙ on-true _ _ _ (eq-eqb _ _ z))
 
   pub one-reading : (a b : Tree) → Derived text a → Derived text b → a ≡ b
   one-reading a b p q = let x = found a p in let y = found b q in some-one a b (x .0) (y .0) (sym (x .1) ∙ y .1)

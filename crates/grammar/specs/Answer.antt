@@ -1,14 +1,15 @@
 -- What the functions that read a phrase answer.
 -- Assumes nothing.
 use mathlib.Core.Path.{_≡_}
-use Prim.Native.Nat.{ℕ, _+_, _≤_}
-use mathlib.Core.List.{List, _++_}
-use lib.ListN.{length, drop, replicate}
+use Prim.Native.Nat.{ℕ, _+_, _*_, _≤_}
+use mathlib.Core.List.{List}
+use lib.ListN.{length, replicate}
 use lib.Seq.{sets}
-use Rattle.grammar.specs.declared.lex.Token.{Token}
+use Rattle.syntax.specs.declared.lex.Token.{Token}
+use Rattle.syntax.specs.Tree.{size, cells}
 use Rattle.grammar.specs.declared.phrase.Read.{Read}
 use Rattle.grammar.specs.declared.phrase.Read.the-variants.{At, Bad}
-use Rattle.grammar.specs.Tree.{size, cells}
+use Rattle.grammar.specs.Limits.{textLimit}
 use Rattle.grammar.specs.Parse.{Res, none, some}
 
 -- the place behind the phrase and the count of parts after it
@@ -25,12 +26,14 @@ pub record Reads (val : Token → ℕ) (res : Res) (n : ℕ) (p q : List ℕ) (r
   pub is : r ≡ answer res n
   pub left : Left val res n p q
 
--- reading starts within the text, and no more cells are written than bytes read
+-- reading starts within a text that is not too long, and at most eight cells are written for each byte read
 pub record Room (text : List ℕ) (at n : ℕ) : Type 0 where
+  pub short : length text ≤ textLimit
   pub inside : at ≤ length text
-  pub behind : n ≤ at
+  pub behind : n ≤ 8 * at
 
--- the cells after a whole formula text was read: those of its parts, and the rest as they were; where the text is no formula, all are 0
+-- the cells after a whole formula text was read: those of its parts, as far as there is room, and the rest as they were; where the text is
+-- no formula, all are 0
 abbrev pub cellsAfter : (Token → ℕ) → Res → List ℕ → List ℕ
 cellsAfter val none p = replicate (length p) 0
-cellsAfter val (some a next) p = cells val a ++ drop (size a) p
+cellsAfter val (some a next) p = sets p 0 (cells val a)

@@ -3,43 +3,43 @@ ghost use mathlib.Core.Path.{_≡_};
 ghost use mathlib.Core.Bool.{cond};
 ghost use Prim.Native.Nat.{_≤_};
 ghost use lib.ListN.{length};
-ghost use Rattle.grammar.specs.Grammar.{ltlf, isOp, isPre, isLeaf, leftward};
-ghost use Rattle.grammar.specs.Parse.{parse, atom, parseFormula};
+ghost use Rattle.grammar.specs.Grammar.{isOp, isPre, isLeaf, leftward};
+ghost use Rattle.grammar.specs.Limits.{textLimit};
+ghost use Rattle.grammar.specs.Parse.{parse, atom};
+ghost use Rattle.grammar.specs.PlanParse.{reader, planAt, parseFormula};
 ghost use Rattle.grammar.specs.Names.{namesIn, Spans, leafValue};
 ghost use Rattle.grammar.specs.Answer.{answer, Reads, Room, cellsAfter};
-use crate::cells::ONE_SIDED;
-use crate::cells::put;
-use crate::cells::put_leaf;
-use crate::cells::put_two;
-use crate::lex::CLOSE;
-use crate::lex::END;
-use crate::lex::FALSE;
-use crate::lex::IMPLIES;
-use crate::lex::NAME;
-use crate::lex::OPEN;
-use crate::lex::TRUE;
-use crate::lex::token_at;
+use crate::heads::Head;
+use crate::heads::Place;
+use crate::heads::head_at;
+use crate::heads::second_at;
 use crate::names::leaf_value;
 use basics::clear_words;
+use syntax::ALWAYS;
+use syntax::AND;
+use syntax::CLOSE;
+use syntax::END;
+use syntax::EVENTUALLY;
+use syntax::FALSE;
+use syntax::IMPLIES;
+use syntax::NAME;
+use syntax::NEXT;
+use syntax::NOT;
+use syntax::ONE_SIDED;
+use syntax::OPEN;
+use syntax::OR;
+use syntax::RELEASE;
+use syntax::TRUE;
+use syntax::UNTIL;
+use syntax::WEAK_NEXT;
+use syntax::put;
+use syntax::put_leaf;
+use syntax::put_plan;
+use syntax::put_two;
+use syntax::token_at;
 
-// The operators' tokens, beside `->`.
-const UNTIL: u8 = 85;
-
-const RELEASE: u8 = 82;
-
-const AND: u8 = 38;
-
-const OR: u8 = 124;
-
-const NOT: u8 = 33;
-
-const NEXT: u8 = 88;
-
-const WEAK_NEXT: u8 = 78;
-
-const EVENTUALLY: u8 = 70;
-
-const ALWAYS: u8 = 71;
+// The most bytes of a text.
+pub const TEXT_LIMIT: usize = 240;
 
 // What reading a phrase gives: where it ends and how many parts are written then, or that there is none.
 pub enum Read {
@@ -47,11 +47,11 @@ pub enum Read {
     Bad,
 }
 
-// Whether an operator makes phrases of level l.
-fn is_op(l: usize, k: u8) -> bool
-    ensures { λ x. ⌜ x ≡ isOp l k ⌝ }
+// Whether an operator makes phrases of level l, with temporal operators or without.
+fn is_op(temporal: bool, l: usize, k: u8) -> bool
+    ensures { λ x. ⌜ x ≡ isOp temporal l k ⌝ }
 {
-    (((k == UNTIL) | (k == RELEASE)) & (l == 1))
+    (temporal & ((k == UNTIL) | (k == RELEASE)) & (l == 1))
         | ((k == AND) & (l == 2))
         | ((k == OR) & (l == 3))
         | ((k == IMPLIES) & (l == 4))
@@ -67,10 +67,10 @@ fn right_level(l: usize, r: usize) -> usize
     l
 }
 
-fn is_prefix(k: u8) -> bool
-    ensures { λ x. ⌜ x ≡ isPre k ⌝ }
+fn is_prefix(temporal: bool, k: u8) -> bool
+    ensures { λ x. ⌜ x ≡ isPre temporal k ⌝ }
 {
-    (k == NOT) | (k == NEXT) | (k == WEAK_NEXT) | (k == EVENTUALLY) | (k == ALWAYS)
+    (k == NOT) | (temporal & ((k == NEXT) | (k == WEAK_NEXT) | (k == EVENTUALLY) | (k == ALWAYS)))
 }
 
 fn is_leaf(k: u8) -> bool
@@ -79,8 +79,9 @@ fn is_leaf(k: u8) -> bool
     (k == NAME) | (k == TRUE) | (k == FALSE)
 }
 
-// A phrase of level l: one of the level below, and then the level's operators.
+// A phrase of level l, with temporal operators and plan words or without: one of the level below, and then the level's operators.
 fn read_level(
+    temporal: bool,
     l: usize,
     source: &[u8],
     spans: &[usize],
@@ -93,13 +94,13 @@ fn read_level(
     requires { ⌜ Spans (now source) (now spans) ⌝ }
     requires { ⌜ l ≤ 4 ⌝ }
     ensures { λ x. ⌜ Reads (leafValue (namesIn (now (source .entry)) (now (spans .entry))) (now (text .entry)))
-        (parse ltlf (now (text .entry)) l at) n (now (cells .entry)) (now (cells .exit)) x ⌝ }
+        (parse (reader temporal) (now (text .entry)) l at) n (now (cells .entry)) (now (cells .exit)) x ⌝ }
 {
     if l == 0 {
-        return read_unary(source, spans, text, at, n, cells);
+        return read_unary(temporal, source, spans, text, at, n, cells);
     }
     let r = l - 1;
-    let Read::At { next, count } = read_level(r, source, spans, text, at, n, cells) else {
+    let Read::At { next, count } = read_level(temporal, r, source, spans, text, at, n, cells) else {
         return Read::Bad;
     };
     let right = right_level(l, r);
@@ -109,13 +110,13 @@ fn read_level(
         let t = token_at(text, to);
         let k = t.kind;
         let after = t.next;
-        if !is_op(l, k) {
+        if !is_op(temporal, l, k) {
             return Read::At { next: to, count: c };
         }
         let Read::At {
             next: next2,
             count: count2,
-        } = read_level(right, source, spans, text, after, c, cells)
+        } = read_level(temporal, right, source, spans, text, after, c, cells)
         else {
             return Read::Bad;
         };
@@ -129,6 +130,7 @@ fn read_level(
 }
 
 fn read_unary(
+    temporal: bool,
     source: &[u8],
     spans: &[usize],
     text: &[u8],
@@ -139,15 +141,15 @@ fn read_unary(
     requires { ⌜ Room (now text) at n ⌝ }
     requires { ⌜ Spans (now source) (now spans) ⌝ }
     ensures { λ x. ⌜ Reads (leafValue (namesIn (now (source .entry)) (now (spans .entry))) (now (text .entry)))
-        (parse ltlf (now (text .entry)) 0 at) n (now (cells .entry)) (now (cells .exit)) x ⌝ }
+        (parse (reader temporal) (now (text .entry)) 0 at) n (now (cells .entry)) (now (cells .exit)) x ⌝ }
 {
     let t = token_at(text, at);
     let k = t.kind;
     let after = t.next;
-    if !is_prefix(k) {
-        return read_atom(source, spans, text, at, n, cells);
+    if !is_prefix(temporal, k) {
+        return read_atom(temporal, source, spans, text, at, n, cells);
     }
-    let Read::At { next, count } = read_unary(source, spans, text, after, n, cells) else {
+    let Read::At { next, count } = read_unary(temporal, source, spans, text, after, n, cells) else {
         return Read::Bad;
     };
     put(cells, count, k, ONE_SIDED);
@@ -158,6 +160,7 @@ fn read_unary(
 }
 
 fn read_atom(
+    temporal: bool,
     source: &[u8],
     spans: &[usize],
     text: &[u8],
@@ -168,7 +171,7 @@ fn read_atom(
     requires { ⌜ Room (now text) at n ⌝ }
     requires { ⌜ Spans (now source) (now spans) ⌝ }
     ensures { λ x. ⌜ Reads (leafValue (namesIn (now (source .entry)) (now (spans .entry))) (now (text .entry)))
-        (atom ltlf (now (text .entry)) at) n (now (cells .entry)) (now (cells .exit)) x ⌝ }
+        (atom (reader temporal) (now (text .entry)) at) n (now (cells .entry)) (now (cells .exit)) x ⌝ }
 {
     let t = token_at(text, at);
     let k = t.kind;
@@ -182,9 +185,13 @@ fn read_atom(
         };
     }
     if k != OPEN {
-        return Read::Bad;
+        if !temporal {
+            return Read::Bad;
+        }
+        return read_plan(source, spans, text, at, n, cells);
     }
-    let Read::At { next, count } = read_level(4, source, spans, text, after, n, cells) else {
+    let Read::At { next, count } = read_level(temporal, 4, source, spans, text, after, n, cells)
+    else {
         return Read::Bad;
     };
     let u = token_at(text, next);
@@ -196,15 +203,60 @@ fn read_atom(
     Read::At { next: end, count }
 }
 
-// A whole formula text: its parts' cells, one behind another. Where the text is no formula, all cells are cleared.
+// A plan word: its operands, which have no temporal operators and no plan words, are read to lists of their own.
+fn read_plan(
+    source: &[u8],
+    spans: &[usize],
+    text: &[u8],
+    at: usize,
+    n: usize,
+    cells: &mut [u32],
+) -> Read
+    requires { ⌜ Room (now text) at n ⌝ }
+    requires { ⌜ Spans (now source) (now spans) ⌝ }
+    ensures { λ x. ⌜ Reads (leafValue (namesIn (now (source .entry)) (now (spans .entry))) (now (text .entry)))
+        (planAt (now (text .entry)) at) n (now (cells .entry)) (now (cells .exit)) x ⌝ }
+{
+    let Head::At { word, operand } = head_at(text, at) else {
+        return Read::Bad;
+    };
+    let mut a = [0u32; TEXT_LIMIT];
+    let Read::At { next, count } = read_level(false, 4, source, spans, text, operand, 0, &mut a)
+    else {
+        return Read::Bad;
+    };
+    let Place::At { at: second } = second_at(word, text, operand, next) else {
+        return Read::Bad;
+    };
+    let mut b = [0u32; TEXT_LIMIT];
+    let Read::At {
+        next: next2,
+        count: count2,
+    } = read_level(false, 4, source, spans, text, second, 0, &mut b)
+    else {
+        return Read::Bad;
+    };
+    let u = token_at(text, next2);
+    let close = u.kind;
+    let end = u.next;
+    if close != CLOSE {
+        return Read::Bad;
+    }
+    Read::At {
+        next: end,
+        count: put_plan(word, &a[..count], &b[..count2], n, cells),
+    }
+}
+
+// A whole formula text: its parts' cells, one behind another, as far as there is room. Where the text is no formula, all cells are cleared.
 pub fn read_formula(source: &[u8], spans: &[usize], text: &[u8], cells: &mut [u32]) -> Read
     requires { ⌜ Spans (now source) (now spans) ⌝ }
-    requires { ⌜ length (now text) ≤ length (now cells) ⌝ }
+    requires { ⌜ length (now text) ≤ textLimit ⌝ }
     ensures { λ r. ⌜ r ≡ answer (parseFormula (now (text .entry))) 0 ⌝ }
     ensures { λ _. ⌜ now (cells .exit) ≡ cellsAfter (leafValue (namesIn (now (source .entry)) (now (spans .entry))) (now (text .entry)))
         (parseFormula (now (text .entry))) (now (cells .entry)) ⌝ }
 {
-    let Read::At { next, count } = read_level(4, source, spans, text, 0, 0, cells) else {
+    let Read::At { next, count } = read_level(true, 4, source, spans, text, 0, 0, cells) else {
         clear_words(cells);
         return Read::Bad;
     };

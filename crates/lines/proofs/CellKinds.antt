@@ -12,7 +12,7 @@ use Rattle.basics.specs.Bits.{digit}
 use Rattle.formula.specs.Parts.{byteOf, isTemporal, temporals, kindsOf}
 use Rattle.formula.specs.declared.parts.Part.{Part}
 use Rattle.formula.specs.Codes.{codesOf}
-use Rattle.grammar.specs.Cells.{codeAt, codesFrom, kindsIn}
+use Rattle.syntax.specs.Cells.{codeAt, codesFrom, kindsIn}
 use Rattle.formula.proofs.CodesLaws.{byte-small}
 
 low-code : (n c : ℕ) → codeAt n c % 256 ≡ c % 256

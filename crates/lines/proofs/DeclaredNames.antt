@@ -11,11 +11,12 @@ use lib.Dec.{eqb}
 use lib.ListN.{length, set}
 use Rattle.basics.specs.Limits.{indexLimit}
 use Rattle.basics.specs.Member.{_∈_}
-use Rattle.grammar.specs.declared.lex.Token.{Token}
+use Rattle.syntax.specs.declared.lex.Token.{Token}
 use Rattle.basics.specs.Bytes.{between, sameBytes}
-use Rattle.grammar.specs.Lex.{tokenAt, tokens, nameKind}
+use Rattle.syntax.specs.Kinds.{nameKind}
+use Rattle.syntax.specs.Lex.{tokenAt, tokens}
 use Rattle.grammar.specs.Names.{Name, bits, indexOf, namesIn, leafValue}
-use Rattle.grammar.proofs.Spelt.{tokens-end, tokens-more, falls}
+use Rattle.syntax.proofs.Spelt.{tokens-end, tokens-more, falls}
 use Rattle.lines.specs.Effect.{Signals, allDeclared}
 use Rattle.basics.proofs.BytesLaws.{same-bytes, same-refl}
 use Rattle.lines.proofs.SignalSpans.{length-names}

@@ -4,8 +4,9 @@ use mathlib.Core.Path.{_≡_, refl, subst}
 use mathlib.Core.Bool.{true, false, not}
 use mathlib.Core.List.{List}
 use Rattle.basics.proofs.Booleans.{cond-elim}
-use Rattle.grammar.specs.Lex.{tokens}
-use Rattle.grammar.specs.Parse.{Res, none, some, parseFormula}
+use Rattle.syntax.specs.Lex.{tokens}
+use Rattle.grammar.specs.Parse.{Res, none, some}
+use Rattle.grammar.specs.PlanParse.{parseFormula}
 use Rattle.grammar.specs.Names.{Name, leafValue}
 use Rattle.lines.specs.declared.problem.Kind.{Kind}
 use Rattle.lines.specs.declared.problem.Word.{Word}

@@ -12,3 +12,4 @@ pub mod SignalSpans
 pub mod MemoryLaws
 pub mod CellKinds
 pub mod TreeCodes
+pub mod PlanCounts

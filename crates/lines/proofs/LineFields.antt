@@ -9,8 +9,9 @@ use lib.ListN.{length, take, drop, length-drop}
 use lib.Seq.{length-take-le, take-add, drop-at, drop-drop}
 use Rattle.basics.proofs.Booleans.{cond-elim}
 use Rattle.basics.specs.Bytes.{notTab, past, between}
-use Rattle.grammar.specs.Lex.{tokens}
-use Rattle.grammar.specs.Parse.{Res, none, some, parseFormula}
+use Rattle.syntax.specs.Lex.{tokens}
+use Rattle.grammar.specs.Parse.{Res, none, some}
+use Rattle.grammar.specs.PlanParse.{parseFormula}
 use Rattle.grammar.specs.Names.{leafValue}
 use Rattle.basics.proofs.BytesLaws.{past-in}
 use Rattle.lines.specs.declared.refusal.Refusal.the-variants.{BadLine}

@@ -53,7 +53,7 @@ module _ (source spans : List ℕ) (ok : Spans source spans) (b start end : ℕ)
   more-other : (i : ℕ) → (i ≡ 2 * b → ⊥) → (i ≡ 2 * b + 1 → ⊥) → getD more i 0 ≡ getD spans i 0
   more-other i p q = getD-set-other (set spans (2 * b) start) (2 * b + 1) i end 0 q ∙ getD-set-other spans (2 * b) i start 0 p
 
-  pub names-more : namesIn source more ≡ set (namesIn source spans) b (between source start end)
+  names-more : namesIn source more ≡ set (namesIn source spans) b (between source start end)
   names-more =
       ext-getD [] (namesIn source more) (set (namesIn source spans) b (between source start end))
       (length-names source more ∙ sym (length-set (namesIn source spans) b (between source start end) ∙ length-names source spans))

@@ -7,12 +7,16 @@ use mathlib.Core.Option.{none, some}
 use mathlib.Core.List.{List, [], _∷_}
 use lib.Dec.{eqb, ltb}
 use lib.ListN.{set, replicate}
-use Rattle.grammar.specs.declared.lex.Token.{Token}
+use Rattle.syntax.specs.declared.lex.Token.{Token}
 use Rattle.basics.specs.Bytes.{between}
-use Rattle.grammar.specs.Lex.{tokens, nameKind}
-use Rattle.grammar.specs.Tree.{Tree, leaf, pre, bin}
-use Rattle.grammar.specs.Parse.{Res, parseFormula}
+use Rattle.syntax.specs.declared.plans.PlanWord.{PlanWord}
+use Rattle.syntax.specs.declared.plans.PlanWord.the-variants.{Once, Before, After, Within, During}
+use Rattle.syntax.specs.Kinds.{nameKind}
+use Rattle.syntax.specs.Lex.{tokens}
+use Rattle.syntax.specs.Tree.{Tree, leaf, pre, bin, plan}
+use Rattle.grammar.specs.Parse.{Res}
 use Rattle.grammar.specs.Parse as parse
+use Rattle.grammar.specs.PlanParse.{parseFormula}
 use Rattle.grammar.specs.Names.{Name, bits, indexOf, leafValue}
 use Rattle.lines.specs.declared.refusal.Refusal.{Refusal}
 use Rattle.lines.specs.declared.refusal.Refusal.the-variants.{BadLine, NameTwice, TooManySignals, BadFormula, UnknownName, TooManyParts}
@@ -24,6 +28,7 @@ use Rattle.basics.specs.Limits.{kindLimit, signalLimit, operatorLimit}
 use Rattle.formula.specs.Limits.{partLimit}
 use Rattle.formula.specs.Formula.{Formula, False, size, operators}
 use Rattle.formula.specs.Parts.{opOf, build}
+use Rattle.formula.specs.Constraints.{once, before, after, within, during}
 use Rattle.lines.specs.Lines.{hasTab, firstField, secondField, wordOf, isName, isText}
 
 -- ---- signals
@@ -67,11 +72,20 @@ isFull k g = eqb (count k g) kindLimit || eqb (g .outputs + g .observed + g .hid
 
 -- ---- formulas
 
+-- the formula that a plan word stands for; a word over one operand has it twice
+abbrev pub planFormula : PlanWord → Formula → Formula → Formula
+planFormula Once φ ψ = once φ
+planFormula Before φ ψ = before φ ψ
+planFormula After φ ψ = after φ ψ
+planFormula (Within steps) φ ψ = within steps φ ψ
+planFormula (During first last) φ ψ = during first last φ
+
 -- the formula of a tree; `val` gives the number of the signal that a name token names
 unfoldable pub formulaOf : (Token → ℕ) → Tree → Formula
 formulaOf val (leaf t) = build (opOf (t .kind)) (val t) False False
 formulaOf val (pre t a) = build (opOf (t .kind)) 0 (formulaOf val a) False
 formulaOf val (bin t a b) = build (opOf (t .kind)) 0 (formulaOf val a) (formulaOf val b)
+formulaOf val (plan w a b) = planFormula w (formulaOf val a) (formulaOf val b)
 
 -- every name among the tokens of a text is declared
 unfoldable pub allDeclared : Signals → List ℕ → List Token → Bool

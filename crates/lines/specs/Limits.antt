@@ -1,10 +1,6 @@
--- The limits of one line of a problem (REFERENCE.md, Limits).
+-- The limits of one line of a problem (REFERENCE.md, Limits); that of a formula's text stands in `grammar`.
 -- Assumes nothing.
 use Prim.Native.Nat.{ℕ}
-
--- bytes of a formula's text
-abbrev pub textLimit : ℕ
-textLimit = 240
 
 -- bytes of a name
 abbrev pub nameLimit : ℕ

@@ -1,7 +1,7 @@
 -- The lines of a problem's text (a sheet in the trade's words) and their two fields (REFERENCE.md, A problem).
 -- Assumes nothing.
 use Prim.Native.Nat.{ℕ, _+_}
-use mathlib.Core.Bool.{Bool, true, false, not, _&&_, _||_, cond}
+use mathlib.Core.Bool.{Bool, true, false, not, _&&_, cond}
 use mathlib.Core.List.{List, [], _∷_, _++_}
 use lib.Dec.{eqb, leb, ltb}
 use lib.ListN.{length, take, drop}
@@ -10,7 +10,9 @@ use Rattle.lines.specs.declared.problem.Kind.{Kind}
 use Rattle.lines.specs.declared.problem.Kind.the-variants.{Output, Observed, Hidden}
 use Rattle.lines.specs.declared.problem.Word.{Word}
 use Rattle.lines.specs.declared.problem.Word.the-variants.{Declare, Rule, Unknown}
-use Rattle.lines.specs.Limits.{nameLimit, textLimit}
+use Rattle.syntax.specs.Lex.{isReserved}
+use Rattle.grammar.specs.Limits.{textLimit}
+use Rattle.lines.specs.Limits.{nameLimit}
 
 -- the bytes of a line, and whether byte 10 ends it
 pub data SourceLine : Type 0 where
@@ -68,12 +70,11 @@ wordOf w =
 
 -- ---- the second field
 
--- a name: a lowercase letter, then lowercase letters, digits or `_`, not too many, and neither `true` nor `false`
+-- a name: a lowercase letter, then lowercase letters, digits or `_`, not too many, and no reserved word
 unfoldable pub isName : List ℕ → Bool
 isName [] = false
 isName (b ∷ s) =
-    lower b && (eqb (run wordByte s) (length s) && (leb (length (b ∷ s)) nameLimit
-    && not (sameBytes (b ∷ s) (bytesOf "true") || sameBytes (b ∷ s) (bytesOf "false"))))
+    lower b && (eqb (run wordByte s) (length s) && (leb (length (b ∷ s)) nameLimit && not (isReserved (b ∷ s))))
 
 -- a formula's text: some bytes, not too many, and no tab
 unfoldable pub isText : List ℕ → Bool

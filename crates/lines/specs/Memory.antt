@@ -22,7 +22,7 @@ use Rattle.formula.specs.Formula.{Formula, size, operators}
 use Rattle.formula.specs.Parts.{partsFrom, temporals}
 use Rattle.formula.specs.declared.parts.Part.{Part}
 use Rattle.formula.specs.Codes.{codesOf}
-use Rattle.grammar.specs.Cells.{codesFrom, kindsIn}
+use Rattle.syntax.specs.Cells.{codesFrom, kindsIn}
 use Rattle.lines.specs.Effect.{Signals, joint, exceeds, Effect, declares, states, refuses, firstBit, effectOf}
 
 -- the signals that are kept

@@ -2,14 +2,14 @@
 ghost use mathlib.Core.Path.{_≡_};
 ghost use Prim.Native.Nat.{_+_, _-_, _≤_, _<_};
 ghost use lib.ListN.{length};
-ghost use Rattle.grammar.specs.Lex.{tokens};
+ghost use Rattle.syntax.specs.Lex.{tokens};
 ghost use Rattle.grammar.specs.Names.{Spans};
 ghost use Rattle.basics.specs.Limits.{operatorLimit, indexLimit};
 ghost use Rattle.formula.specs.Limits.{partLimit};
 ghost use Rattle.formula.specs.Parts.{temporals};
 ghost use Rattle.lines.specs.Lines.{isText};
 ghost use Rattle.lines.specs.Effect.{joint, allDeclared, stateEffect};
-ghost use Rattle.grammar.specs.Cells.{kindsIn};
+ghost use Rattle.syntax.specs.Cells.{kindsIn};
 ghost use Rattle.lines.specs.Memory.{signalsIn, joinPart, storedFrom, readingAfter, partsAfter, cellsReading, cellsStored, Kept};
 use crate::problem::Reading;
 use crate::problem::Sizes;
@@ -19,17 +19,16 @@ use basics::OPERATOR_LIMIT;
 use basics::past;
 use formula::is_temporal;
 use grammar::BITS;
-use grammar::END;
-use grammar::NAME;
 use grammar::Read;
+use grammar::TEXT_LIMIT;
 use grammar::lookup;
-use grammar::put_codes;
 use grammar::read_formula;
-use grammar::token_at;
+use syntax::END;
+use syntax::NAME;
+use syntax::put_codes;
+use syntax::token_at;
 
-// The most bytes of a formula's text, and the most parts of a problem.
-const TEXT_LIMIT: usize = 240;
-
+// The most parts of a problem.
 pub const PART_LIMIT: usize = 96;
 
 // Whether a second field is a formula's text: some bytes, not too many, and no tab.
@@ -148,12 +147,15 @@ pub fn add_formula(
     if !is_text(text) {
         return Reading::Refused(Refusal::BadLine(line));
     }
-    let mut cells = [0u32; TEXT_LIMIT];
+    let mut cells = [0u32; PART_LIMIT];
     let Read::At { next: _, count } = read_formula(source, spans, text, &mut cells) else {
         return Reading::Refused(Refusal::BadFormula(line));
     };
     if !all_declared(source, spans, text, s) {
         return Reading::Refused(Refusal::UnknownName(line));
+    }
+    if PART_LIMIT < count {
+        return Reading::Refused(Refusal::TooManyParts(line));
     }
     add_cells(&cells[..count], line, s, parts)
 }

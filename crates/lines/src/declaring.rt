@@ -17,9 +17,9 @@ use basics::KIND_LIMIT;
 use basics::OBSERVED;
 use basics::SIGNAL_LIMIT;
 use grammar::BITS;
-use grammar::NAME;
 use grammar::lookup;
-use grammar::token_at;
+use syntax::NAME;
+use syntax::token_at;
 
 // The most bytes of a name.
 const NAME_LIMIT: usize = 12;

@@ -9,8 +9,9 @@ use lib.ListN.{length, length-set}
 use Rattle.basics.specs.Says.{Says}
 use Rattle.basics.proofs.SaysLaws.{says-false}
 use borrow.Author.Tests.{not-false, not-true}
-use Rattle.grammar.specs.Lex.{tokens}
-use Rattle.grammar.specs.Parse.{Res, none, some, parseFormula}
+use Rattle.syntax.specs.Lex.{tokens}
+use Rattle.grammar.specs.Parse.{Res, none, some}
+use Rattle.grammar.specs.PlanParse.{parseFormula}
 use Rattle.grammar.specs.Names.{Name, bits}
 use Rattle.formula.specs.Formula.{Formula}
 use Rattle.grammar.proofs.ReadIffDerived.{sound, found, refused-iff}

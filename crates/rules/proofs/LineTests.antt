@@ -13,8 +13,9 @@ use Rattle.basics.specs.Member.{_∈_}
 use Rattle.basics.specs.Says.{Says}
 use Rattle.basics.proofs.Booleans.{or-left, or-right, or-false}
 use Rattle.basics.proofs.SaysLaws.{says-and, says-implies}
-use Rattle.grammar.specs.declared.lex.Token.{Token}
-use Rattle.grammar.specs.Lex.{nameKind, tokens}
+use Rattle.syntax.specs.declared.lex.Token.{Token}
+use Rattle.syntax.specs.Kinds.{nameKind}
+use Rattle.syntax.specs.Lex.{tokens}
 use Rattle.grammar.specs.Names.{Name, bits, indexOf}
 use Rattle.formula.specs.Limits.{partLimit}
 use Rattle.formula.specs.Formula.{Formula, size, operators}

@@ -6,9 +6,13 @@ use mathlib.Core.Bool.{true}
 use mathlib.Core.List.{List}
 use lib.ListN.{length, replicate}
 use Rattle.grammar.specs.Names.{Name, indexOf}
-use Rattle.formula.specs.Formula.{Formula}
+use Rattle.formula.specs.Formula.{Formula, size, operators}
 use Rattle.formula.specs.Letter.{Counts, IsLetter, isLetter}
+use Rattle.syntax.specs.declared.plans.PlanWord.{PlanWord}
+use Rattle.syntax.specs.declared.plans.PlanWord.the-variants as plan
+use Rattle.syntax.specs.Plans.{InRange, planSize, planOperators}
 use Rattle.formula.specs.Semantics.{Trace, Sat, holds}
+use Rattle.formula.specs.Meanings.{AtMostOnce, SometimeBefore, SometimeAfter, AlwaysWithin, HoldDuring, TrueAt}
 use Rattle.formula.specs.Parts.{lastOf}
 use Rattle.formula.specs.Values.{valueOn}
 use Rattle.basics.specs.Limits.{kindLimit}
@@ -17,7 +21,7 @@ use Rattle.lines.specs.declared.refusal.Refusal.the-variants.{BadTrace}
 use Rattle.lines.specs.declared.problem.Kind.{Kind}
 use Rattle.lines.specs.Limits.{nameLimit}
 use Rattle.lines.specs.Refusal.{numberOf, placeOf, Told}
-use Rattle.lines.specs.Effect.{Signals, count, firstBit, withSignal}
+use Rattle.lines.specs.Effect.{Signals, count, firstBit, withSignal, planFormula}
 use Rattle.rules.specs.declared.judging.Verdict.the-variants.{True, False, Refused}
 use Rattle.rules.specs.Limits.{workSize}
 use Rattle.rules.specs.Problem.{Draft, Problem, formulaIn, problemParts, accepted, refused, blank, readProblem}
@@ -29,7 +33,9 @@ use Rattle.rules.specs.Trace.{RightLength, IsTrace, FirstBad}
 use Rattle.rules.specs.Reading.{readingOf, toldReading, ReadAs}
 use Rattle.rules.specs.Judge.{judged, workAfter, toldVerdict, JudgedAs}
 use Rattle.formula.proofs.Agreement
+use Rattle.formula.proofs.ConstraintsLaws
 use Rattle.formula.proofs.LetterLaws
+use Rattle.lines.proofs.PlanCounts
 use Rattle.rules.proofs.SatisfiesLaws
 use Rattle.rules.proofs.ProblemLaws
 use Rattle.rules.proofs.DenotesLaws
@@ -111,6 +117,35 @@ work-kept = JudgeLaws.work-kept
 
 pub work-cleared : (w : List ℕ) → workSize ≤ length w → workAfter w ≡ replicate (length w) 0
 work-cleared = JudgeLaws.work-cleared
+
+-- ---- plan words
+
+-- each stands for a formula that is true at a step exactly where PDDL 3.0 says so of the steps from it on, and for `during` where the request's
+-- window does; a word over one operand does not look at the second
+module _ (π : Trace) (i : ℕ) (φ ψ : Formula) where
+  pub at-most-once : Sat π i (planFormula plan.Once φ ψ) ↔ AtMostOnce π i (TrueAt π φ)
+  at-most-once = ConstraintsLaws.once-says π i φ
+
+  pub sometime-before : Sat π i (planFormula plan.Before φ ψ) ↔ SometimeBefore π i (TrueAt π φ) (TrueAt π ψ)
+  sometime-before = ConstraintsLaws.before-says π i φ ψ
+
+  pub sometime-after : Sat π i (planFormula plan.After φ ψ) ↔ SometimeAfter π i (TrueAt π φ) (TrueAt π ψ)
+  sometime-after = ConstraintsLaws.after-says π i φ ψ
+
+  pub always-within : (steps : ℕ) → Sat π i (planFormula (plan.Within steps) φ ψ) ↔ AlwaysWithin π i (TrueAt π φ) (TrueAt π ψ) steps
+  always-within = ConstraintsLaws.within-says π i φ ψ
+
+  pub hold-during : (first last : ℕ) → InRange (plan.During first last) → i < length π
+      → Sat π i (planFormula (plan.During first last) φ ψ) ↔ HoldDuring π i (TrueAt π φ) first last
+  hold-during first last n h = ConstraintsLaws.during-says π i φ first last h (n .0) (n .1)
+
+-- and counts as its formula does: so many parts, and so many temporal operators where its operands have none
+module _ (w : PlanWord) (φ ψ : Formula) where
+  pub plan-parts : size (planFormula w φ ψ) ≡ planSize w (size φ) (size ψ)
+  plan-parts = PlanCounts.plan-parts w φ ψ
+
+  pub plan-operators : InRange w → operators φ ≡ 0 → operators ψ ≡ 0 → operators (planFormula w φ ψ) ≡ planOperators w
+  plan-operators = PlanCounts.plan-operators w φ ψ
 
 -- ---- what is executed
 

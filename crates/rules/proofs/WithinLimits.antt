@@ -24,7 +24,7 @@ use Rattle.rules.specs.Within.{Few, Within}
 use Rattle.rules.specs.Within.{Named}
 use Rattle.rules.specs.Denotes.{IsDeclared, Reads, declared, stated, Make, done, next}
 use Rattle.formula.proofs.CodesLaws.{Held, Coded, held-binary}
-use Rattle.lines.proofs.TreeCodes.{coded-formula}
+use Rattle.lines.proofs.TreeCodes.{derived-stands}
 use Rattle.lines.proofs.LinesLaws.{name-short}
 use Rattle.lines.proofs.DeclaredNames.{index-new, leaf-values}
 use Rattle.rules.proofs.JoinedFormulas.{joined-more, joined-some}
@@ -106,7 +106,8 @@ reads-small {d} s (stated text a is derives known fits) =
       named = s .named;
       coded =
           subst CodedIn (sym (joined-more (d .lines) _))
-          (coded-joined (joinedLines (d .lines)) _ (s .coded) (coded-formula (leaf-values (d .signals .names) _ (s .named .all)) derives));
+          (coded-joined (joinedLines (d .lines)) _ (s .coded)
+          (derived-stands (leaf-values (d .signals .names) _ (s .named .all)) _ derives .coded));
       parts = fits .0;
       operators = fits .1;
     }

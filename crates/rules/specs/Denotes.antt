@@ -9,9 +9,10 @@ use lib.ListN.{length}
 use Rattle.basics.specs.Bytes.{between}
 use Rattle.basics.specs.Limits.{operatorLimit}
 use Rattle.basics.specs.Member.{_∈_}
-use Rattle.grammar.specs.declared.lex.Token.{Token}
-use Rattle.grammar.specs.Lex.{nameKind, tokens}
-use Rattle.grammar.specs.Tree.{Tree}
+use Rattle.syntax.specs.declared.lex.Token.{Token}
+use Rattle.syntax.specs.Kinds.{nameKind}
+use Rattle.syntax.specs.Lex.{tokens}
+use Rattle.syntax.specs.Tree.{Tree}
 use Rattle.grammar.specs.Grammar.{Derived}
 use Rattle.grammar.specs.Names.{Name, leafValue}
 use Rattle.lines.specs.declared.problem.Kind.{Kind}

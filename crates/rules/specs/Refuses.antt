@@ -6,7 +6,7 @@ use mathlib.Core.Path.{_≡_}
 use mathlib.Core.Bool.{true}
 use mathlib.Core.List.{List, [], _∷_}
 use lib.ListN.{length}
-use Rattle.grammar.specs.Tree.{Tree}
+use Rattle.syntax.specs.Tree.{Tree}
 use Rattle.grammar.specs.Grammar.{Derived}
 use Rattle.grammar.specs.Names.{Name}
 use Rattle.lines.specs.declared.problem.Kind.{Kind}

@@ -16,8 +16,8 @@ A problem is lines of two fields parted by ONE TAB, each ended by a line feed:
   see   NAME       a signal that it reads
   hid   NAME       a signal that it never sees
   rule  FORMULA    what the run must satisfy; rules are joined by \"and\"
-A name is a lowercase letter and up to 11 more, digits or _; not true or false.
-A formula uses names declared above it. Operators, loosest first:
+A name is a lowercase letter and up to 11 more, digits or _; not true, false or
+a plan word. A formula uses names declared above it. Operators, loosest first:
   p -> q           implies; groups to the right
   p | q            or; to the left
   p & q            and; to the left
@@ -25,7 +25,12 @@ A formula uses names declared above it. Operators, loosest first:
   !p               not; the prefixes bind tightest: !p U q is (!p) U q
   X p, N p         at the next step; at the last step X p is false, N p true
   F p, G p         at some step from here; at all of them
-  true, false, NAME, (p)
+  true, false, NAME, (p), and the plan words, whose a and b have none of XNFGUR:
+  once(a)          a is true in one stretch of steps at most
+  before(a,b)      where a is, b was at an earlier step
+  after(a,b)       where a is, b is then or later
+  within(n,a,b)    where a is, b is then or up to n steps later; n is 0 to 5
+  during(m,n,a)    a at steps m to n from here on, if there; 1 <= m <= n <= 7
 
 In each step the controller first sets its signals, and then reads. The answer
 is a table, its fields parted by tabs: here for out a, see s, rule s -> X a.
@@ -43,9 +48,11 @@ Or the answer is one line: refused, a number, and the line it is about, or 0:
       a line feed. Often a space for the tab, or a carriage return (CRLF)
    3  the name is declared already
    4  the fifth signal of its kind, or the tenth
-   5  the formula breaks the grammar. Often && for &, || for |, or CRLF
+   5  the formula breaks the grammar. Often && for &, || for |, or CRLF, or
+      one of XNFGUR or a plan word inside a plan word
    6  the formula has a name that is not declared above
-   7  the 97th name, constant, operator or joining \"and\", or the 8th of XNFGUR
+   7  the 97th name, constant, operator or joining \"and\", or the 8th of XNFGUR;
+      once has 3 of these, before 1, after 2, within n + 1, during n - 1
    8  no rule
    9  over 128 states
   10  over 256 beliefs

@@ -7,112 +7,113 @@ use mathlib.Core.Bool.{Bool, true, false, not, cond}
 use mathlib.Core.List.{List, _++_, map-append}
 use borrow.Author.Tests.{lt-ltb, le-ltb}
 use lib.ListN.{length, take}
-use lib.Seq.{sets, take-at}
-use Rattle.grammar.specs.declared.lex.Token.{Token}
+use lib.Seq.{sets}
+use Rattle.syntax.specs.declared.lex.Token.{Token}
 use Rattle.grammar.specs.declared.phrase.Read.{Read}
 use Rattle.grammar.specs.declared.phrase.Read.the-variants.{At, Bad}
-use Rattle.grammar.specs.Lex.{tokens}
-use Rattle.grammar.specs.Tree.{Tree, cells}
-use Rattle.grammar.specs.Tree as tree
-use Rattle.grammar.specs.Parse.{Res, none, some, parseFormula}
+use Rattle.syntax.specs.Lex.{tokens}
+use Rattle.syntax.specs.Tree.{Tree, cells}
+use Rattle.syntax.specs.Tree as trees
+use Rattle.grammar.specs.Parse.{Res, none, some}
+use Rattle.grammar.specs.PlanParse.{parseFormula}
 use Rattle.grammar.specs.Names.{namesIn, leafValue}
 use Rattle.grammar.specs.Answer.{answer, cellsAfter}
-use Rattle.grammar.proofs.ParseCases.{none-some, on-elim, bind-elim}
-use Rattle.grammar.proofs.ReadsInside.{some-one}
-use Rattle.grammar.proofs.ParseLaws.{parse-inside}
-use Rattle.grammar.proofs.GrammarLaws.{ltlf-laws}
 use Rattle.grammar.proofs.ReadIffDerived.{sound}
-use Rattle.grammar.proofs.TreeLaws.{length-cells}
+use Rattle.syntax.proofs.TreeLaws.{length-cells, stored-taken}
 use Rattle.lines.specs.declared.refusal.Refusal.{Refusal}
 use Rattle.lines.specs.declared.refusal.Refusal.the-variants.{BadLine, BadFormula, UnknownName, TooManyParts}
 use Rattle.lines.specs.declared.problem.Sizes.{Sizes}
 use Rattle.lines.specs.declared.problem.Reading.{Reading}
 use Rattle.lines.specs.declared.problem.Reading.the-variants.{Accepted, Refused}
-use Rattle.basics.specs.Limits.{operatorLimit}
+use Rattle.basics.specs.Limits.{operatorLimit, indexLimit}
 use Rattle.formula.specs.Limits.{partLimit}
 use Rattle.formula.specs.Formula.{Formula, size, operators}
 use Rattle.formula.specs.Parts.{temporals, partsFrom}
 use Rattle.formula.specs.Codes.{codeOf, codesOf}
 use Rattle.lines.specs.Lines.{isText}
 use Rattle.lines.specs.Effect.{Signals, formulaOf, allDeclared, joint, isLarge, Effect, states, refuses, stateEffect}
-use Rattle.grammar.specs.Cells.{codesFrom, kindsIn}
+use Rattle.syntax.specs.Cells.{codesFrom, kindsIn}
 use Rattle.lines.specs.Memory.{joinPart, storedFrom, moreParts, readingAfter, partsAfter, cellsReading, cellsStored}
 use Rattle.basics.proofs.Stores.{sets-append}
-use Rattle.grammar.proofs.CellsLaws.{length-codes}
-use Rattle.lines.proofs.TreeCodes.{size-formula, codes-formula, operators-formula}
+use Rattle.syntax.proofs.CellsLaws.{length-codes}
+use Rattle.lines.proofs.TreeCodes.{Stands, derived-stands, operators-standing}
 use Rattle.lines.proofs.SignalSpans.{length-names}
 use Rattle.lines.proofs.DeclaredNames.{leaf-values}
-use Rattle.lines.proofs.adding.TextTest.{text-short}
 
 -- ---- what a text is read as
 
--- a formula has at most as many parts as its text has bytes
-size-in : (text : List ℕ) (a : Tree) (next : ℕ) → parseFormula text ≡ some a next → tree.size a ≤ length text
-unfolding parseFormula
-size-in text a next e =
-    bind-elim _ _ _ _ e (λ b m eb es.
-    on-elim _ _ _ _ es
-    (λ _ e₁. let i = parse-inside ltlf-laws text 0 (omega arith) 4 b m eb in
-    subst (λ x. tree.size x ≤ length text) (some-one b a m next e₁) (omega (arith, i .low, i .high)))
-    (λ _ e₁. none-some a next e₁))
-
 module _ (source spans text : List ℕ) where
-  abbrev pub formulaIn : Tree → Formula
-  formulaIn a = formulaOf (leafValue (namesIn source spans) text) a
+  abbrev values : Token → ℕ
+  values = leafValue (namesIn source spans) text
 
-  -- the text is a formula, whose cells are these
+  abbrev pub formulaIn : Tree → Formula
+  formulaIn a = formulaOf values a
+
+  -- the text is a formula of so many parts
+  pub record Parsed (count : ℕ) : Type 0 where
+    pub tree : Tree
+    pub next : ℕ
+    pub is : parseFormula text ≡ some tree next
+    pub counted : count ≡ trees.size tree
+
+  -- and these are its cells
   pub record Formed (cs : List ℕ) : Type 0 where
     pub tree : Tree
     pub next : ℕ
     pub is : parseFormula text ≡ some tree next
     pub sized : length cs ≡ size (formulaIn tree)
-    pub few : length cs ≤ length text
     pub counted : temporals (kindsIn cs) ≡ operators (formulaIn tree)
     pub codes : (n : ℕ) → codesFrom n cs ≡ codesOf (partsFrom (formulaIn tree) n)
 
-  module _ (t : isText text ≡ true) where
-    formed-tree : (a : Tree) (next : ℕ) → parseFormula text ≡ some a next → Formed (cells (leafValue (namesIn source spans) text) a)
-    formed-tree a next e =
-        let val = leafValue (namesIn source spans) text in
-        let v = leaf-values (namesIn source spans) text (length-names source spans) in
-        let d = sound text a next e in
-        let n = length-cells val a in
-        let i = size-in text a next e in
-        let h = text-short text t in
-        record {
-          tree = a;
-          next = next;
-          is = e;
-          sized = n ∙ sym (size-formula val d);
-          few = omega arith;
-          counted = operators-formula v d (omega arith);
-          codes = codes-formula v d (omega arith);
-        }
+  module _ {r : Read} (e : r ≡ answer (parseFormula text) 0) where
+    pub not-parsed : r ≡ Bad → parseFormula text ≡ none
+    not-parsed h = go (parseFormula text) (sym e ∙ h)
+      where
+        go : (res : Res) → answer res 0 ≡ Bad → res ≡ none
+        go none i = refl
+        go (some a next) i = let z : _≡_ {A = ℕ} 0 1 = cc in absurd (omega arith)
 
-    module _ {r : Read} (e : r ≡ answer (parseFormula text) 0) where
-      pub not-formed : r ≡ Bad → parseFormula text ≡ none
-      not-formed h = go (parseFormula text) (sym e ∙ h)
-        where
-          go : (res : Res) → answer res 0 ≡ Bad → res ≡ none
-          go none i = refl
-          go (some a next) i = let z : _≡_ {A = ℕ} 0 1 = cc in absurd (omega arith)
+    pub parsed : {next count : ℕ} → r ≡ At next count → Parsed count
+    parsed {next} {count} h = go (parseFormula text) refl (sym e ∙ h)
+      where
+        go : (res : Res) → parseFormula text ≡ res → answer res 0 ≡ At next count → Parsed count
+        go none i a = let z : _≡_ {A = ℕ} 0 1 = cc in absurd (omega arith)
+        go (some b m) i a = let c : 0 + trees.size b ≡ count = cc in record { tree = b; next = m; is = i; counted = omega arith }
 
-      -- the cells that were written to the front of a list
-      pub formed : (p : List ℕ) {q : List ℕ} → q ≡ cellsAfter (leafValue (namesIn source spans) text) (parseFormula text) p
-          → {next count : ℕ} → r ≡ At next count → Formed (take count q) × (length (take count q) ≡ count)
-      formed p {q} l {next} {count} h = go (parseFormula text) refl (sym e ∙ h) l
-        where
-          val : Token → ℕ
-          val = leafValue (namesIn source spans) text
+  module _ {count : ℕ} (f : Parsed count) where
+    stands : Stands (cells values (f .tree)) (formulaIn (f .tree))
+    stands =
+        derived-stands (leaf-values (namesIn source spans) text (length-names source spans)) text (sound text (f .tree) (f .next) (f .is))
 
-          go : (res : Res) → parseFormula text ≡ res → answer res 0 ≡ At next count → q ≡ cellsAfter val res p
-              → Formed (take count q) × (length (take count q) ≡ count)
-          go none i a l = let z : _≡_ {A = ℕ} 0 1 = cc in absurd (omega arith)
-          go (some b m) i a l =
-              let c : 0 + tree.size b ≡ count = cc in
-              let n : length (cells val b) ≡ count = omega (arith, length-cells val b) in
-              let f : take count q ≡ cells val b = ap (λ x. take count x) l ∙ take-at (cells val b) _ count n in
-              (subst Formed (sym f) (formed-tree b m i), ap length f ∙ n)
+    cells-count : length (cells values (f .tree)) ≡ count
+    cells-count = length-cells values (f .tree) ∙ sym (f .counted)
+
+    pub size-count : size (formulaIn (f .tree)) ≡ count
+    size-count = sym (stands .sized) ∙ cells-count
+
+    -- the cells that were written to a list that has room for them
+    module _ (p : List ℕ) {q : List ℕ} (l : q ≡ cellsAfter values (parseFormula text) p) (h : count ≤ length p)
+        (few : count ≤ partLimit) where
+      taken : take count q ≡ cells values (f .tree)
+      taken =
+          ap₂ take (f .counted) (l ∙ ap (λ res. cellsAfter values res p) (f .is))
+          ∙ stored-taken values (f .tree) p (omega (arith, f .counted, h))
+
+      pub taken-count : length (take count q) ≡ count
+      taken-count = ap length taken ∙ cells-count
+
+      pub formed : Formed (take count q)
+      formed =
+          let few′ : size (formulaIn (f .tree)) ≤ indexLimit = omega (arith, size-count, few) in
+          subst Formed (sym taken)
+          (record {
+            tree = f .tree;
+            next = f .next;
+            is = f .is;
+            sized = stands .sized;
+            counted = operators-standing stands few′;
+            codes = stands .codes few′;
+          })
 
 -- ---- what the line's effect is
 
@@ -134,6 +135,12 @@ module _ (line : ℕ) (text : List ℕ) (g : Signals) (n m : ℕ) where
       unfolding stateEffect
       unknown-name d = rw (t, e, d)
 
+      -- more parts than any problem may have
+      pub too-many : allDeclared g text (tokens text 0) ≡ true → partLimit < size φ
+          → stateEffect line text g n m ≡ refuses (TooManyParts line)
+      unfolding stateEffect
+      too-many d h = rw (t, e, d, lt-ltb partLimit (n + size φ + joint n) (omega arith))
+
       pub read-effect : allDeclared g text (tokens text 0) ≡ true
           → stateEffect line text g n m ≡ cond (isLarge n m φ) (refuses (TooManyParts line)) (states φ)
       unfolding stateEffect
@@ -153,7 +160,8 @@ abbrev pub Left : List ℕ → ℕ → Sizes → List ℕ → List ℕ → Readi
 Left cs line s p q r = (r ≡ cellsReading cs line s) × (q ≡ cellsStored cs s p)
 
 -- with the cells there are `count` parts, and `all` with the one that joins them
-module _ (cs : List ℕ) (line : ℕ) (s : Sizes) (p : List ℕ) (count all : ℕ) (c : count ≡ s .parts + length cs) (j : all ≡ count + joint (s .parts)) where
+module _ (cs : List ℕ) (line : ℕ) (s : Sizes) (p : List ℕ) (count all : ℕ) (c : count ≡ s .parts + length cs)
+    (j : all ≡ count + joint (s .parts)) where
   all-is : all ≡ s .parts + length cs + joint (s .parts)
   all-is = j ∙ ap (λ k. k + joint (s .parts)) c
 
@@ -166,7 +174,13 @@ module _ (cs : List ℕ) (line : ℕ) (s : Sizes) (p : List ℕ) (count all : �
 
     pub few-operators : s .operators + o ≤ operatorLimit → (q r : List ℕ) → q ≡ sets p (s .parts) (codesFrom (s .parts) cs)
         → r ≡ storedFrom (joinPart (s .parts) (count - s .parts)) count q
-        → Left cs line s p r (Accepted (record { outputs = s .outputs; observed = s .observed; hidden = s .hidden; parts = all; operators = s .operators + o }))
+        → Left cs line s p r (Accepted (record {
+          outputs = s .outputs;
+          observed = s .observed;
+          hidden = s .hidden;
+          parts = all;
+          operators = s .operators + o;
+        }))
     few-operators u q r i l =
         let k : count - s .parts ≡ length cs = omega arith in
         let joined : r ≡ sets p (s .parts) (codesFrom (s .parts) cs ++ codesOf (joinPart (s .parts) (length cs))) =
@@ -190,5 +204,6 @@ module _ {source spans text cs : List ℕ} (f : Formed source spans text cs) (li
   by-fit true = (refl, refl)
   by-fit false = (refl, ap (sets p (s .parts)) (sym (map-append codeOf (partsFrom stated (s .parts)) (joinPart (s .parts) (size stated)))))
 
-  pub left-answers : (x : Effect) → x ≡ byFit (isLarge (s .parts) (s .operators) stated) → {q : List ℕ} {r : Reading} → Left cs line s p q r → Answers x s p q r
+  pub left-answers : (x : Effect) → x ≡ byFit (isLarge (s .parts) (s .operators) stated) → {q : List ℕ} {r : Reading}
+      → Left cs line s p q r → Answers x s p q r
   left-answers x e l = rw (e, l .0, l .1, f .sized, f .counted, f .codes (s .parts)) (by-fit (isLarge (s .parts) (s .operators) stated))

@@ -11,7 +11,7 @@ use lib.Dec.{eqb, leb, ltb}
 use lib.ListN.{length}
 use Rattle.basics.specs.Bytes.{notTab, past}
 use Rattle.grammar.proofs.ParseCases.{false-true}
-use Rattle.lines.specs.Limits.{textLimit}
+use Rattle.grammar.specs.Limits.{textLimit}
 use Rattle.lines.specs.Lines.{tabPlace, isText}
 
 module _ (s : List ℕ) where

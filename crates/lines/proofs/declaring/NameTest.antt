@@ -3,34 +3,25 @@ use Prim.Native.Nat.{ℕ, suc, _-_}
 use native.Mathlib.Omega.{arith}
 use mathlib.Core.Path.{_≡_, refl, sym, ap, _∙_}
 use mathlib.Core.Logic.{_⊎_, inl, inr}
-use mathlib.Core.Bool.{Bool, true, false, not, _&&_, _||_, cond}
+use mathlib.Core.Bool.{Bool, true, false, not, _&&_}
 use mathlib.Core.List.{List, [], _∷_}
 use borrow.Author.Tests.{eq-eqb, ne-eqb, eqb-true, eqb-false, leb-true}
 use lib.Dec.{eqb, leb, ltb}
 use lib.ListN.{length, take, getD}
 use lib.Seq.{take-length}
-use Rattle.basics.specs.Bytes.{lower, wordByte, isSpace, run, past, between, bytesOf, sameBytes}
+use Rattle.basics.specs.Bytes.{lower, wordByte, isSpace, run, past, between}
 use Rattle.basics.proofs.BytesLaws.{past-stop, past-more}
-use Rattle.grammar.proofs.LexLaws.{tok-word, token-from, name-letter}
+use Rattle.syntax.proofs.LexLaws.{tok-word, token-from, name-letter, reserved-kind}
 use Rattle.basics.proofs.Booleans.{test, clash, and-left, and-right}
-use Rattle.grammar.specs.declared.lex.Token.{Token}
-use Rattle.grammar.specs.Lex.{tokenFrom, tokenAt, nameKind, trueKind, falseKind, wordKind}
+use Rattle.syntax.specs.declared.lex.Token.{Token}
+use Rattle.syntax.specs.Kinds.{nameKind}
+use Rattle.syntax.specs.Lex.{tokenFrom, tokenAt, isReserved, wordKind}
 use Rattle.lines.specs.Limits.{nameLimit}
 use Rattle.lines.specs.Lines.{isName}
 
 -- one token of the kind of names and nothing else, not too long
 isToken : List ℕ → Bool
 isToken s = eqb (tokenAt s 0 .kind) nameKind && (eqb (tokenAt s 0 .from) 0 && (eqb (tokenAt s 0 .next) (length s) && leb (length s) nameLimit))
-
--- the kind of a word
-word-kind : (w : List ℕ) → eqb (wordKind w) nameKind ≡ not (sameBytes w (bytesOf "true") || sameBytes w (bytesOf "false"))
-unfolding wordKind
-word-kind w = go (sameBytes w (bytesOf "true")) (sameBytes w (bytesOf "false"))
-  where
-    go : (x y : Bool) → eqb (cond x trueKind (cond y falseKind nameKind)) nameKind ≡ not (x || y)
-    go true y = refl
-    go false true = refl
-    go false false = refl
 
 -- the two orders of the tests
 swap : (x l : Bool) → (x && (true && (true && l))) ≡ (true && (true && (l && x)))
@@ -65,7 +56,7 @@ module _ (b : ℕ) (s : List ℕ) where
   isWord = eqb (wordKind (between (b ∷ s) 0 (suc r))) nameKind
 
   abbrev isOther : Bool
-  isOther = not (sameBytes (b ∷ s) (bytesOf "true") || sameBytes (b ∷ s) (bytesOf "false"))
+  isOther = not (isReserved (b ∷ s))
 
   whole : r ≡ length s → between (b ∷ s) 0 (suc r) ≡ b ∷ s
   whole e = let z : suc r - 0 ≡ length (b ∷ s) = omega arith in ap (λ n. take n (b ∷ s)) z ∙ take-length (b ∷ s)
@@ -79,7 +70,7 @@ module _ (b : ℕ) (s : List ℕ) where
           ≡ (true && (eqb r (length s) && (leb (suc (length s)) nameLimit && isOther)))
       by-end (inl e) =
           let q = eqb-true r (length s) e in
-          rw (whole q, word-kind (b ∷ s), e, eq-eqb (suc r) (suc (length s)) (ap suc q)) (swap isOther (leb (suc (length s)) nameLimit))
+          rw (whole q, reserved-kind (b ∷ s), e, eq-eqb (suc r) (suc (length s)) (ap suc q)) (swap isOther (leb (suc (length s)) nameLimit))
       by-end (inr e) =
           let n = ne-eqb (suc r) (suc (length s)) (λ q. eqb-false r (length s) e (omega arith)) in rw (e, n) (fails isWord)
 

@@ -5,10 +5,10 @@ use Rattle.compare.proofs.summary.write.Statement.{statement}
 use Rattle.compare.proofs.summary.write.Tie as tie
 
 abbrev Inv-loop : tie.InvT-loop
-Inv-loop counts k₀ t3 k = k ≤ 17
+Inv-loop counts k₀ t3 k = k ≤ 18
 
 abbrev μ-loop : tie.MeasureT-loop
-μ-loop counts k₀ t3 k = 17 - k
+μ-loop counts k₀ t3 k = 18 - k
 
 loop-holds : tie.Need-loop-holds Inv-loop μ-loop
 loop-holds c = search needs

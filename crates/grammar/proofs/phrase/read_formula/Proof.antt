@@ -23,7 +23,7 @@ returns c =
     let at-cleared = c .before .before in
     let at-told = at-cleared .before .before in
     let at-read = at-told .before .before .before .before in
-    formula-bad _ (at-read .read-level .ensures) (at-told .enum-told .given .1) (at-read .read-level .kept .1 .1 .1 .1 .1 .1 .0)
+    formula-bad _ (at-read .read-level .ensures) (at-told .enum-told .given .1) (at-read .read-level .kept .1 .1 .1 .1 .1 .1 .1 .0)
     (at-cleared .clear-words .ensures)
 
 token-at-requires : tie.Need-token-at-requires
@@ -43,7 +43,7 @@ returns-2 c =
     let at-next = at-token .before .before in
     let at-read = at-next .before .before .before .before in
     formula-more _ (at-read .read-level .ensures) (at-next .next .given .1) _ (at-token .token-at .ensures) (at-if .if1 .taken)
-    (at-read .read-level .kept .1 .1 .1 .1 .1 .1 .0) (at-cleared .clear-words2 .ensures)
+    (at-read .read-level .kept .1 .1 .1 .1 .1 .1 .1 .0) (at-cleared .clear-words2 .ensures)
 
 same-length-3 : tie.Need-same-length-3
 same-length-3 c = search needs
@@ -53,8 +53,7 @@ returns-3 c =
     let at-token = c .before in
     let at-next = at-token .before .before in
     let at-read = at-next .before .before .before .before in
-    let start = at-read .before .before .before .before .before .before in
-    formula-done _ (at-read .read-level .ensures) (at-next .next .given .1) _ (at-token .token-at .ensures) (c .if1 .left) (start .pre .1)
+    formula-done _ (at-read .read-level .ensures) (at-next .next .given .1) _ (at-token .token-at .ensures) (c .if1 .left)
 
 pub read-formula-spec : {M : Type 1} → statement M
 read-formula-spec =

@@ -4,7 +4,8 @@ use borrow.Author.Needs.{needs}
 use native.Mathlib.Omega.{arith}
 use mathlib.Core.Path.{sym, _∙_}
 use borrow.Author.Tests.{not-true, not-false}
-use Rattle.lines.proofs.adding.AddFormula.{formed, not-formed, bad-line, bad-formula, unknown-name, read-effect, refused, left-answers}
+use Rattle.lines.proofs.adding.AddFormula.{not-parsed, parsed, size-count, formed, taken-count}
+use Rattle.lines.proofs.adding.AddFormula.{bad-line, bad-formula, unknown-name, too-many, read-effect, refused, left-answers}
 use Rattle.lines.proofs.adding.TextTest.{text-short}
 use Rattle.lines.proofs.adding.add_formula.Statement.{statement}
 use Rattle.lines.proofs.adding.add_formula.Tie as tie
@@ -38,7 +39,7 @@ returns-2 c =
     let t = sym (at-is-text .is-text .ensures) ∙ not-false _ (at-read-formula .before .before .if1 .left) in
     let a = start .args in
     refused _ _ _ _ (bad-formula _ _ _ _ _ t
-    (not-formed (a .source .now) (a .spans .now) _ t (at-read-formula .read-formula .ensures .0) (c .enum-told .given .1)))
+    (not-parsed (a .source .now) (a .spans .now) _ (at-read-formula .read-formula .ensures .0) (c .enum-told .given .1)))
 
 all-declared-requires : tie.Need-all-declared-requires
 all-declared-requires c κs = search needs
@@ -48,58 +49,71 @@ returns-3 c =
     let at-count = c .before .before .before in
     let at-read-formula = at-count .before .before .before in
     let at-is-text = at-read-formula .before .before .before in
+    let start = at-is-text .before .before .before .before .before in
     let t = sym (at-is-text .is-text .ensures) ∙ not-false _ (at-read-formula .before .before .if1 .left) in
     let read = at-read-formula .read-formula .ensures in
-    let f = formed _ _ _ t (read .0) _ (read .1) (at-count .count .given .1) .0 in
+    let f = parsed (start .args .source .now) (start .args .spans .now) _ (read .0) (at-count .count .given .1) in
     refused _ _ _ _ (unknown-name _ _ _ _ _ t (f .tree) (f .next) (f .is) (sym (c .before .all-declared .ensures) ∙ not-true _ (c .if2 .taken)))
 
-array-share-prefix-cells : tie.Need-array-share-prefix-cells
-array-share-prefix-cells c =
-    let at-count = c .before .before .before in
-    let at-read-formula = at-count .before .before .before in
-    let at-is-text = at-read-formula .before .before .before in
-    let t = sym (at-is-text .is-text .ensures) ∙ not-false _ (at-read-formula .before .before .if1 .left) in
-    let short = text-short _ t in
-    let read = at-read-formula .read-formula .ensures in
-    let f = formed _ _ _ t (read .0) _ (read .1) (at-count .count .given .1) in
-    omega (arith, f .1, f .0 .few)
-
-slice-aggregate-add-cells : tie.Need-slice-aggregate-add-cells
-slice-aggregate-add-cells c =
-    let at-count = c .before .before .before .before in
-    let at-read-formula = at-count .before .before .before in
-    let at-is-text = at-read-formula .before .before .before in
-    let t = sym (at-is-text .is-text .ensures) ∙ not-false _ (at-read-formula .before .before .if1 .left) in
-    let read = at-read-formula .read-formula .ensures in
-    sym (formed _ _ _ t (read .0) _ (read .1) (at-count .count .given .1) .1)
-
-add-cells-requires : tie.Need-add-cells-requires
-add-cells-requires c κs =
-    let at-count = c .before .before .before .before .before in
+returns-4 : tie.Need-returns-4
+returns-4 c =
+    let at-if2 = c .before in
+    let at-count = at-if2 .before .before .before in
     let at-read-formula = at-count .before .before .before in
     let at-is-text = at-read-formula .before .before .before in
     let start = at-is-text .before .before .before .before .before in
     let t = sym (at-is-text .is-text .ensures) ∙ not-false _ (at-read-formula .before .before .if1 .left) in
-    let short = text-short _ t in
+    let d = sym (at-if2 .before .all-declared .ensures) ∙ not-false _ (at-if2 .if2 .left) in
     let read = at-read-formula .read-formula .ensures in
-    let f = formed _ _ _ t (read .0) _ (read .1) (at-count .count .given .1) .0 in
-    let kept = start .pre in
-    (omega (arith, f .few), (kept .parts-few, kept .operators-few, kept .parts-long))
+    let f = parsed (start .args .source .now) (start .args .spans .now) _ (read .0) (at-count .count .given .1) in
+    refused _ _ _ _ (too-many _ _ _ _ _ t (f .tree) (f .next) (f .is) d
+    (omega (arith, c .if3 .taken, size-count (start .args .source .now) (start .args .spans .now) _ f)))
+
+array-share-prefix-cells : tie.Need-array-share-prefix-cells
+array-share-prefix-cells c = search needs
+
+slice-aggregate-add-cells : tie.Need-slice-aggregate-add-cells
+slice-aggregate-add-cells c =
+    let at-if3 = c .before in
+    let at-count = at-if3 .before .before .before .before in
+    let at-read-formula = at-count .before .before .before in
+    let at-is-text = at-read-formula .before .before .before in
+    let start = at-is-text .before .before .before .before .before in
+    let read = at-read-formula .read-formula .ensures in
+    let f = parsed (start .args .source .now) (start .args .spans .now) _ (read .0) (at-count .count .given .1) in
+    sym (taken-count _ _ _ f _ (read .1) (at-if3 .if3 .left) (at-if3 .if3 .left))
+
+add-cells-requires : tie.Need-add-cells-requires
+add-cells-requires c κs =
+    let at-if3 = c .before .before in
+    let at-count = at-if3 .before .before .before .before in
+    let at-read-formula = at-count .before .before .before in
+    let at-is-text = at-read-formula .before .before .before in
+    let start = at-is-text .before .before .before .before .before in
+    let read = at-read-formula .read-formula .ensures in
+    let f = parsed (start .args .source .now) (start .args .spans .now) _ (read .0) (at-count .count .given .1) in
+    let kept = start .pre in (
+      omega (arith, at-if3 .if3 .left, taken-count _ _ _ f _ (read .1) (at-if3 .if3 .left) (at-if3 .if3 .left)),
+      (kept .parts-few, kept .operators-few, kept .parts-long),
+    )
 
 same-length : tie.Need-same-length
 same-length c = search needs
 
-returns-4 : tie.Need-returns-4
-returns-4 c =
-    let at-if2 = c .before .before .before .before .before in
+returns-5 : tie.Need-returns-5
+returns-5 c =
+    let at-if3 = c .before .before .before .before .before in
+    let at-if2 = at-if3 .before in
     let at-count = at-if2 .before .before .before in
     let at-read-formula = at-count .before .before .before in
     let at-is-text = at-read-formula .before .before .before in
+    let start = at-is-text .before .before .before .before .before in
     let t = sym (at-is-text .is-text .ensures) ∙ not-false _ (at-read-formula .before .before .if1 .left) in
     let read = at-read-formula .read-formula .ensures in
-    let f = formed _ _ _ t (read .0) _ (read .1) (at-count .count .given .1) .0 in
+    let f = parsed (start .args .source .now) (start .args .spans .now) _ (read .0) (at-count .count .given .1) in
+    let g = formed _ _ _ f _ (read .1) (at-if3 .if3 .left) (at-if3 .if3 .left) in
     let d = sym (at-if2 .before .all-declared .ensures) ∙ not-false _ (at-if2 .if2 .left) in
-    left-answers f _ _ _ _ (read-effect _ _ _ _ _ t (f .tree) (f .next) (f .is) d) (c .before .before .add-cells .ensures)
+    left-answers g _ _ _ _ (read-effect _ _ _ _ _ t (g .tree) (g .next) (g .is) d) (c .before .before .add-cells .ensures)
 
 pub add-formula-spec : {M : Type 1} → statement M
 add-formula-spec =
@@ -114,8 +128,9 @@ add-formula-spec =
     returns-2
     all-declared-requires
     returns-3
+    returns-4
     array-share-prefix-cells
     slice-aggregate-add-cells
     add-cells-requires
     same-length
-    returns-4)
+    returns-5)

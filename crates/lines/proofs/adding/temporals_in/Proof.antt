@@ -7,7 +7,7 @@ use mathlib.Core.Path.{_≡_}
 use mathlib.Core.Logic.{⊎-elim}
 use lib.ListN.{length, drop}
 use Rattle.formula.specs.Parts.{temporals}
-use Rattle.grammar.specs.Cells.{kindsIn}
+use Rattle.syntax.specs.Cells.{kindsIn}
 use Rattle.lines.proofs.CellKinds.{temporals-hit, temporals-miss, temporals-end}
 use Rattle.lines.proofs.adding.temporals_in.Statement.{statement}
 use Rattle.lines.proofs.adding.temporals_in.Tie as tie

@@ -1,0 +1,2 @@
+-- What the proofs of `syntax::words` use.
+pub mod Wrote
