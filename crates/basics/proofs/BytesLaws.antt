@@ -61,11 +61,11 @@ module _ (p : ℕ → Bool) where
       go true h = omega arith
       go false h = omega arith
 
-  run-true : (b : ℕ) (s : List ℕ) → p b ≡ true → run p (b ∷ s) ≡ suc (run p s)
+  pub run-true : (b : ℕ) (s : List ℕ) → p b ≡ true → run p (b ∷ s) ≡ suc (run p s)
   unfolding run
   run-true b s h = rw (h, run)
 
-  run-false : (b : ℕ) (s : List ℕ) → p b ≡ false → run p (b ∷ s) ≡ 0
+  pub run-false : (b : ℕ) (s : List ℕ) → p b ≡ false → run p (b ∷ s) ≡ 0
   unfolding run
   run-false b s h = rw (h, run)
 

@@ -21,4 +21,6 @@ pub mod BreadthFirst
 pub mod FirstMet
 -- bytes and text
 pub mod BytesLaws
+pub mod PiecesLaws
+pub mod NumbersLaws
 pub mod TextLaws

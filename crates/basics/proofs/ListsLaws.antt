@@ -5,7 +5,7 @@ use native.Mathlib.Nat.{not-suc-le-zero, le-of-suc-le-suc, zero-add}
 use mathlib.Core.Path.{_≡_, refl, sym, ap, _∙_, ap₂, subst}
 use mathlib.Core.List.{List, [], _∷_, _++_, map, List·Memᴰ·head, List·Memᴰ·tail}
 use lib.ListN.{length, getD, take, drop, replicate, length-map, length-replicate, List·getD-append, length-append}
-use lib.Seq.{getD-append-add, getD-drop, drop-append-seam}
+use lib.Seq.{getD-append-add, getD-drop, drop-append-seam, take-at}
 use Rattle.basics.specs.Lists.{tabulate, below, padded, written}
 use native.Mathlib.Omega.{arith}
 use Rattle.basics.specs.Member.{_∈_}
@@ -120,3 +120,14 @@ past-end n l i h =
 -- behind what is written all is as it was
 pub written-rest : {A : Type 0} (front l : List A) (n : ℕ) → length front ≡ n → drop n (written front l) ≡ drop n l
 written-rest front l n e = subst (λ k. drop k (written front l) ≡ drop k l) e (drop-append-seam front (drop (length front) l))
+
+-- and what is written stands at the front
+module _ (front l after : List ℕ) (n : ℕ) (long : n ≡ length front) (is : after ≡ written front l) where
+  pub front-in : n ≤ length after
+  front-in = omega (arith, ap length is, length-append front (drop (length front) l))
+
+  pub front-taken : take n after ≡ front
+  front-taken = ap₂ take long is ∙ take-at front (drop (length front) l) (length front) refl
+
+  pub taken-length : n ≡ length (take n after)
+  taken-length = long ∙ sym (ap length front-taken)

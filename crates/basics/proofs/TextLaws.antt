@@ -4,7 +4,7 @@ use Prim.Native.Nat.{ℕ, zero, suc, _+_, _/_, _%_, _^_, _≤_, _<_, _*_}
 use native.Mathlib.Nat.{not-suc-le-zero, pow-suc, suc-mul}
 use native.Mathlib.Decide.{decLt}
 use native.Mathlib.Omega.{arith}
-use mathlib.Core.Path.{_≡_, refl, ap, sym, _∙_}
+use mathlib.Core.Path.{_≡_, refl, ap, ap₂, sym, _∙_}
 use mathlib.Core.List.{List, [], _∷_, _++_, flatMap, append-assoc, append-nil}
 use lib.ListN.{length, length-append}
 use borrow.Author.Tests.{lt-ltb, le-ltb}
@@ -87,6 +87,13 @@ module _ {A : Type 0} (g : A → List ℕ) where
         flat-length n w f (λ i l. h i (omega arith)),
         h n (omega arith),
       )
+
+-- things that are the same one by one
+pub flat-ext : {A : Type 0} (g h : A → List ℕ) (n : ℕ) (f : ℕ → A) → ((i : ℕ) → i < n → g (f i) ≡ h (f i))
+    → flatMap g (tabulate n f) ≡ flatMap h (tabulate n f)
+unfolding flatMap
+flat-ext g h zero f e = refl
+flat-ext g h (suc n) f e = ap₂ (λ a b. a ++ b) (e 0 (omega arith)) (flat-ext g h n (λ i. f (suc i)) (λ i l. e (suc i) (omega arith)))
 
 pub line-parts : (word d : List ℕ) (fs : List (List ℕ)) → line word (d ∷ fs) ≡ word ++ (field d ++ (flatMap field fs ++ (10 ∷ [])))
 unfolding flatMap

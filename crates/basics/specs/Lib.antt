@@ -13,4 +13,6 @@ pub mod Reach
 pub mod Successors
 -- bytes, numbers and lines of text
 pub mod Bytes
+pub mod Pieces
+pub mod Numbers
 pub mod Text

@@ -2,6 +2,8 @@
 // bytes, lent memory, and numbers and lines of text, as code too. Every function here is proved, and the crate assumes nothing.
 mod bytes;
 mod memory;
+mod numbers;
+mod pieces;
 mod sizes;
 mod text;
 
@@ -11,6 +13,12 @@ pub use bytes::past;
 pub use bytes::same;
 pub use memory::clear;
 pub use memory::clear_words;
+pub use numbers::Number;
+pub use numbers::number_below;
+pub use numbers::number_in;
+pub use pieces::behind;
+pub use pieces::field;
+pub use pieces::piece;
 pub use sizes::HIDDEN;
 pub use sizes::INDEX_LIMIT;
 pub use sizes::KIND_LIMIT;

@@ -1,33 +1,25 @@
 -- A table laid out as the solver lays it passes the tests of printer and cabinet. It may stand at the front of more cells.
 -- Assumes nothing.
-use Prim.Native.Nat.{ℕ, _+_, _*_, _^_, _≤_, _<_}
+use Prim.Native.Nat.{ℕ, _*_, _^_, _≤_, _<_}
 use native.Mathlib.Nat.{not-suc-le-zero}
 use native.Mathlib.Omega.{arith}
-use mathlib.Core.Path.{_≡_, sym, ap, _∙_, subst}
+use mathlib.Core.Path.{_≡_, sym, _∙_, subst}
 use mathlib.Core.Logic.{inl, inr}
 use mathlib.Core.Bool.{true, false, _||_}
 use mathlib.Core.List.{List}
 use lib.Dec.{eqb, ltb}
 use lib.ListN.{length, take, length-take}
-use lib.Seq.{getD-take}
 use borrow.Author.Tests.{lt-ltb, ltb-false, le-leb, eqb-true, eq-eqb}
 use Rattle.basics.specs.Limits.{kindLimit}
 use Rattle.play.specs.Limits.{beliefLimit, sideLimit}
-use Rattle.play.specs.Cells.{choiceAt, nextAt, rowSize, stopCell, cell, firstCell, isStop, nextCell}
+use Rattle.play.specs.Cells.{rowSize, stopCell, firstCell, isStop, nextCell}
+use Rattle.play.proofs.CellsLaws.{first-taken, next-taken, stop-taken}
 use Rattle.tables.specs.declared.shape.Shape.{Shape}
 use Rattle.play.specs.Table.{LaidRow, Laid}
 use Rattle.basics.proofs.BoundedLaws.{all-of}
 use Rattle.basics.proofs.Booleans.{test, clash, and-true, or-intro-left, or-intro-right}
 use Rattle.printer.specs.WellFormed.{isSized, isAnswer, isNext, nextCount, isRow, isBlank, isPrintableRow, isPrintable}
 use Rattle.printer.proofs.WellFormedLaws.{side-le}
-
--- cells of the rows in use are those of the front
-module _ (n : ℕ) (t : List ℕ) (i : ℕ) (h : i < n) where
-  pub cell-taken : (j : ℕ) → j < rowSize → cell (take (n * rowSize) t) i j ≡ cell t i j
-  cell-taken j b = getD-take (n * rowSize) t (i * rowSize + j) 0 (omega arith)
-
-  pub stop-taken : isStop (take (n * rowSize) t) i ≡ isStop t i
-  stop-taken = ap (λ c. eqb c stopCell) (cell-taken choiceAt (omega arith))
 
 module _ (choices : ℕ) (shape : Shape) (t : List ℕ) (few-choices : choices ≤ sideLimit) (few-observed : shape .observed ≤ kindLimit)
     (some : 0 < shape .rows) (within : shape .rows ≤ beliefLimit)
@@ -45,12 +37,12 @@ module _ (choices : ℕ) (shape : Shape) (t : List ℕ) (few-choices : choices �
   row-laid : (i : ℕ) → i < n → LaidRow choices (2 ^ observed) n t i
   row-laid i h =
       elim (laid .row i h) [
-        | inl (s, z) ↦ inl (sym (stop-taken n t i h) ∙ s, λ k b. sym (cell-taken n t i h (nextAt k) (omega arith)) ∙ z k b)
+        | inl (s, z) ↦ inl (sym (stop-taken n t i h) ∙ s, λ k b. sym (next-taken n t i h k b) ∙ z k b)
         | inr (c, m, z) ↦
             inr (
-              subst (λ k. k < choices) (cell-taken n t i h choiceAt (omega arith)) c,
-              λ k b. subst (λ k. k < n) (cell-taken n t i h (nextAt k) (omega (arith, side-le observed few-observed))) (m k b),
-              λ k o b. sym (cell-taken n t i h (nextAt k) (omega arith)) ∙ z k o b,
+              subst (λ k. k < choices) (first-taken n t i h) c,
+              λ k b. subst (λ k. k < n) (next-taken n t i h k (omega (arith, b, side-le observed few-observed))) (m k b),
+              λ k o b. sym (next-taken n t i h k b) ∙ z k o b,
             )
       ]
 

@@ -3,9 +3,10 @@ pub mod PrintLaws
 pub mod PositionLaws
 pub mod AnswersDue
 pub mod ResponseLaws
--- a table that the solver gives, printed and run
+-- a table that the solver gives, printed and run; tables carried as text
 pub mod LaidRows
 pub mod RunningLaws
 pub mod SolvedTable
+pub mod CarriedTable
 -- the front page
 pub mod Main

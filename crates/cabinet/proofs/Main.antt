@@ -7,23 +7,26 @@ use lib.ListN.{length, take, drop, replicate}
 use Rattle.lines.specs.Refusal.{Told, values, refused}
 use Rattle.rules.specs.Denotes.{Denotes}
 use Rattle.rules.specs.Problem.{Problem}
-use Rattle.play.specs.Cells.{rowSize}
+use Rattle.play.specs.Cells.{rowSize, tableSize}
 use Rattle.tables.specs.declared.shape.Shape.{Shape}
 use Rattle.play.specs.Game.{Play}
 use Rattle.play.specs.Table.{tableStrategy}
 use Rattle.game.specs.Solution.{gameOf}
 use Rattle.game.specs.SolvedAs.{tableAfter, Short, SolvedAs}
+use Rattle.loader.specs.declared.loading.Loaded.the-variants.{Table}
+use Rattle.loader.specs.LoadedAs.{loadedBy, cellsBy, tableAfter as loadedTable, toldShape}
 use Rattle.cabinet.specs.declared.position.Position.{Position}
 use Rattle.cabinet.specs.declared.printing.Printed.the-variants.{Text}
 use Rattle.printer.specs.Limits.{textSize}
 use Rattle.printer.specs.Text.{tableText}
-use Rattle.cabinet.specs.Position.{startOf, stepOf, toldAnswer, StartedAs, SteppedAs}
-use Rattle.cabinet.specs.Print.{printedBy, bytesBy, textAfter, toldPrinted, PrintedAs}
+use Rattle.cabinet.specs.Position.{startOf, stepOf, toldAnswer, StartedAs, Holds, SteppedAs}
+use Rattle.cabinet.specs.Print.{printedBy, bytesBy, textAfter, toldPrinted, IsPrinted, PrintedAs}
 use Rattle.cabinet.specs.Response.{respondedBy, bytesFor, responseAfter, respondedTable, respondedWork, RespondedAs}
-use Rattle.cabinet.specs.Running.{answerTo, Runs}
+use Rattle.cabinet.specs.Running.{stepAll, answerTo, Runs}
 use Rattle.cabinet.proofs.ResponseLaws
 use Rattle.cabinet.proofs.AnswersDue
 use Rattle.cabinet.proofs.SolvedTable
+use Rattle.cabinet.proofs.CarriedTable
 
 -- ---- DEMAND 1 at the desk: for all lent memory the answers, in the reference's terms, and what is written to the text or the position are
 -- exactly those that are due, by the cases of `RespondedAs`, `PrintedAs`, `StartedAs` and `SteppedAs`
@@ -76,6 +79,30 @@ pub stepping : (t : List ℕ) (shape : Shape) (observation : ℕ) (old : Positio
     ↔ SteppedAs t shape observation old a p
 stepping = AnswersDue.step-iff
 
+-- ---- printing and loading undo each other (`loader/proofs/Main` has what is loaded from any text)
+
+-- a text is accepted exactly where printing some table gives it
+pub accepted : (s : List ℕ) (cells : ℕ) → tableSize ≤ cells → ((shape : Shape) × (worst : ℕ) × (loadedBy cells s ≡ Table shape worst)) ↔ IsPrinted s
+accepted = CarriedTable.accepted-iff
+
+-- printing what was loaded gives the text again
+pub print-loaded : (s t : List ℕ) (shape : Shape) (worst : ℕ) → loadedBy (length t) s ≡ Table shape worst → (room : ℕ) → textSize ≤ room
+    → (printedBy (loadedTable s t) shape worst room ≡ Text (length s)) × (bytesBy (loadedTable s t) shape worst room ≡ s)
+print-loaded = CarriedTable.print-loaded
+
+-- a cabinet that runs what was loaded never meets number 13: started at any old position and stepped with any observations, it stands on a row,
+-- so that the next step is 14, 15 or a move (`stepping`)
+pub loaded-holds : (s t : List ℕ) (shape : Shape) (worst : ℕ) → loadedBy (length t) s ≡ Table shape worst → (old : Position) (h : List ℕ)
+    → Holds (loadedTable s t) shape (stepAll (loadedTable s t) shape (startOf (loadedTable s t) shape old) h .position)
+loaded-holds = CarriedTable.loaded-holds
+
+-- loading what was printed gives the used rows again, and their shape: a table whose rows all stop does not show how many signals are observed,
+-- and is loaded with none
+pub load-printed : (t : List ℕ) (shape : Shape) (worst room n : ℕ) → printedBy t shape worst room ≡ Text n → (cells : ℕ) → tableSize ≤ cells
+    → (loadedBy cells (bytesBy t shape worst room) ≡ Table (toldShape t shape) worst)
+    × (cellsBy cells (bytesBy t shape worst room) ≡ take (shape .rows * rowSize) t)
+load-printed = CarriedTable.load-printed
+
 -- ---- DEMAND 3 carried to the desk
 
 -- of a table that the solver gives (`SolvedAs` is what its contract says of it), for the problem p that the text denotes
@@ -92,3 +119,12 @@ module _ (work room : ℕ) (source : List ℕ) (shape : Shape) (r : ℕ) (table 
   pub printed : (text : ℕ) → textSize ≤ text
       → (printedBy table shape r text ≡ Text (length (tableText table shape r))) × (bytesBy table shape r text ≡ tableText table shape r)
   printed = SolvedTable.printed work room source shape r table due p denotes
+
+  -- carried on a card, its text loaded into any table of enough cells, the running cabinet has the same promise
+  module _ (t : List ℕ) (enough : tableSize ≤ length t) where
+    pub carried : loadedBy (length t) (tableText table shape r) ≡ Table shape r
+    carried = CarriedTable.carried work room source shape r table due p denotes t enough
+
+    pub carried-running : (old : Position) (play : Play (gameOf p))
+        → Runs (gameOf p) (tableStrategy (take (shape .rows * rowSize) table)) r (answerTo (loadedTable (tableText table shape r) t) shape old) play
+    carried-running = CarriedTable.carried-running work room source shape r table due p denotes t enough

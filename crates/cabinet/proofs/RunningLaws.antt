@@ -12,7 +12,8 @@ use Rattle.basics.specs.Limits.{kindLimit}
 use Rattle.rules.specs.Problem.{Problem}
 use Rattle.rules.specs.Within.{Few}
 use Rattle.play.specs.Limits.{beliefLimit, sideLimit}
-use Rattle.play.specs.Cells.{choiceAt, nextAt, rowSize, firstCell, isStop, nextCell}
+use Rattle.play.specs.Cells.{rowSize, firstCell, isStop, nextCell}
+use Rattle.play.proofs.CellsLaws.{first-taken, next-taken, stop-taken}
 use Rattle.tables.specs.declared.shape.Shape.{Shape}
 use Rattle.play.specs.Game.{Game, set, Play, seen, Decision, choose, stop, GoesOn, choiceOf, Optimal}
 use Rattle.play.specs.Table.{readFrom, tableStrategy, Laid}
@@ -26,7 +27,7 @@ use Rattle.cabinet.specs.declared.position.Moved.{Moved}
 use Rattle.cabinet.specs.Position.{moveTo, isStanding, startOf, stepOf}
 use Rattle.cabinet.specs.Running.{stepAll, answerTo, Runs}
 use Rattle.printer.proofs.WellFormedLaws.{side-le}
-use Rattle.cabinet.proofs.LaidRows.{cell-taken, stop-taken, sized, goes-on, row-passes}
+use Rattle.cabinet.proofs.LaidRows.{sized, goes-on, row-passes}
 
 -- the answer that tells a decision
 abbrev said : Decision set → Answer
@@ -85,7 +86,7 @@ module _ (p : Problem) (few : Few (p .signals)) (shape : Shape) (declared : shap
       → stepAll t shape (moveTo t i) (seen play m) .answer ≡ said (readFrom T i (seen play m))
   follows zero play i h g =
       let same = stop-taken n t i h in
-      let cells = cell-taken n t i h choiceAt (omega arith) in
+      let cells = first-taken n t i h in
       elim (test (isStop t i)) [
         | inl e ↦ rw (e, same ∙ e, readFrom)
         | inr f ↦ rw (f, same ∙ f, readFrom, cells)
@@ -97,7 +98,7 @@ module _ (p : Problem) (few : Few (p .signals)) (shape : Shape) (declared : shap
         | inl e ↦ let (c, q) = g 0 (suc-le-suc zero-le) in absurd (stop-no-choice c (rw (same ∙ e, readFrom) at q))
         | inr f ↦
             let next = goes-on (G .choices) shape t few-choices few-observed some within laid-shape i h f s (seen-below play) in
-            let cells = cell-taken n t i h (nextAt s) (omega (arith, side-le observed few-observed, seen-below play)) in
+            let cells = next-taken n t i h s (omega (arith, side-le observed few-observed, seen-below play)) in
             let on : (k : List ℕ) → readFrom T i (s ∷ k) ≡ readFrom T (nextCell t i s) k = λ k. rw (same ∙ f, readFrom, cells) in
             ap (λ (a : Moved). stepAll t shape a (seen (rest play) m) .answer) (step-moves i s h f (seen-below play))
             ∙ follows m (rest play) (nextCell t i s) next (λ j b. let (c, q) = g (suc j) (suc-le-suc b) in (c, sym (on (seen (rest play) j)) ∙ q))

@@ -48,7 +48,7 @@ module _ (work room : ℕ) (source : List ℕ) (shape : Shape) (r : ℕ) (table 
   declared : shape .observed ≡ p .signals .observed
   declared = told .0
 
-  solves : Solves beliefLimit (gameOf p) (shape .rows) r (take (shape .rows * rowSize) table)
+  pub solves : Solves beliefLimit (gameOf p) (shape .rows) r (take (shape .rows * rowSize) table)
   solves = told .1 .solves
 
   few : Few (p .signals)

@@ -1,6 +1,7 @@
 -- What the printing call answers, what it leaves in the lent text, and what is due.
 -- Assumes nothing.
 use Prim.Native.Nat.{ℕ, _≤_, _<_}
+use mathlib.Core.Path.{_≡_}
 use mathlib.Core.Bool.{cond}
 use mathlib.Core.List.{List, [], _∷_}
 use lib.Dec.{ltb}
@@ -27,6 +28,11 @@ bytesBy t shape worst room = cond (ltb room textSize) [] (cond (isPrintable t sh
 
 abbrev pub textAfter : List ℕ → Shape → ℕ → List ℕ → List ℕ
 textAfter t shape worst text = written (bytesBy t shape worst (length text)) text
+
+-- a text that printing some table gives
+abbrev pub IsPrinted : List ℕ → Type 0
+IsPrinted s =
+    (t : List ℕ) × (shape : Shape) × (worst : ℕ) × (room : ℕ) × (printedBy t shape worst room ≡ Text (length s)) × (bytesBy t shape worst room ≡ s)
 
 -- ---- what is due
 

@@ -1,5 +1,6 @@
 // What a call answers, written as fields behind the case's name.
 use cabinet::Answer;
+use cabinet::Loaded;
 use cabinet::Moved;
 use cabinet::Printed;
 use game::Solved;
@@ -54,6 +55,31 @@ pub(crate) fn solved(s: Solved) {
     match s {
         Solved::Table { shape, worst_case } => tell_two(b"\ttable\t", shape.rows, worst_case),
         Solved::Refused(r) => refused(r),
+    }
+}
+
+// Rows, worst case and observed signals.
+pub(crate) fn loaded(l: Loaded) {
+    match l {
+        Loaded::Table { shape, worst_case } => {
+            tell_two(b"\ttable\t", shape.rows, worst_case);
+            tell(b"\t", shape.observed);
+        }
+        Loaded::Refused(r) => refused(r),
+    }
+}
+
+// The place of a bad text.
+pub(crate) fn fault(l: Loaded) {
+    match l {
+        Loaded::Refused(r) => match r {
+            Refusal::BadText(place) => tell(b"\t", place),
+            _ => wrong(),
+        },
+        Loaded::Table {
+            shape: _,
+            worst_case: _,
+        } => wrong(),
     }
 }
 

@@ -1,52 +1,29 @@
 // The calls, on memory that holds ones before and is looked at afterwards.
-ghost use mathlib.Core.Path.{_≡_};
-ghost use lib.ListN.{length};
 use crate::answer::moved;
 use crate::answer::printed;
 use crate::answer::solved;
 use crate::answer::verdict;
 use crate::answer::wrong;
+use crate::cards::card;
+use crate::cards::fill;
+use crate::cards::load;
+use crate::cards::prefixes;
 use crate::line::argument;
 use crate::line::read_numbers;
 use crate::line::read_text;
+use crate::memory::look_at;
+use crate::memory::look_at_cells;
+use crate::memory::look_at_work;
+use crate::memory::ones;
 use crate::parts::judge_list;
 use crate::parts::list;
+use basics::field;
 use basics::same;
 use cabinet::Position;
 use game::ROW;
 use game::Shape;
 use game::TABLE_SIZE;
 use rules::WORK_SIZE;
-use streams::field;
-
-// Says so where memory is not a text with b behind it.
-fn look_at(memory: &[u8], text: &[u8], b: u8) {
-    let mut i = 0;
-    while i < memory.len() {
-        let expected = if i < text.len() { text[i] } else { b };
-        if memory[i] != expected {
-            return wrong();
-        }
-        i += 1;
-    }
-}
-
-// Work memory is all zero after a call, or untouched where memory was short.
-fn look_at_work(work: &[u8], short: bool) {
-    look_at(work, b"", short as u8);
-}
-
-// Says so where a table is not some cells with ones behind them.
-fn look_at_cells(table: &[u16], cells: &[u16]) {
-    let mut i = 0;
-    while i < table.len() {
-        let expected = if i < cells.len() { cells[i] } else { 1 };
-        if table[i] != expected {
-            return wrong();
-        }
-        i += 1;
-    }
-}
 
 fn judge(source: &[u8], trace: &[u16], work: &mut [u8]) {
     verdict(rules::judge(source, trace, work));
@@ -94,14 +71,17 @@ fn run(line: &[u8], table: &[u16], starts: bool) {
 fn is_call(name: &[u8], k: usize) -> bool {
     same(
         name,
-        field(b"judge\tsolve\tprint\tstart\tstep\tlist\tjudge-list", k),
+        field(
+            b"judge\tsolve\tprint\tstart\tstep\tlist\tjudge-list\tload\tprefixes\tcard\tfill",
+            k,
+        ),
     )
 }
 
-// The number of a call by its name, from 0; 7 for an unknown one.
+// The number of a call by its name, from 0; 11 for an unknown one.
 fn call_number(name: &[u8]) -> usize {
     let mut k = 0;
-    while k < 7 && !is_call(name, k) {
+    while k < 11 && !is_call(name, k) {
         k += 1;
     }
     k
@@ -117,15 +97,12 @@ fn call_in(line: &[u8], text: &[u8], cells: &[u16], memory: &mut [u8]) {
         4 => run(line, cells, false),
         5 => list(line, text, cells),
         6 => judge_list(line, cells),
+        7 => load(line, text, cells),
+        8 => prefixes(text, cells),
+        9 => card(text, memory),
+        10 => fill(line, cells),
         _ => wrong(),
     }
-}
-
-// Memory to lend.
-fn ones() -> [u8; WORK_SIZE]
-    ensures { λ r. ⌜ 65536 ≡ length r ⌝ }
-{
-    [1; WORK_SIZE]
 }
 
 // Makes the call with as much memory as the line says.

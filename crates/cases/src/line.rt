@@ -1,13 +1,15 @@
-// The texts and numbers in a line's fields. In a text `\n` is a line end, `\t` a tab and `\\` a backslash; numbers are decimal, and
-// those of a list are parted by single spaces.
+// The texts and numbers in a line's fields. In a text `\n` is a line end, `\t` a tab, `\r` a carriage return and `\\` a backslash, and
+// `\2` is all that stands before it in the text once more: `\n\2\2` is four line ends. Numbers are decimal, and those of a list are
+// parted by single spaces.
 ghost use Prim.Native.Nat.{_≤_, _<_};
 ghost use lib.ListN.{length};
 use crate::answer::wrong;
 use basics::Class;
+use basics::Number;
+use basics::field;
+use basics::number_in;
 use basics::past;
-use streams::Number;
-use streams::field;
-use streams::number_in;
+use basics::put_byte;
 
 // The number that digits stand for; 0 where they are wrong.
 fn number(digits: &[u8]) -> usize
@@ -72,35 +74,77 @@ pub(crate) fn read_numbers(list: &[u8], numbers: &mut [u16]) -> usize
     n
 }
 
-// The byte that a backslash and the byte at a place stand for.
-fn escaped(raw: &[u8], i: usize) -> u8 {
-    if i < raw.len() {
-        match raw[i] {
-            b'n' => return b'\n',
-            b't' => return b'\t',
-            b'\\' => return b'\\',
-            _ => {}
+// The byte that a backslash and another byte stand for.
+fn escaped(b: u8) -> u8 {
+    match b {
+        b'n' => b'\n',
+        b't' => b'\t',
+        b'r' => b'\r',
+        b'\\' => b'\\',
+        _ => {
+            wrong();
+            0
         }
     }
-    wrong();
-    0
 }
 
-// Reads a text, and answers its length. There is room for the longest: as much as for the whole input.
+// Puts the n bytes of a text behind themselves, if there is room, and answers how many there are then.
+fn put_again(text: &mut [u8], n: usize) -> usize
+    requires { ⌜ n ≤ length (now text) ⌝ }
+    ensures { λ r. ⌜ r ≤ length (now (text .exit)) ⌝ }
+{
+    if text.len() - n < n {
+        wrong();
+        return n;
+    }
+    let mut i = 0;
+    while i < n {
+        text[n + i] = text[i];
+        i += 1;
+    }
+    n + n
+}
+
+// Puts a byte, or what a backslash and the next byte stand for, behind n bytes, and answers how many there are then.
+fn put(text: &mut [u8], n: usize, b: u8, next: u8) -> usize
+    requires { ⌜ n ≤ length (now text) ⌝ }
+    ensures { λ r. ⌜ r ≤ length (now (text .exit)) ⌝ }
+{
+    if n == text.len() {
+        wrong();
+        return n;
+    }
+    if b != b'\\' {
+        return put_byte(text, n, b);
+    }
+    if next == b'2' {
+        return put_again(text, n);
+    }
+    put_byte(text, n, escaped(next))
+}
+
+// How many bytes that takes of the line.
+fn width(b: u8) -> usize
+    ensures { λ r. ⌜ (1 ≤ r) × (r ≤ 2) ⌝ }
+{
+    if b == b'\\' { 2 } else { 1 }
+}
+
+// The byte at a place; 0 behind the end.
+fn byte_at(raw: &[u8], i: usize) -> u8 {
+    if i < raw.len() { raw[i] } else { 0 }
+}
+
+// Reads a text, and answers its length.
 pub(crate) fn read_text(raw: &[u8], text: &mut [u8]) -> usize
     ensures { λ r. ⌜ r ≤ length (now (text .exit)) ⌝ }
 {
     let mut n = 0;
     let mut i = 0;
-    while i < raw.len() && n < text.len() {
-        let mut b = raw[i];
-        if b == b'\\' {
-            i += 1;
-            b = escaped(raw, i);
-        }
-        text[n] = b;
-        n += 1;
-        i += 1;
+    while i < raw.len() {
+        let b = raw[i];
+        n = put(text, n, b, byte_at(raw, i + 1));
+        i += width(b);
     }
     n
 }

@@ -9,21 +9,28 @@
 //     name, step, nothing, the table, 0, rows, observed signals, row and choice before, observation
 //     name, list, the problem, its parts, 0, records lent
 //     name, judge-list, nothing, the trace, 0, records lent, signals of each kind, parts counted, the parts
+//     name, load, the text, the table afterwards, 0, how many of the table's 4,352 cells are not lent
+//     name, prefixes, the text, the table afterwards: each proper beginning is loaded before, and the refusals' places are told
+//     name, card, the problem: the table that solves it is printed, and its text is loaded
+//     name, fill, nothing, the cells of a row, 0, rows, worst case, observed signals: the same with a table of equal rows
 //
 // `line.rt` says how a text and a list of numbers are written, `parts.rt` how parts are. Lent memory holds ones before a call, and all of
 // it is looked at afterwards: the answer has the field `wrong` where it is not as it should be, or where the line is not of this form.
+// A table that was loaded is printed again, which has to give its text.
 use basics::Class;
 use libc::STDIN_FILENO;
 use streams::Input;
 
 mod answer;
 mod call;
+mod cards;
 mod line;
+mod memory;
 mod parts;
 
 // Runs the case of a line, and answers whether the end of its line could be written.
 fn run(line: &[u8]) -> bool {
-    answer::say(streams::field(line, 0));
+    answer::say(basics::field(line, 0));
     call::call(line);
     streams::say(b"cases", b"\n")
 }

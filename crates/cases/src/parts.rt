@@ -6,10 +6,10 @@ use crate::answer::verdict;
 use crate::answer::wrong;
 use crate::line::argument;
 use crate::line::read_numbers;
+use basics::field;
 use lines::PART_LIMIT;
 use lines::Sizes;
 use records::PartList;
-use streams::field;
 
 // Number k of a list, as a byte; 0 behind its end.
 fn byte_at(numbers: &[u16], k: usize) -> u32

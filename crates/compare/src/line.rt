@@ -1,9 +1,9 @@
 // The numbers in a line's fields.
 ghost use Prim.Native.Nat.{_<_};
 use crate::answer::say;
-use streams::Number;
-use streams::field;
-use streams::number_in;
+use basics::Number;
+use basics::field;
+use basics::number_in;
 
 // The number in a field; 0 where it is wrong, which is said.
 pub(crate) fn argument(line: &[u8], k: usize) -> usize

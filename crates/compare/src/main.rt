@@ -4,10 +4,10 @@
 // tabs: its name, the seed of the first problem, how many are drawn, and what `draw.rt` asks for. The answer has a line for each, with the
 // numbers that `summary.rt` counts. The first problem of a kind on which answers differ is written out, in both ways.
 use basics::Class;
+use basics::field;
 use basics::past;
 use libc::STDIN_FILENO;
 use streams::Input;
-use streams::field;
 
 mod answer;
 mod comparing;

@@ -11,9 +11,9 @@ use crate::comparing::observe;
 use crate::draw::Kind;
 use crate::draw::draw;
 use crate::line::argument;
+use basics::field;
 use std::num::wrapping_add_u64;
 use std::num::wrapping_add_usize;
-use streams::field;
 
 // What is counted: all problems; those on which both solvers agree, and of these the tables and the refusals by number; tables with a worst
 // case over 1 and over 2; where it matters that hidden signals are hidden; and those whose two texts differ and are answered alike.

@@ -3,7 +3,7 @@
 use Prim.Native.Nat.{ℕ}
 use mathlib.Core.List.{List}
 use Rattle.lines.specs.declared.refusal.Refusal.{Refusal}
-use Rattle.lines.specs.declared.refusal.Refusal.the-variants.{LongSource, BadLine, NameTwice, TooManySignals, BadFormula, UnknownName, TooManyParts, NoFormula, TooManyStates, TooManyBeliefs, Unrealizable, ShortMemory, BadTable, Stopped, BadObservation, BadTrace}
+use Rattle.lines.specs.declared.refusal.Refusal.the-variants.{LongSource, BadLine, NameTwice, TooManySignals, BadFormula, UnknownName, TooManyParts, NoFormula, TooManyStates, TooManyBeliefs, Unrealizable, ShortMemory, BadTable, Stopped, BadObservation, BadTrace, BadText}
 
 abbrev pub numberOf : Refusal → ℕ
 numberOf LongSource = 1
@@ -22,6 +22,7 @@ numberOf BadTable = 13
 numberOf Stopped = 14
 numberOf BadObservation = 15
 numberOf (BadTrace n) = 16
+numberOf (BadText n) = 17
 
 -- a line or a step, counted from 1, or 0
 abbrev pub placeOf : Refusal → ℕ
@@ -41,6 +42,7 @@ placeOf BadTable = 0
 placeOf Stopped = 0
 placeOf BadObservation = 0
 placeOf (BadTrace n) = n
+placeOf (BadText n) = n
 
 -- an answer in the reference's terms: its values, or a refusal's number and place
 pub data Told : Type 0 where

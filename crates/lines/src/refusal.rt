@@ -19,6 +19,7 @@ pub enum Refusal {
     Stopped,
     BadObservation,
     BadTrace(usize),
+    BadText(usize),
 }
 
 // The number of a refusal.
@@ -42,6 +43,7 @@ pub fn number(r: Refusal) -> usize
         Refusal::Stopped => 14,
         Refusal::BadObservation => 15,
         Refusal::BadTrace(_) => 16,
+        Refusal::BadText(_) => 17,
     }
 }
 
@@ -66,5 +68,6 @@ pub fn place(r: Refusal) -> usize
         Refusal::Stopped => 0,
         Refusal::BadObservation => 0,
         Refusal::BadTrace(n) => n,
+        Refusal::BadText(n) => n,
     }
 }

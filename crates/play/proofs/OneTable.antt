@@ -1,19 +1,17 @@
 -- There is only one table as the reference lays it down (`IsTable`), and a belief has only one rank and only one choice.
 -- Assumes nothing.
-use Prim.Native.Nat.{ℕ, zero, suc, _*_, _/_, _%_, _-_, _≤_, _<_}
-use native.Mathlib.Nat.{div-add-mod', le-refl}
+use Prim.Native.Nat.{ℕ, zero, suc, _*_, _-_, _≤_, _<_}
+use native.Mathlib.Nat.{le-refl}
 use native.Mathlib.Decide.{decLe}
 use native.Mathlib.Omega.{arith}
 use mathlib.Core.Path.{_≡_, sym, ap, ap₂, _∙_, subst}
 use mathlib.Core.Logic.{_⊎_, inl, inr}
 use mathlib.Core.List.{List, []}
-use lib.ListN.{getD}
-use lib.Seq.{ext-getD}
-use Rattle.basics.proofs.EqualRows.{row-at}
 use Rattle.play.specs.Limits.{sideLimit}
-use Rattle.play.specs.Cells.{rowSize, nextAt, cell, firstCell, nextCell}
+use Rattle.play.specs.Cells.{rowSize, firstCell, nextCell}
 use Rattle.play.specs.History.{History, Possible, onward}
 use Rattle.play.specs.IsTable.{RankBelow, RankIs, Takes, Before, MetFrom, IsTable}
+use Rattle.play.proofs.CellsLaws.{same-cells}
 use Rattle.play.proofs.HistoryLaws.{possible-onward}
 use Rattle.play.proofs.IsTableLaws.{below-le}
 
@@ -273,12 +271,6 @@ module _ (choices observations : ℕ) (Same : History → History → Type 0) (F
                 ]
           ]
 
-      same-cell : (p : ℕ) → p < rowSize → cell t i p ≡ cell u i p
-      same-cell zero l = same-first
-      same-cell (suc s) l =
-          let e : nextAt s ≡ suc s = omega arith in
-          subst (λ (p : ℕ). cell t i p ≡ cell u i p) e (same-nextCell s (omega arith))
-
   -- there is only one table
   pub one-table : (n m : ℕ) (t u : List ℕ) → Table n t → Table m u → (n ≡ m) × (t ≡ u)
   one-table n m t u T U =
@@ -286,7 +278,5 @@ module _ (choices observations : ℕ) (Same : History → History → Type 0) (F
       let more = rows-le U T in
       let e : n ≡ m = omega arith in (
         e,
-        ext-getD 0 t u (T .long ∙ ap (λ (k : ℕ). k * rowSize) e ∙ sym (U .long)) (λ y l.
-            let (i, p) = row-at rowSize n y (subst (λ (k : ℕ). y < k) (T .long) l) in
-            subst (λ (z : ℕ). getD t z 0 ≡ getD u z 0) (div-add-mod' y rowSize) (same-cell T U (y / rowSize) i (y % rowSize) p)),
+        same-cells n t u (T .long) (U .long ∙ ap (λ (k : ℕ). k * rowSize) (sym e)) (λ i l. same-first T U i l) (λ i l. same-nextCell T U i l),
       )

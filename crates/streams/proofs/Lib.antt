@@ -1,3 +1,4 @@
-pub mod FieldsLaws
+pub mod ArgumentsLaws
 pub mod MovedBytes
 pub mod ReadingLaws
+pub mod LinesLaws

@@ -1,4 +1,4 @@
--- What is known of an input and of an argument, and where in a buffer they stand; fields and numbers of a line.
+-- What is known of an input, of a line and of an argument, and where in a buffer they stand.
 pub mod Arguments
-pub mod Fields
+pub mod Lines
 pub mod Reading

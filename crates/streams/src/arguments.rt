@@ -1,6 +1,8 @@
 // The program's arguments, and files by name.
-ghost use Rattle.streams.specs.Arguments.{Held};
+ghost use mathlib.Core.Path.{_≡_};
+ghost use Rattle.streams.specs.Arguments.{Held, isHelp, isOption};
 use crate::writing::fail;
+use basics::same;
 
 // An argument: so many bytes of the buffer, none, or more than the buffer has room for.
 pub enum Argument {
@@ -23,6 +25,23 @@ pub fn argument_at(i: usize, buffer: &mut [u8]) -> Argument
     } else {
         Argument::Long
     }
+}
+
+// Whether an argument asks for help.
+pub fn is_help(argument: &[u8]) -> bool
+    ensures { λ r. ⌜ r ≡ isHelp (now (argument .entry)) ⌝ }
+{
+    same(argument, b"--help") | same(argument, b"-h")
+}
+
+// Whether an argument is an option, and no file's name.
+pub fn is_option(argument: &[u8]) -> bool
+    ensures { λ r. ⌜ r ≡ isOption (now (argument .entry)) ⌝ }
+{
+    if argument.len() == 0 {
+        return false;
+    }
+    argument[0] == b'-'
 }
 
 // Opens a file for reading, and answers a descriptor, or -1. A failure is told with the file's name.

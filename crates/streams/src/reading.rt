@@ -15,7 +15,7 @@ pub enum Input {
 
 // One read, tried again where a signal interrupts it. A proved loop has to end: this one counts down from a number that no run uses up, and
 // what is answered then is a failed read.
-fn read_some(fd: i32, buffer: &mut [u8]) -> isize
+pub(crate) fn read_some(fd: i32, buffer: &mut [u8]) -> isize
     ensures { λ r. ⌜ Moved (length (now (buffer .entry))) r ⌝ }
 {
     let mut turns = u64::MAX;

@@ -77,3 +77,10 @@ pub fn close_output(program: &[u8]) {
         fail(program, b"standard output");
     }
 }
+
+// Writes the last text, as `say` does, and closes standard output behind it.
+pub fn say_last(program: &[u8], text: &[u8]) {
+    if say(program, text) {
+        close_output(program);
+    }
+}

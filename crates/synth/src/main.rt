@@ -1,7 +1,6 @@
 // Solves a problem, which is read on standard input or in a file, and writes its table, or the refusal, to standard output. A text that was
 // not read to its end is not answered, but for number 1, which the byte behind the limit decides. A failure is told on standard error, and
 // not by the exit status: a `main` returns nothing in this language.
-use basics::same;
 use cabinet::Printed;
 use cabinet::TEXT_SIZE;
 use game::TABLE_SIZE;
@@ -15,9 +14,7 @@ mod help;
 
 // Writes all of what the program answers.
 fn write(text: &[u8]) {
-    if streams::say(b"synth", text) {
-        streams::close_output(b"synth");
-    }
+    streams::say_last(b"synth", text);
 }
 
 fn tell_short() {
@@ -63,18 +60,10 @@ fn solve_file(path: &[u8]) {
     }
 }
 
-fn is_help(argument: &[u8]) -> bool {
-    same(argument, b"--help") || same(argument, b"-h")
-}
-
-fn is_option(argument: &[u8]) -> bool {
-    argument.len() > 0 && argument[0] == b'-'
-}
-
 fn obey(argument: &[u8]) {
-    if is_help(argument) {
+    if streams::is_help(argument) {
         help::explain();
-    } else if is_option(argument) {
+    } else if streams::is_option(argument) {
         streams::tell(b"synth", argument, b"no such option; see synth --help");
     } else {
         solve_file(argument);

@@ -1,6 +1,6 @@
 // From the moves between numbered positions to the table of the best strategy: ranks, choices and rows. Every function here is proved,
-// and the crate assumes nothing. `answer` serves the crate `game`, which shows that it meets what is asked; `Shape`, `first_cell` and
-// `next_cell` serve whoever reads a table.
+// and the crate assumes nothing. `answer` serves the crate `game`, which shows that it meets what is asked; `Shape` and the functions on
+// cells serve whoever reads a table or writes one.
 mod answering;
 mod cells;
 mod ranking;
@@ -12,6 +12,8 @@ pub use answering::Outcome;
 pub use answering::answer;
 pub use cells::first_cell;
 pub use cells::next_cell;
+pub use cells::set_first;
+pub use cells::set_next;
 pub use shape::Shape;
 pub use sizes::BELIEF_LIMIT;
 pub use sizes::PAIR_LIMIT;

@@ -1,7 +1,7 @@
 -- `cases::line::number` meets its contract: a number in digits is below 65,536. Assumes nothing.
 use mathlib.Core.Path.{sym, _∙_}
 use borrow.Author.Needs.{needs}
-use Rattle.streams.proofs.FieldsLaws.{number-below}
+use Rattle.basics.proofs.NumbersLaws.{number-below}
 use Rattle.cases.proofs.line.number.Statement.{statement}
 use Rattle.cases.proofs.line.number.Tie as tie
 

@@ -1,7 +1,7 @@
 -- `compare::line::argument` meets its contract: a number in digits is below 65,536. Assumes nothing.
 use mathlib.Core.Path.{sym, _∙_}
 use borrow.Author.Needs.{needs}
-use Rattle.streams.proofs.FieldsLaws.{number-below}
+use Rattle.basics.proofs.NumbersLaws.{number-below}
 use Rattle.compare.proofs.line.argument.Statement.{statement}
 use Rattle.compare.proofs.line.argument.Tie as tie
 

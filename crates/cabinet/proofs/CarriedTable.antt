@@ -1,0 +1,195 @@
+-- Tables carried as text: printing what was loaded, loading what was printed; and a table that the solver gives, printed, loaded and run.
+-- Assumes nothing.
+use Prim.Native.Nat.{ℕ, _*_, _≤_, _<_}
+use native.Mathlib.Nat.{le-refl}
+use native.Mathlib.Omega.{arith}
+use mathlib.Core.Path.{_≡_, refl, sym, ap, _∙_, subst}
+use mathlib.Core.Logic.{_↔_, inl, inr}
+use mathlib.Core.Bool.{Bool, true, false}
+use mathlib.Core.List.{List, [], _∷_}
+use lib.Dec.{ltb}
+use lib.ListN.{length, take}
+use borrow.Author.Tests.{le-ltb, ltb-false}
+use Rattle.basics.proofs.Booleans.{test}
+use Rattle.basics.proofs.BoundedLaws.{all-fails}
+use Rattle.basics.proofs.ListsLaws.{front-in, front-taken}
+use Rattle.lines.proofs.RefusalLaws.{told-apart}
+use Rattle.lines.specs.Refusal.{Told, values}
+use Rattle.rules.specs.Denotes.{Denotes}
+use Rattle.rules.specs.Problem.{Problem}
+use Rattle.play.specs.Cells.{rowSize, tableSize, firstCell, isStop, nextCell}
+use Rattle.play.proofs.CellsLaws.{stop-taken}
+use Rattle.play.specs.Game.{set, Play, Decision, choose, stop}
+use Rattle.play.specs.Table.{tableStrategy}
+use Rattle.tables.specs.declared.shape.Shape.{Shape}
+use Rattle.game.specs.Solution.{gameOf}
+use Rattle.game.specs.SolvedAs.{SolvedAs}
+use Rattle.loader.specs.declared.loading.Loaded.the-variants.{Table}
+use Rattle.loader.specs.LoadedAs.{loadedBy, cellsBy, tableAfter, toldLoaded, IsPrint, TableOf, toldShape}
+use Rattle.loader.proofs.LoadedIffDue.{accepted-iff as print-iff, loaded-iff}
+use Rattle.loader.proofs.SameRows.{behind-rows, table-of-print}
+use Rattle.printer.specs.Limits.{textSize}
+use Rattle.printer.specs.Text.{tableText}
+use Rattle.printer.specs.WellFormed.{Printable, isPrintable}
+use Rattle.printer.proofs.WellFormedLaws.{printable-says}
+use Rattle.cabinet.specs.declared.position.Position.{Position}
+use Rattle.cabinet.specs.declared.printing.Printed.the-variants.{Text}
+use Rattle.cabinet.specs.declared.position.Moved.{Moved}
+use Rattle.cabinet.specs.Position.{positionAt, startOf, stepOf, toldAnswer, Standing, started, Holds, SteppedAs, bad-place, stopped, bad-observation, moved}
+use Rattle.cabinet.specs.Print.{printedBy, bytesBy, toldPrinted, IsPrinted}
+use Rattle.cabinet.specs.Running.{stepAll, answerTo, Runs}
+use Rattle.cabinet.proofs.AnswersDue.{start-iff, step-due}
+use Rattle.cabinet.proofs.SolvedTable.{running, passes, solves}
+
+-- a table that is not refused is printed as its text
+printed-so : (s t : List ℕ) (shape : Shape) (worst room : ℕ) → textSize ≤ room → Printable t shape worst → tableText t shape worst ≡ s
+    → (printedBy t shape worst room ≡ Text (length s)) × (bytesBy t shape worst room ≡ s)
+unfolding printedBy bytesBy
+printed-so s t shape worst room h p e =
+    rw (le-ltb room textSize h, printable-says t shape worst .1 p) (ap (λ x. Text (length x)) e, e)
+
+-- ---- printing what was loaded
+
+-- where a table was loaded, there was room for it
+had-room : (room : ℕ) (s : List ℕ) (shape : Shape) (worst : ℕ) → loadedBy room s ≡ Table shape worst → tableSize ≤ room
+unfolding loadedBy
+had-room room s shape worst e =
+    elim (test (ltb room tableSize)) [
+      | inl l ↦ told-apart (ap toldLoaded (rw l at e))
+      | inr l ↦ ltb-false room tableSize l
+    ]
+
+module _ (s t : List ℕ) (shape : Shape) (worst : ℕ) (e : loadedBy (length t) s ≡ Table shape worst) where
+  abbrev cells : List ℕ
+  cells = cellsBy (length t) s
+
+  is : TableOf s shape worst cells
+  is = loaded-iff s (length t) (had-room (length t) s shape worst e) shape worst cells .0 (e, refl)
+
+  loaded-rows : take (shape .rows * rowSize) (tableAfter s t) ≡ cells
+  loaded-rows = front-taken cells t (tableAfter s t) (shape .rows * rowSize) (sym (is .exact)) refl
+
+  printable : Printable (tableAfter s t) shape worst
+      × (tableText (tableAfter s t) shape worst ≡ tableText (take (shape .rows * rowSize) (tableAfter s t)) shape worst)
+  printable =
+      behind-rows (tableAfter s t) shape worst (front-in cells t (tableAfter s t) (shape .rows * rowSize) (sym (is .exact)) refl)
+      (subst (λ c. Printable c shape worst) (sym loaded-rows) (is .printable))
+
+  loaded-text : tableText (tableAfter s t) shape worst ≡ s
+  loaded-text = printable .1 ∙ ap (λ c. tableText c shape worst) loaded-rows ∙ is .prints
+
+  pub print-loaded : (room : ℕ) → textSize ≤ room
+      → (printedBy (tableAfter s t) shape worst room ≡ Text (length s)) × (bytesBy (tableAfter s t) shape worst room ≡ s)
+  print-loaded room h = printed-so s (tableAfter s t) shape worst room h (printable .0) loaded-text
+
+  -- a cabinet may stand on every row of it ..
+  standing : (row : ℕ) → row < shape .rows → Standing (tableAfter s t) shape row
+  standing row h = record { sized = printable .0 .sized; inside = h; good = printable .0 .each row h .good }
+
+  -- .. so it stands on a row after every step
+  holds-on : (observation : ℕ) (p : Position) → Holds (tableAfter s t) shape p
+      → (a : Told) (q : Position) → SteppedAs (tableAfter s t) shape observation p a q → Holds (tableAfter s t) shape q
+  holds-on observation p h a q (bad-place n) = h
+  holds-on observation p h a q (stopped k e) = h
+  holds-on observation p h a q (bad-observation k n o) = h
+  holds-on observation p h a q (moved k n o) = (standing (nextCell (tableAfter s t) (p .row) observation) (h .0 .good .next n observation o .0), refl)
+
+  steps-hold : (h : List ℕ) (m : Moved) → Holds (tableAfter s t) shape (m .position) → Holds (tableAfter s t) shape (stepAll (tableAfter s t) shape m h .position)
+  steps-hold [] m k = k
+  steps-hold (o ∷ h) m k =
+      let next = stepOf (tableAfter s t) shape o (m .position) in
+      steps-hold h next (holds-on o (m .position) k (toldAnswer (next .answer)) (next .position) (step-due (tableAfter s t) shape o (m .position)))
+
+  start-holds : (old : Position) → Holds (tableAfter s t) shape (startOf (tableAfter s t) shape old .position)
+  start-holds old =
+      let at-0 = standing 0 (printable .0 .sized .some) in
+      subst (Holds (tableAfter s t) shape)
+      (sym (start-iff (tableAfter s t) shape old (values (firstCell (tableAfter s t) 0 ∷ [])) (positionAt (tableAfter s t) 0) .1 (started at-0) .1))
+      (at-0, refl)
+
+  pub loaded-holds : (old : Position) (h : List ℕ)
+      → Holds (tableAfter s t) shape (stepAll (tableAfter s t) shape (startOf (tableAfter s t) shape old) h .position)
+  loaded-holds old h = steps-hold h (startOf (tableAfter s t) shape old) (start-holds old)
+
+-- ---- loading what was printed
+
+-- what was printed is the text of a table that the printer does not refuse
+was-printed : (t : List ℕ) (shape : Shape) (worst room n : ℕ) → printedBy t shape worst room ≡ Text n
+    → (isPrintable t shape worst ≡ true) × (bytesBy t shape worst room ≡ tableText t shape worst)
+unfolding printedBy bytesBy
+was-printed t shape worst room n e =
+    elim (test (ltb room textSize)) [
+      | inl l ↦ told-apart (ap toldPrinted (rw l at e))
+      | inr l ↦
+          elim (test (isPrintable t shape worst)) [
+            | inl p ↦ rw (l, p) (refl, refl)
+            | inr p ↦ told-apart (ap toldPrinted (rw (l, p) at e))
+          ]
+    ]
+
+-- a text is accepted exactly where printing some table gives it
+is-printed : (s : List ℕ) → IsPrint s → IsPrinted s
+is-printed s (t, shape, worst, p, e) = let (a, b) = printed-so s t shape worst textSize (le-refl textSize) p e in (t, shape, worst, textSize, a, b)
+
+is-print : (s : List ℕ) → IsPrinted s → IsPrint s
+is-print s (t, shape, worst, room, e, q) =
+    let (p, x) = was-printed t shape worst room (length s) e in
+    (t, shape, worst, printable-says t shape worst .0 p, sym x ∙ q)
+
+pub accepted-iff : (s : List ℕ) (cells : ℕ) → tableSize ≤ cells → ((shape : Shape) × (worst : ℕ) × (loadedBy cells s ≡ Table shape worst)) ↔ IsPrinted s
+accepted-iff s cells h = (λ a. is-printed s (print-iff s cells h .0 a), λ p. print-iff s cells h .1 (is-print s p))
+
+pub load-printed : (t : List ℕ) (shape : Shape) (worst room n : ℕ) → printedBy t shape worst room ≡ Text n → (cells : ℕ) → tableSize ≤ cells
+    → (loadedBy cells (bytesBy t shape worst room) ≡ Table (toldShape t shape) worst)
+    × (cellsBy cells (bytesBy t shape worst room) ≡ take (shape .rows * rowSize) t)
+load-printed t shape worst room n e cells h =
+    let (p, q) = was-printed t shape worst room n e in
+    rw q
+    (loaded-iff (tableText t shape worst) cells h (toldShape t shape) worst (take (shape .rows * rowSize) t) .1
+    (table-of-print t shape worst (printable-says t shape worst .0 p)))
+
+-- ---- a table that the solver gives
+
+module _ (work room : ℕ) (source : List ℕ) (shape : Shape) (r : ℕ) (table : List ℕ)
+    (due : SolvedAs work room source (values (shape .rows ∷ shape .observed ∷ r ∷ [])) (take (shape .rows * rowSize) table)) (p : Problem)
+    (denotes : Denotes source p) where
+  abbrev used : List ℕ
+  used = take (shape .rows * rowSize) table
+
+  some : 0 < shape .rows
+  some = omega (arith, solves work room source shape r table due p denotes .below)
+
+  -- row 0 goes on, so the text tells the number of observed signals
+  goes : isStop table 0 ≡ false
+  goes =
+      let (c, opens) = solves work room source shape r table due p denotes .optimal .isStrategy .opens in
+      sym (stop-taken (shape .rows) table 0 some) ∙ on c (isStop used 0) opens
+    where
+      on : (c : ℕ) (b : Bool) → _≡_ {A = Decision set} (elim b [ true ↦ stop | false ↦ choose (firstCell used 0) ]) (choose c) → b ≡ false
+      on c true e = let z : _≡_ {A = ℕ} 0 1 = cc in absurd (omega arith)
+      on c false e = refl
+
+  told : toldShape table shape ≡ shape
+  told = rw (all-fails (shape .rows) (isStop table) 0 some goes) refl
+
+  module _ (t : List ℕ) (h : tableSize ≤ length t) where
+    abbrev text : List ℕ
+    text = tableText table shape r
+
+    pub carried : loadedBy (length t) text ≡ Table shape r
+    carried =
+        subst (λ x. loadedBy (length t) text ≡ Table x r) told
+        (loaded-iff text (length t) h (toldShape table shape) r used .1
+        (table-of-print table shape r (printable-says table shape r .0 (passes work room source shape r table due p denotes))) .0)
+
+    same-rows : take (shape .rows * rowSize) (tableAfter text t) ≡ used
+    same-rows =
+        loaded-rows text t shape r carried
+        ∙ loaded-iff text (length t) h (toldShape table shape) r used .1
+        (table-of-print table shape r (printable-says table shape r .0 (passes work room source shape r table due p denotes))) .1
+
+    pub carried-running : (old : Position) (play : Play (gameOf p)) → Runs (gameOf p) (tableStrategy used) r (answerTo (tableAfter text t) shape old) play
+    carried-running old play =
+        subst (λ c. Runs (gameOf p) (tableStrategy c) r (answerTo (tableAfter text t) shape old) play) same-rows
+        (running work room source shape r (tableAfter text t)
+        (subst (SolvedAs work room source (values (shape .rows ∷ shape .observed ∷ r ∷ []))) (sym same-rows) due) p denotes old play)

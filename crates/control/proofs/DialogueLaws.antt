@@ -1,0 +1,133 @@
+-- The line of an answer as it is put, and the observation that a line holds.
+-- Assumes nothing.
+use Prim.Native.Nat.{ℕ, _+_, _^_, _≤_, _<_}
+use native.Mathlib.Nat.{zero-add}
+use native.Mathlib.Decide.{decLt}
+use native.Mathlib.Omega.{arith}
+use mathlib.Core.Path.{_≡_, refl, sym, ap, subst, _∙_}
+use mathlib.Core.Logic.{_↔_, inl, inr}
+use mathlib.Core.Bool.{true, false}
+use mathlib.Core.List.{List, [], _∷_, _++_, flatMap}
+use lib.ListN.{length, take, length-append}
+use lib.Seq.{take-at, length-sets}
+use Rattle.basics.specs.Bytes.{bytesOf, sameBytes}
+use Rattle.basics.specs.Lists.{written}
+use Rattle.basics.specs.Numbers.{numberBelow}
+use Rattle.basics.specs.Text.{decimal, field}
+use Rattle.basics.proofs.Booleans.{test}
+use Rattle.basics.proofs.BytesLaws.{same-bytes, same-refl}
+use Rattle.basics.proofs.NumbersLaws.{below-lt, below-decimal}
+use Rattle.basics.proofs.Stores.{Put, Rest, rest-all, rest-room, rest-next, put-front}
+use Rattle.basics.proofs.TextLaws.{decimal-length, field-length, line-parts}
+use Rattle.cabinet.specs.Position.{Holds, SteppedAs, bad-observation}
+use Rattle.cabinet.specs.declared.position.Position.{Position}
+use Rattle.cabinet.specs.declared.position.Answer.{Answer}
+use Rattle.cabinet.specs.declared.position.Answer.the-variants.{Choice, Stop}
+use Rattle.lines.specs.Refusal.{refused}
+use Rattle.play.specs.Limits.{sideLimit}
+use Rattle.play.specs.Cells.{stopCell, firstCell}
+use Rattle.printer.specs.Limits.{textSize}
+use Rattle.printer.proofs.WellFormedLaws.{side-le}
+use Rattle.tables.specs.declared.shape.Shape.{Shape}
+use Rattle.control.specs.Dialogue.{answerText, observationIn}
+
+-- ---- an answer is put at the front of a text
+
+abbrev Written : List ℕ → List ℕ → ℕ → List ℕ → Type 0
+Written l x end y = (end ≡ length l) × (y ≡ written l x)
+
+front-put : (l x : List ℕ) → length l ≤ length x → (end : ℕ) (y : List ℕ) → Put 0 l x end y → Written l x end y
+front-put l x room end y p = (p .0 ∙ zero-add (length l), p .1 ∙ put-front l x room)
+
+pub same-answer : {a b : Answer} → a ≡ b → (x : List ℕ) (end : ℕ) (y : List ℕ) → Written (answerText b) x end y
+    → Written (answerText a) x end y
+same-answer e x end y p = subst (λ (a : Answer). Written (answerText a) x end y) (sym e) p
+
+-- a choice: its word, its number and the end, 13 bytes at most
+module _ (c : ℕ) (small : c < 65536) (x : List ℕ) (room : textSize ≤ length x) where
+  parts : answerText (Choice c) ≡ bytesOf "choice" ++ (field (decimal c) ++ (10 ∷ []))
+  unfolding flatMap
+  parts = line-parts (bytesOf "choice") (decimal c) []
+
+  fits : length (answerText (Choice c)) ≤ length x
+  fits = omega (arith, ap length parts, length-append (field (decimal c)) (10 ∷ []), field-length 4 c (omega arith))
+
+  module _ {w : ℕ} {y₁ : List ℕ} (p₁ : Put 0 (bytesOf "choice") x w y₁) where
+    rest₁ : Rest 0 (answerText (Choice c)) x w (field (decimal c) ++ (10 ∷ [])) y₁
+    rest₁ = rest-next (bytesOf "choice") _ (rest-all 0 (answerText (Choice c)) x (omega (arith, fits)) _ parts) p₁
+
+    pub number-room : w + length (field (decimal c)) ≤ length y₁
+    number-room = rest-room (field (decimal c)) _ rest₁
+
+    module _ {n : ℕ} {y₂ : List ℕ} (p₂ : Put w (field (decimal c)) y₁ n y₂) where
+      rest₂ : Rest 0 (answerText (Choice c)) x n (10 ∷ []) y₂
+      rest₂ = rest-next (field (decimal c)) _ rest₁ p₂
+
+      pub end-room : n < length y₂
+      end-room = omega (arith, rest₂ .room)
+
+      pub choice-put : {end : ℕ} {y : List ℕ} → Put n (10 ∷ []) y₂ end y → Written (answerText (Choice c)) x end y
+      choice-put p₃ = front-put (answerText (Choice c)) x fits _ _ (rest₂ .puts _ _ p₃)
+
+pub stop-put : (x : List ℕ) → textSize ≤ length x → {end : ℕ} {y : List ℕ} → Put 0 (bytesOf "stop\n") x end y
+    → Written (answerText Stop) x end y
+unfolding flatMap
+stop-put x room p = front-put (bytesOf "stop\n") x (omega arith) _ _ p
+
+-- ---- an observation
+
+module _ (l : List ℕ) (n : ℕ) (e : n ≡ numberBelow sideLimit l) where
+  number-same : sameBytes l (decimal n) ≡ true → n ≡ observationIn l
+  unfolding observationIn
+  number-same h = rw (sym e, h) refl
+
+  number-other : sameBytes l (decimal n) ≡ false → sideLimit ≡ observationIn l
+  unfolding observationIn
+  number-other h = rw (sym e, h) refl
+
+  -- its number has two digits at most, which are put and compared
+  pub digits-fit : length (decimal n) ≤ 2
+  digits-fit = decimal-length 1 n (omega (arith, below-lt sideLimit l (omega arith)))
+
+  module _ (end : ℕ) (y : List ℕ) (p : Put 0 (decimal n) (0 ∷ 0 ∷ []) end y) where
+    pub digits-within : end ≤ length y
+    digits-within = omega (arith, p .0, digits-fit, ap length (p .1), length-sets (0 ∷ 0 ∷ []) 0 (decimal n))
+
+    digits-are : take end y ≡ decimal n
+    digits-are =
+        let f = front-put (decimal n) (0 ∷ 0 ∷ []) digits-fit end y p in
+        ap (take end) (f .1) ∙ take-at (decimal n) _ end (sym (f .0))
+
+    pub same-digits : sameBytes l (take end y) ≡ true → n ≡ observationIn l
+    same-digits h = number-same (ap (sameBytes l) (sym digits-are) ∙ h)
+
+    pub other-digits : sameBytes l (take end y) ≡ false → sideLimit ≡ observationIn l
+    other-digits h = number-other (ap (sameBytes l) (sym digits-are) ∙ h)
+
+pub observed-iff : (l : List ℕ) (n : ℕ) → n < sideLimit → (observationIn l ≡ n) ↔ (l ≡ decimal n)
+observed-iff l n h = (to, from)
+  where
+    m : ℕ
+    m = numberBelow sideLimit l
+
+    to : observationIn l ≡ n → l ≡ decimal n
+    to e = elim (test (sameBytes l (decimal m))) [
+      | inl s ↦ same-bytes l (decimal m) s ∙ ap decimal (number-same l m refl s ∙ e)
+      | inr d ↦ absurd (omega (arith, number-other l m refl d, e))
+    ]
+
+    from : l ≡ decimal n → observationIn l ≡ n
+    from e =
+        let same : numberBelow sideLimit (decimal n) ≡ n = below-decimal sideLimit n h (omega arith) in
+        rw e (sym (number-same (decimal n) n (sym same) (same-refl (decimal n))))
+
+-- any other line is no observation that the table takes
+pub other-refused : (t : List ℕ) (shape : Shape) (p : Position) → Holds t shape p → (¬ (firstCell t (p .row) ≡ stopCell))
+    → (l : List ℕ) → ((n : ℕ) → n < 2 ^ (shape .observed) → ¬ (l ≡ decimal n)) → SteppedAs t shape (observationIn l) p (refused 15 0) p
+other-refused t shape p h goes l other =
+    elim (decLt (observationIn l) (2 ^ (shape .observed))) [
+      | yes b ↦
+          let few = side-le (shape .observed) (h .0 .sized .seen) in
+          absurd (other (observationIn l) b (observed-iff l (observationIn l) (omega arith) .0 refl))
+      | no b ↦ bad-observation h goes (omega arith)
+    ]

@@ -1,0 +1,2 @@
+pub mod DialogueLaws
+pub mod Theorems

@@ -1,0 +1,23 @@
+-- What is typed and what is written: observations and answers as lines of text (REFERENCE.md, Programs).
+-- Assumes nothing.
+use Prim.Native.Nat.{ℕ}
+use mathlib.Core.Bool.{cond}
+use mathlib.Core.List.{List, [], _∷_}
+use Rattle.basics.specs.Bytes.{bytesOf, sameBytes}
+use Rattle.basics.specs.Numbers.{numberBelow}
+use Rattle.basics.specs.Text.{decimal, line}
+use Rattle.cabinet.specs.declared.position.Answer.{Answer}
+use Rattle.cabinet.specs.declared.position.Answer.the-variants.{Choice, Stop, Refused}
+use Rattle.play.specs.Limits.{sideLimit}
+use Rattle.printer.specs.Text.{refusalText}
+
+-- the line of an answer
+abbrev pub answerText : Answer → List ℕ
+answerText (Choice c) = line (bytesOf "choice") (decimal c ∷ [])
+answerText Stop = line (bytesOf "stop") []
+answerText (Refused r) = refusalText r
+
+-- the observation that a line holds, without its end; one that is not written as the printer writes it counts as 16, which is no observation
+-- of any table
+unfoldable pub observationIn : List ℕ → ℕ
+observationIn l = let n = numberBelow sideLimit l in cond (sameBytes l (decimal n)) n sideLimit

@@ -1,0 +1,2 @@
+-- What is typed and what is written.
+pub mod Dialogue

@@ -1,0 +1,17 @@
+-- texts that are made of lines, and where two differ
+pub mod WholeLines
+pub mod DifferenceLaws
+-- the lines of a print; the table that a text is compared with
+pub mod PrintLines
+pub mod CandidateLaws
+pub mod CandidatePrint
+-- what is printed is read back
+pub mod RowBack
+pub mod ReadBack
+pub mod SameRows
+-- the call
+pub mod LoadedIffDue
+pub mod LoadedAsLaws
+pub mod LongerText
+-- the front page
+pub mod Main

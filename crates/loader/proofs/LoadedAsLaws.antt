@@ -1,0 +1,138 @@
+-- The loading call, in the shape in which the code makes it.
+-- Assumes nothing.
+use Prim.Native.Nat.{ℕ, zero, suc, _*_, _≤_, _<_}
+use native.Mathlib.Nat.{le-refl}
+use native.Mathlib.Omega.{arith}
+use mathlib.Core.Path.{_≡_, refl, sym, ap, subst, _∙_}
+use mathlib.Core.Bool.{cond}
+use mathlib.Core.List.{List}
+use lib.Dec.{eqb}
+use lib.ListN.{length, take}
+use lib.Seq.{length-take-le}
+use borrow.Author.Tests.{lt-ltb, le-ltb, ne-eqb}
+use Rattle.basics.specs.Limits.{kindLimit}
+use Rattle.basics.specs.Lists.{written}
+use Rattle.basics.proofs.Booleans.{cond-elim}
+use Rattle.basics.proofs.ListsLaws.{front-in, front-taken, taken-length}
+use Rattle.lines.specs.declared.refusal.Refusal.the-variants.{ShortMemory, BadText}
+use Rattle.play.specs.Limits.{beliefLimit}
+use Rattle.play.specs.Cells.{rowSize, tableSize}
+use Rattle.printer.specs.Limits.{textSize}
+use Rattle.printer.specs.Text.{tableText}
+use Rattle.printer.specs.WellFormed.{Printable}
+use Rattle.printer.proofs.TextLaws.{text-fits}
+use Rattle.printer.proofs.WellFormedLaws.{printable-says}
+use Rattle.tables.specs.declared.shape.Shape.{Shape}
+use Rattle.loader.specs.declared.loading.Loaded.{Loaded}
+use Rattle.loader.specs.declared.loading.Loaded.the-variants.{Table, Refused}
+use Rattle.loader.specs.Candidate.{shapeIn, worstIn, cellsIn, printIn}
+use Rattle.loader.specs.Difference.{difference}
+use Rattle.loader.specs.LoadedAs.{loadedAt, cellsAt, loadedBy, cellsBy, tableAfter, toldLoaded, usedRows, LoadedAs}
+use Rattle.loader.proofs.CandidateLaws.{cells-length}
+use Rattle.loader.proofs.CandidatePrint.{candidate-printable}
+use Rattle.loader.proofs.LoadedIffDue.{load-told}
+
+module _ (s table : List ℕ) where
+  -- the answer r, with the table left as `after`, is what the call promises
+  abbrev pub Loads : Loaded → List ℕ → Type 0
+  Loads r after =
+      (r ≡ loadedBy (length table) s) × ((after ≡ tableAfter s table) × LoadedAs (length table) s (toldLoaded r) (usedRows r after))
+
+  loads : (r : Loaded) (after : List ℕ) → r ≡ loadedBy (length table) s → after ≡ tableAfter s table → Loads r after
+  loads r after p q = (p, (q, load-told s table r after (p, q)))
+
+  pub load-short : length table < tableSize → Loads (Refused ShortMemory) table
+  unfolding loadedBy cellsBy
+  load-short h = let short = lt-ltb (length table) tableSize h in loads (Refused ShortMemory) table (rw short refl) (rw short refl)
+
+-- by the line of the first fault
+module _ (place : ℕ) (shape : Shape) (worst : ℕ) where
+  pub answer-bad : 0 < place → Refused (BadText place) ≡ loadedAt place shape worst
+  answer-bad h = by place h
+    where
+      by : (k : ℕ) → 0 < k → Refused (BadText k) ≡ loadedAt k shape worst
+      by zero h = absurd (omega arith)
+      by (suc k) h = refl
+
+  pub answer-good : place ≡ 0 → Table shape worst ≡ loadedAt place shape worst
+  answer-good z = ap (λ k. loadedAt k shape worst) (sym z)
+
+pub count-none : (place n : ℕ) → 0 < place → 0 ≡ cond (eqb place 0) n 0
+count-none place n h = rw (ne-eqb place 0 (λ e. omega arith)) refl
+
+pub count-all : (place n : ℕ) → place ≡ 0 → n ≡ cond (eqb place 0) n 0
+count-all place n z = rw z refl
+
+-- the first k of some cells
+pub taken-long : (k : ℕ) (l : List ℕ) → k ≤ length l → k ≡ length (take k l)
+taken-long k l h = sym (length-take-le k l h)
+
+-- the candidate of a text, as it is found
+module _ (s : List ℕ) {shape : Shape} (is-shape : shape ≡ shapeIn s) where
+  printable : (worst : ℕ) → worst ≡ worstIn (shape .rows) s → Printable (cellsIn shape s) shape worst
+  printable worst is-worst =
+      subst (Printable (cellsIn shape s) shape) (sym is-worst)
+      (subst (λ h. Printable (cellsIn h s) h (worstIn (h .rows) s)) (sym is-shape) (candidate-printable s))
+
+  -- what the writing of its cells asks
+  pub cells-ask : (shape .observed ≤ kindLimit) × ((shape .rows ≤ beliefLimit) × (shape .rows * rowSize ≤ tableSize))
+  cells-ask =
+      let z = printable (worstIn (shape .rows) s) refl .sized in
+      (z .seen, (z .few, omega (arith, z .few)))
+
+  -- its cells stand in a memory
+  module _ (memory : List ℕ) {cells : List ℕ} (are-cells : cells ≡ written (cellsIn shape s) memory) where
+    pub cells-in : shape .rows * rowSize ≤ length cells
+    cells-in = front-in (cellsIn shape s) memory cells (shape .rows * rowSize) (sym (cells-length shape s)) are-cells
+
+    cells-taken : take (shape .rows * rowSize) cells ≡ cellsIn shape s
+    cells-taken = front-taken (cellsIn shape s) memory cells (shape .rows * rowSize) (sym (cells-length shape s)) are-cells
+
+    pub cells-long : shape .rows * rowSize ≡ length (take (shape .rows * rowSize) cells)
+    cells-long = taken-length (cellsIn shape s) memory cells (shape .rows * rowSize) (sym (cells-length shape s)) are-cells
+
+    -- so many of them are copied, and these are the cells that are to be written
+    module _ (place : ℕ) {n : ℕ} (is-count : n ≡ cond (eqb place 0) (shape .rows * rowSize) 0) where
+      pub count-le : n ≤ shape .rows * rowSize
+      count-le =
+          subst (λ k. k ≤ shape .rows * rowSize) (sym is-count)
+          (cond-elim (λ k. k ≤ shape .rows * rowSize) (eqb place 0) (shape .rows * rowSize) 0 (λ e. le-refl _) (λ e. omega arith))
+
+      copied : take n cells ≡ cellsAt place (cellsIn shape s)
+      copied = ap (λ k. take k cells) is-count ∙ at place
+        where
+          at : (k : ℕ) → take (cond (eqb k 0) (shape .rows * rowSize) 0) cells ≡ cellsAt k (cellsIn shape s)
+          at zero = cells-taken
+          at (suc k) = rw (ne-eqb (suc k) 0 (λ e. omega arith)) refl
+
+    module _ {worst : ℕ} (is-worst : worst ≡ worstIn (shape .rows) s) where
+      abbrev print : List ℕ
+      print = tableText (take (shape .rows * rowSize) cells) shape worst
+
+      -- what the comparison asks
+      pub print-asks : (shape .observed ≤ kindLimit)
+          × ((shape .rows * rowSize ≤ length (take (shape .rows * rowSize) cells)) × (length print ≤ textSize))
+      print-asks =
+          let p = printable worst is-worst in
+          let fits = text-fits (cellsIn shape s) shape worst (printable-says (cellsIn shape s) shape worst .1 p) in
+          (p .sized .seen, (omega (arith, cells-long), subst (λ t. length (tableText t shape worst) ≤ textSize) (sym cells-taken) fits))
+
+      module _ (table : List ℕ) (room : tableSize ≤ length table) {place : ℕ} (is-place : place ≡ difference 1 s print) where
+        place-is : difference 1 s (printIn s) ≡ place
+        unfolding printIn
+        place-is =
+            sym
+            (is-place ∙ ap (λ t. difference 1 s (tableText t shape worst)) cells-taken
+            ∙ ap (λ w. difference 1 s (tableText (cellsIn shape s) shape w)) is-worst
+            ∙ ap (λ h. difference 1 s (tableText (cellsIn h s) h (worstIn (h .rows) s))) is-shape)
+
+        pub load-done : {n : ℕ} → n ≡ cond (eqb place 0) (shape .rows * rowSize) 0 → (r : Loaded) → r ≡ loadedAt place shape worst
+            → (after : List ℕ) → after ≡ written (take n cells) table → Loads s table r after
+        unfolding loadedBy cellsBy
+        load-done is-count r q after e =
+            let enough = le-ltb (length table) tableSize room in
+            let answer : loadedBy (length table) s ≡ loadedAt place (shapeIn s) (worstIn (shapeIn s .rows) s) = rw (enough, place-is) refl in
+            let due : cellsBy (length table) s ≡ cellsAt place (cellsIn (shapeIn s) s) = rw (enough, place-is) refl in
+            loads s table r after
+            (q ∙ ap (loadedAt place shape) is-worst ∙ ap (λ (h : Shape). loadedAt place h (worstIn (h .rows) s)) is-shape ∙ sym answer)
+            (e ∙ ap (λ c. written c table) (copied place is-count ∙ ap (λ (h : Shape). cellsAt place (cellsIn h s)) is-shape ∙ sym due))

@@ -1,0 +1,107 @@
+-- The lines of a print, and their fields.
+-- Assumes nothing.
+use Prim.Native.Nat.{ℕ, suc, _+_, _-_, _^_, _≤_, _<_}
+use native.Mathlib.Omega.{arith}
+use mathlib.Core.Path.{_≡_, refl, ap, _∙_}
+use mathlib.Core.Bool.{Bool, true}
+use mathlib.Core.List.{List, [], _∷_, _++_, append-assoc, flatMap}
+use lib.ListN.{getD}
+use borrow.Author.Tests.{ne-eqb}
+use Rattle.basics.specs.Bytes.{bytesOf, notTab, notLineEnd}
+use Rattle.basics.specs.Lists.{tabulate}
+use Rattle.basics.specs.Pieces.{Unparted, fieldAt, lineAt}
+use Rattle.basics.specs.Text.{decimal, field}
+use Rattle.basics.proofs.Booleans.{cond-elim}
+use Rattle.basics.proofs.PiecesLaws.{unparted-append, unparted-decimal, AllUnparted, unparted-table, unparted-fields, field-of}
+use Rattle.play.specs.Cells.{firstCell, isStop, nextCell}
+use Rattle.printer.specs.Text.{nextFields, rowFields, rowText, tableText}
+use Rattle.tables.specs.declared.shape.Shape.{Shape}
+use Rattle.loader.specs.LoadedAs.{Lines}
+use Rattle.loader.proofs.WholeLines.{line-here, line-next, lines-more, lines-are, line-of, line-last}
+
+-- ---- what does not part
+
+no-tab : (b : ℕ) → 48 ≤ b → b < 58 → notTab b ≡ true
+no-tab b l h = rw (ne-eqb b 9 (λ e. omega arith)) refl
+
+no-end : (b : ℕ) → 48 ≤ b → b < 58 → notLineEnd b ≡ true
+no-end b l h = rw (ne-eqb b 10 (λ e. omega arith)) refl
+
+-- ---- the first line without its end
+
+abbrev pub headBody : ℕ → ℕ → List ℕ
+headBody rows worst = bytesOf "table" ++ flatMap field (decimal rows ∷ decimal worst ∷ [])
+
+module _ (rows worst : ℕ) where
+  head-whole : Unparted notLineEnd (headBody rows worst)
+  head-whole =
+      unparted-append notLineEnd (bytesOf "table") (flatMap field (decimal rows ∷ decimal worst ∷ [])) (refl, (refl, (refl, (refl, (refl, tt)))))
+      (unparted-fields notLineEnd refl (decimal rows ∷ decimal worst ∷ [])
+      (unparted-decimal notLineEnd no-end rows, (unparted-decimal notLineEnd no-end worst, tt)))
+
+  head-field : (k : ℕ) → fieldAt k (headBody rows worst) ≡ getD (bytesOf "table" ∷ decimal rows ∷ decimal worst ∷ []) k []
+  head-field =
+      field-of (bytesOf "table") (decimal rows ∷ decimal worst ∷ []) (refl, (refl, (refl, (refl, (refl, tt)))))
+      (unparted-decimal notTab no-tab rows, (unparted-decimal notTab no-tab worst, tt))
+
+  pub head-rows : fieldAt 1 (headBody rows worst) ≡ decimal rows
+  head-rows = head-field 1
+
+  pub head-worst : fieldAt 2 (headBody rows worst) ≡ decimal worst
+  head-worst = head-field 2
+
+-- ---- the line of a row without its end
+
+abbrev pub rowBody : List ℕ → Shape → ℕ → List ℕ
+rowBody t shape i = bytesOf "row" ++ flatMap field (decimal i ∷ rowFields t shape i)
+
+module _ (t : List ℕ) (shape : Shape) (i : ℕ) where
+  fields-whole : (p : ℕ → Bool) → ((b : ℕ) → 48 ≤ b → b < 58 → p b ≡ true) → Unparted p (bytesOf "stop") → AllUnparted p (rowFields t shape i)
+  fields-whole p digit word =
+      cond-elim (AllUnparted p) (isStop t i) (bytesOf "stop" ∷ []) (decimal (firstCell t i) ∷ nextFields t i (2 ^ (shape .observed)))
+      (λ e. (word, tt))
+      (λ e. (
+        unparted-decimal p digit (firstCell t i),
+        unparted-table p (2 ^ (shape .observed)) (λ s. decimal (nextCell t i s)) (λ s. unparted-decimal p digit (nextCell t i s)),
+      ))
+
+  row-whole : Unparted notLineEnd (rowBody t shape i)
+  row-whole =
+      unparted-append notLineEnd (bytesOf "row") (flatMap field (decimal i ∷ rowFields t shape i)) (refl, (refl, (refl, tt)))
+      (unparted-fields notLineEnd refl (decimal i ∷ rowFields t shape i)
+      (unparted-decimal notLineEnd no-end i, fields-whole notLineEnd no-end (refl, (refl, (refl, (refl, tt))))))
+
+  -- what stands behind the row's number
+  pub row-field : (k : ℕ) → fieldAt (2 + k) (rowBody t shape i) ≡ getD (rowFields t shape i) k []
+  row-field k =
+      let e : 2 + k ≡ suc (suc k) = omega arith in
+      ap (λ n. fieldAt n (rowBody t shape i)) e
+      ∙ field-of (bytesOf "row") (decimal i ∷ rowFields t shape i) (refl, (refl, (refl, tt)))
+      (unparted-decimal notTab no-tab i, fields-whole notTab no-tab (refl, (refl, (refl, (refl, tt))))) (suc (suc k))
+
+-- ---- all lines
+
+module _ (t : List ℕ) (shape : Shape) (worst : ℕ) where
+  abbrev rows : ℕ
+  rows = shape .rows
+
+  abbrev behindHead : List ℕ
+  behindHead = flatMap (rowText t shape) (tabulate rows (λ i. i))
+
+  pub print-lines : Lines (suc rows) (tableText t shape worst)
+  print-lines =
+      lines-more (headBody rows worst) (head-whole rows worst) rows behindHead (lines-are (rowBody t shape) (row-whole t shape) rows (λ i. i))
+
+  split : tableText t shape worst ≡ headBody rows worst ++ (10 ∷ behindHead)
+  split = append-assoc (headBody rows worst) (10 ∷ []) behindHead
+
+  pub print-head : lineAt 0 (tableText t shape worst) ≡ headBody rows worst
+  print-head = ap (lineAt 0) split ∙ line-here (headBody rows worst) behindHead (head-whole rows worst)
+
+  pub print-row : (i : ℕ) → i < rows → lineAt (suc i) (tableText t shape worst) ≡ rowBody t shape i
+  print-row i h =
+      ap (lineAt (suc i)) split ∙ line-next (headBody rows worst) behindHead (head-whole rows worst) i
+      ∙ line-of (rowBody t shape) (row-whole t shape) rows (λ i. i) i h
+
+  pub print-end : lineAt (suc rows) (tableText t shape worst) ≡ []
+  print-end = line-last (suc rows) (tableText t shape worst) print-lines

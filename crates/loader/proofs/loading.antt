@@ -1,0 +1,2 @@
+-- What the proofs of the functions for the loading call use.
+pub mod CopyLoop

@@ -1,0 +1,4 @@
+-- A table read back from its text.
+pub mod Candidate
+pub mod Difference
+pub mod LoadedAs
