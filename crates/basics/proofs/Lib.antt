@@ -1,4 +1,6 @@
 -- General laws.
+-- the order of a step
+pub mod OrderLaws
 -- Booleans, and searches below a bound
 pub mod Booleans
 pub mod SaysLaws

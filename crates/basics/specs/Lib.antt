@@ -1,6 +1,7 @@
 -- What belongs to no layer.
--- sizes that several layers build on
+-- sizes that several layers build on, and the order of a step
 pub mod Limits
+pub mod Order
 -- lists, and statements as Booleans
 pub mod Lists
 pub mod Member

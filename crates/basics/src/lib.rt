@@ -3,6 +3,7 @@
 mod bytes;
 mod memory;
 mod numbers;
+mod order;
 mod pieces;
 mod sizes;
 mod text;
@@ -16,6 +17,7 @@ pub use memory::clear_words;
 pub use numbers::Number;
 pub use numbers::number_below;
 pub use numbers::number_in;
+pub use order::Order;
 pub use pieces::behind;
 pub use pieces::field;
 pub use pieces::piece;

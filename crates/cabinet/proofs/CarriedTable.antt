@@ -2,28 +2,30 @@
 -- Assumes nothing.
 use Prim.Native.Nat.{ℕ, _*_, _≤_, _<_}
 use native.Mathlib.Nat.{le-refl}
-use native.Mathlib.Omega.{arith}
 use mathlib.Core.Path.{_≡_, refl, sym, ap, _∙_, subst}
 use mathlib.Core.Logic.{_↔_, inl, inr}
-use mathlib.Core.Bool.{Bool, true, false}
+use mathlib.Core.Bool.{true, false}
 use mathlib.Core.List.{List, [], _∷_}
 use lib.Dec.{ltb}
 use lib.ListN.{length, take}
 use borrow.Author.Tests.{le-ltb, ltb-false}
+use Rattle.basics.specs.declared.order.Order.{Order}
+use Rattle.basics.specs.declared.order.Order.the-variants.{Set, Read}
 use Rattle.basics.proofs.Booleans.{test}
 use Rattle.basics.proofs.BoundedLaws.{all-fails}
 use Rattle.basics.proofs.ListsLaws.{front-in, front-taken}
 use Rattle.lines.proofs.RefusalLaws.{told-apart}
-use Rattle.lines.specs.Refusal.{Told, values}
+use Rattle.lines.specs.Refusal.{Told}
 use Rattle.rules.specs.Denotes.{Denotes}
 use Rattle.rules.specs.Problem.{Problem}
-use Rattle.play.specs.Cells.{rowSize, tableSize, firstCell, isStop, nextCell}
+use Rattle.play.specs.Cells.{rowSize, tableSize, isStop, nextCell}
 use Rattle.play.proofs.CellsLaws.{stop-taken}
-use Rattle.play.specs.Game.{set, Play, Decision, choose, stop}
+use Rattle.play.specs.Game.{Play}
 use Rattle.play.specs.Table.{tableStrategy}
 use Rattle.tables.specs.declared.shape.Shape.{Shape}
+use Rattle.game.specs.declared.solving.Solved.the-variants as solved
 use Rattle.game.specs.Solution.{gameOf}
-use Rattle.game.specs.SolvedAs.{SolvedAs}
+use Rattle.game.specs.SolvedAs.{toldSolved, SolvedAs}
 use Rattle.loader.specs.declared.loading.Loaded.the-variants.{Table}
 use Rattle.loader.specs.LoadedAs.{loadedBy, cellsBy, tableAfter, toldLoaded, IsPrint, TableOf, toldShape}
 use Rattle.loader.proofs.LoadedIffDue.{accepted-iff as print-iff, loaded-iff}
@@ -35,11 +37,22 @@ use Rattle.printer.proofs.WellFormedLaws.{printable-says}
 use Rattle.cabinet.specs.declared.position.Position.{Position}
 use Rattle.cabinet.specs.declared.printing.Printed.the-variants.{Text}
 use Rattle.cabinet.specs.declared.position.Moved.{Moved}
-use Rattle.cabinet.specs.Position.{positionAt, startOf, stepOf, toldAnswer, Standing, started, Holds, SteppedAs, bad-place, stopped, bad-observation, moved}
+use Rattle.cabinet.specs.Position.{startOf, stepOf, toldAnswer, Standing, startChoice, stepChoice, started}
+use Rattle.cabinet.specs.Position.{Held, Holds, SteppedAs, bad-place, stopped, bad-observation, moved}
 use Rattle.cabinet.specs.Print.{printedBy, bytesBy, toldPrinted, IsPrinted}
 use Rattle.cabinet.specs.Running.{stepAll, answerTo, Runs}
 use Rattle.cabinet.proofs.AnswersDue.{start-iff, step-due}
-use Rattle.cabinet.proofs.SolvedTable.{running, passes, solves}
+use Rattle.cabinet.proofs.RunningLaws.{row-goes}
+use Rattle.cabinet.proofs.SolvedTable.{some, running, can-print, solves}
+
+-- the standing choice is the row's after a start, and after a step
+start-held : (o : Order) (t : List ℕ) → Held o t (record { row = 0; choice = startChoice o t })
+start-held Set t = refl
+start-held Read t = tt
+
+step-held : (o : Order) (t : List ℕ) (row s : ℕ) → Held o t (record { row = nextCell o t row s; choice = stepChoice o t row s })
+step-held Set t row s = refl
+step-held Read t row s = tt
 
 -- a table that is not refused is printed as its text
 printed-so : (s t : List ℕ) (shape : Shape) (worst room : ℕ) → textSize ≤ room → Printable t shape worst → tableText t shape worst ≡ s
@@ -66,13 +79,13 @@ module _ (s t : List ℕ) (shape : Shape) (worst : ℕ) (e : loadedBy (length t)
   is : TableOf s shape worst cells
   is = loaded-iff s (length t) (had-room (length t) s shape worst e) shape worst cells .0 (e, refl)
 
-  loaded-rows : take (shape .rows * rowSize) (tableAfter s t) ≡ cells
-  loaded-rows = front-taken cells t (tableAfter s t) (shape .rows * rowSize) (sym (is .exact)) refl
+  loaded-rows : take (shape .rows * rowSize (shape .order)) (tableAfter s t) ≡ cells
+  loaded-rows = front-taken cells t (tableAfter s t) (shape .rows * rowSize (shape .order)) (sym (is .exact)) refl
 
   printable : Printable (tableAfter s t) shape worst
-      × (tableText (tableAfter s t) shape worst ≡ tableText (take (shape .rows * rowSize) (tableAfter s t)) shape worst)
+      × (tableText (tableAfter s t) shape worst ≡ tableText (take (shape .rows * rowSize (shape .order)) (tableAfter s t)) shape worst)
   printable =
-      behind-rows (tableAfter s t) shape worst (front-in cells t (tableAfter s t) (shape .rows * rowSize) (sym (is .exact)) refl)
+      behind-rows (tableAfter s t) shape worst (front-in cells t (tableAfter s t) (shape .rows * rowSize (shape .order)) (sym (is .exact)) refl)
       (subst (λ c. Printable c shape worst) (sym loaded-rows) (is .printable))
 
   loaded-text : tableText (tableAfter s t) shape worst ≡ s
@@ -92,7 +105,10 @@ module _ (s t : List ℕ) (shape : Shape) (worst : ℕ) (e : loadedBy (length t)
   holds-on observation p h a q (bad-place n) = h
   holds-on observation p h a q (stopped k e) = h
   holds-on observation p h a q (bad-observation k n o) = h
-  holds-on observation p h a q (moved k n o) = (standing (nextCell (tableAfter s t) (p .row) observation) (h .0 .good .next n observation o .0), refl)
+  holds-on observation p h a q (moved k n o) = (
+    standing (nextCell (shape .order) (tableAfter s t) (p .row) observation) (h .0 .good .goes n observation o .next),
+    step-held (shape .order) (tableAfter s t) (p .row) observation,
+  )
 
   steps-hold : (h : List ℕ) (m : Moved) → Holds (tableAfter s t) shape (m .position) → Holds (tableAfter s t) shape (stepAll (tableAfter s t) shape m h .position)
   steps-hold [] m k = k
@@ -104,8 +120,8 @@ module _ (s t : List ℕ) (shape : Shape) (worst : ℕ) (e : loadedBy (length t)
   start-holds old =
       let at-0 = standing 0 (printable .0 .sized .some) in
       subst (Holds (tableAfter s t) shape)
-      (sym (start-iff (tableAfter s t) shape old (values (firstCell (tableAfter s t) 0 ∷ [])) (positionAt (tableAfter s t) 0) .1 (started at-0) .1))
-      (at-0, refl)
+      (sym (start-iff (tableAfter s t) shape old _ _ .1 (started at-0) .1))
+      (at-0, start-held (shape .order) (tableAfter s t))
 
   pub loaded-holds : (old : Position) (h : List ℕ)
       → Holds (tableAfter s t) shape (stepAll (tableAfter s t) shape (startOf (tableAfter s t) shape old) h .position)
@@ -141,55 +157,51 @@ accepted-iff s cells h = (λ a. is-printed s (print-iff s cells h .0 a), λ p. p
 
 pub load-printed : (t : List ℕ) (shape : Shape) (worst room n : ℕ) → printedBy t shape worst room ≡ Text n → (cells : ℕ) → tableSize ≤ cells
     → (loadedBy cells (bytesBy t shape worst room) ≡ Table (toldShape t shape) worst)
-    × (cellsBy cells (bytesBy t shape worst room) ≡ take (shape .rows * rowSize) t)
+    × (cellsBy cells (bytesBy t shape worst room) ≡ take (shape .rows * rowSize (shape .order)) t)
 load-printed t shape worst room n e cells h =
     let (p, q) = was-printed t shape worst room n e in
     rw q
-    (loaded-iff (tableText t shape worst) cells h (toldShape t shape) worst (take (shape .rows * rowSize) t) .1
+    (loaded-iff (tableText t shape worst) cells h (toldShape t shape) worst (take (shape .rows * rowSize (shape .order)) t) .1
     (table-of-print t shape worst (printable-says t shape worst .0 p)))
 
 -- ---- a table that the solver gives
 
 module _ (work room : ℕ) (source : List ℕ) (shape : Shape) (r : ℕ) (table : List ℕ)
-    (due : SolvedAs work room source (values (shape .rows ∷ shape .observed ∷ r ∷ [])) (take (shape .rows * rowSize) table)) (p : Problem)
+    (due : SolvedAs work room source (toldSolved (solved.Table shape r)) (take (shape .rows * rowSize (shape .order)) table)) (p : Problem)
     (denotes : Denotes source p) where
   abbrev used : List ℕ
-  used = take (shape .rows * rowSize) table
+  used = take (shape .rows * rowSize (shape .order)) table
 
-  some : 0 < shape .rows
-  some = omega (arith, solves work room source shape r table due p denotes .below)
+  begins : 0 < shape .rows
+  begins = some work room source shape r table due p denotes
 
   -- row 0 goes on, so the text tells the number of observed signals
-  goes : isStop table 0 ≡ false
+  goes : isStop (shape .order) table 0 ≡ false
   goes =
-      let (c, opens) = solves work room source shape r table due p denotes .optimal .isStrategy .opens in
-      sym (stop-taken (shape .rows) table 0 some) ∙ on c (isStop used 0) opens
-    where
-      on : (c : ℕ) (b : Bool) → _≡_ {A = Decision set} (elim b [ true ↦ stop | false ↦ choose (firstCell used 0) ]) (choose c) → b ≡ false
-      on c true e = let z : _≡_ {A = ℕ} 0 1 = cc in absurd (omega arith)
-      on c false e = refl
+      let (a, opens) = solves work room source shape r table due p denotes .optimal .isStrategy .opens in
+      sym (stop-taken (shape .order) (shape .rows) table 0 begins) ∙ row-goes (shape .order) used 0 a opens .0
 
   told : toldShape table shape ≡ shape
-  told = rw (all-fails (shape .rows) (isStop table) 0 some goes) refl
+  told = rw (all-fails (shape .rows) (isStop (shape .order) table) 0 begins goes) refl
 
   module _ (t : List ℕ) (h : tableSize ≤ length t) where
     abbrev text : List ℕ
     text = tableText table shape r
 
+    loads : (loadedBy (length t) text ≡ Table (toldShape table shape) r) × (cellsBy (length t) text ≡ used)
+    loads =
+        loaded-iff text (length t) h (toldShape table shape) r used .1
+        (table-of-print table shape r (can-print work room source shape r table due p denotes))
+
     pub carried : loadedBy (length t) text ≡ Table shape r
-    carried =
-        subst (λ x. loadedBy (length t) text ≡ Table x r) told
-        (loaded-iff text (length t) h (toldShape table shape) r used .1
-        (table-of-print table shape r (printable-says table shape r .0 (passes work room source shape r table due p denotes))) .0)
+    carried = subst (λ x. loadedBy (length t) text ≡ Table x r) told (loads .0)
 
-    same-rows : take (shape .rows * rowSize) (tableAfter text t) ≡ used
-    same-rows =
-        loaded-rows text t shape r carried
-        ∙ loaded-iff text (length t) h (toldShape table shape) r used .1
-        (table-of-print table shape r (printable-says table shape r .0 (passes work room source shape r table due p denotes))) .1
+    same-rows : take (shape .rows * rowSize (shape .order)) (tableAfter text t) ≡ used
+    same-rows = loaded-rows text t shape r carried ∙ loads .1
 
-    pub carried-running : (old : Position) (play : Play (gameOf p)) → Runs (gameOf p) (tableStrategy used) r (answerTo (tableAfter text t) shape old) play
+    pub carried-running : (old : Position) (play : Play (gameOf p))
+        → Runs (gameOf p) (tableStrategy (shape .order) used) r (answerTo (tableAfter text t) shape old) play
     carried-running old play =
-        subst (λ c. Runs (gameOf p) (tableStrategy c) r (answerTo (tableAfter text t) shape old) play) same-rows
+        subst (λ c. Runs (gameOf p) (tableStrategy (shape .order) c) r (answerTo (tableAfter text t) shape old) play) same-rows
         (running work room source shape r (tableAfter text t)
-        (subst (SolvedAs work room source (values (shape .rows ∷ shape .observed ∷ r ∷ []))) (sym same-rows) due) p denotes old play)
+        (subst (SolvedAs work room source (toldSolved (solved.Table shape r))) (sym same-rows) due) p denotes old play)

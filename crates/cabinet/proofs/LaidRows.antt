@@ -1,104 +1,114 @@
--- A table laid out as the solver lays it passes the tests of printer and cabinet. It may stand at the front of more cells.
+-- A table laid out as the solver lays it is one that the printer prints and the cabinet runs. It may stand at the front of more cells.
 -- Assumes nothing.
 use Prim.Native.Nat.{ℕ, _*_, _^_, _≤_, _<_}
-use native.Mathlib.Nat.{not-suc-le-zero}
 use native.Mathlib.Omega.{arith}
 use mathlib.Core.Path.{_≡_, sym, _∙_, subst}
 use mathlib.Core.Logic.{inl, inr}
-use mathlib.Core.Bool.{true, false, _||_}
 use mathlib.Core.List.{List}
-use lib.Dec.{eqb, ltb}
 use lib.ListN.{length, take, length-take}
-use borrow.Author.Tests.{lt-ltb, ltb-false, le-leb, eqb-true, eq-eqb}
+use lib.Pow.{pow-pos}
+use borrow.Author.Tests.{eqb-true}
 use Rattle.basics.specs.Limits.{kindLimit}
+use Rattle.basics.specs.declared.order.Order.{Order}
+use Rattle.basics.specs.declared.order.Order.the-variants.{Set, Read}
 use Rattle.play.specs.Limits.{beliefLimit, sideLimit}
-use Rattle.play.specs.Cells.{rowSize, stopCell, firstCell, isStop, nextCell}
-use Rattle.play.proofs.CellsLaws.{first-taken, next-taken, stop-taken}
+use Rattle.play.specs.Cells.{rowSize, stopCell, firstOf, firstCell, choiceCell, nextCell, Blank}
+use Rattle.play.proofs.CellsLaws.{first-same, first-taken, choice-taken, next-taken, stop-taken}
 use Rattle.tables.specs.declared.shape.Shape.{Shape}
-use Rattle.play.specs.Table.{LaidRow, Laid}
-use Rattle.basics.proofs.BoundedLaws.{all-of}
-use Rattle.basics.proofs.Booleans.{test, clash, and-true, or-intro-left, or-intro-right}
-use Rattle.printer.specs.WellFormed.{isSized, isAnswer, isNext, nextCount, isRow, isBlank, isPrintableRow, isPrintable}
+use Rattle.play.specs.Table.{GoesRow, LaidRow, Laid}
+use Rattle.printer.specs.WellFormed.{Sized, firstLimit, IsFirst, GoodRow, Unused, Printable}
 use Rattle.printer.proofs.WellFormedLaws.{side-le}
+use Rattle.cabinet.specs.Position.{Standing}
+
+-- the first cell of a row that goes on is no stop
+first-goes : (o : Order) (c : ℕ) → c < firstLimit o → ¬ (c ≡ stopCell)
+first-goes Set c h e = omega arith
+first-goes Read c h e = omega arith
+
+-- the first cell goes by the choices, which are few
+first-few : (o : Order) (choices : ℕ) (answer : ℕ → ℕ) → choices ≤ sideLimit → answer 0 < choices → firstOf o answer < firstLimit o
+first-few Set choices answer few h = omega arith
+first-few Read choices answer few h = omega arith
+
+same-blank : (o : Order) (t u : List ℕ) (i s : ℕ) → choiceCell o t i s ≡ choiceCell o u i s → nextCell o t i s ≡ nextCell o u i s
+    → Blank o t i s → Blank o u i s
+same-blank Set t u i s c m z = sym m ∙ z
+same-blank Read t u i s c m z = (sym c ∙ z .0, sym m ∙ z .1)
 
 module _ (choices : ℕ) (shape : Shape) (t : List ℕ) (few-choices : choices ≤ sideLimit) (few-observed : shape .observed ≤ kindLimit)
     (some : 0 < shape .rows) (within : shape .rows ≤ beliefLimit)
-    (laid : Laid choices (2 ^ (shape .observed)) (shape .rows) (take (shape .rows * rowSize) t)) where
+    (laid : Laid (shape .order) choices (2 ^ (shape .observed)) (shape .rows) (take (shape .rows * rowSize (shape .order)) t)) where
+  abbrev o : Order
+  o = shape .order
+
   abbrev n : ℕ
   n = shape .rows
 
-  abbrev observed : ℕ
-  observed = shape .observed
+  abbrev observations : ℕ
+  observations = 2 ^ (shape .observed)
 
-  long : n * rowSize ≤ length t
-  long = omega (arith, sym (length-take (n * rowSize) t) ∙ laid .long)
+  few-observations : observations ≤ sideLimit
+  few-observations = side-le (shape .observed) few-observed
 
-  -- a row is a stop row without next rows, or has a choice and next rows; its unused cells are 0
-  row-laid : (i : ℕ) → i < n → LaidRow choices (2 ^ observed) n t i
-  row-laid i h =
-      elim (laid .row i h) [
-        | inl (s, z) ↦ inl (sym (stop-taken n t i h) ∙ s, λ k b. sym (next-taken n t i h k b) ∙ z k b)
-        | inr (c, m, z) ↦
-            inr (
-              subst (λ k. k < choices) (first-taken n t i h) c,
-              λ k b. subst (λ k. k < n) (next-taken n t i h k (omega (arith, b, side-le observed few-observed))) (m k b),
-              λ k o b. sym (next-taken n t i h k b) ∙ z k o b,
-            )
-      ]
+  sized : Sized (length t) shape
+  sized = record {
+    some = some;
+    few = within;
+    room = omega (arith, sym (length-take (n * rowSize o) t) ∙ laid .long);
+    seen = few-observed;
+  }
 
-  pub sized : isSized (length t) shape ≡ true
-  sized = rw (lt-ltb 0 n some, le-leb n beliefLimit within, le-leb (n * rowSize) (length t) long, le-leb observed kindLimit few-observed)
+  module _ (i : ℕ) (h : i < n) where
+    blank-taken : (s : ℕ) → s < sideLimit → Blank o (take (n * rowSize o) t) i s → Blank o t i s
+    blank-taken s b = same-blank o (take (n * rowSize o) t) t i s (choice-taken o n t i h s b) (next-taken o n t i h s b)
 
-  -- a row's first cell is a choice or stop
-  answers : (i : ℕ) → i < n → isAnswer (firstCell t i) ≡ true
-  answers i h =
+    -- a row is a stop row, or goes on; its unused cells are 0
+    row-laid : LaidRow o choices observations n t i
+    row-laid =
+        elim (laid .row i h) [
+          | inl (s, z) ↦ inl (sym (stop-taken o n t i h) ∙ s, λ s b. blank-taken s b (z s b))
+          | inr g ↦
+              inr (record {
+                first = sym (first-taken o n t i h) ∙ g .first
+                    ∙ first-same o (choiceCell o (take (n * rowSize o) t) i) (choiceCell o t i) (choice-taken o n t i h 0 (omega arith));
+                choice = λ s b. subst (λ c. c < choices) (choice-taken o n t i h s (omega (arith, b, few-observations))) (g .choice s b);
+                next = λ s b. subst (λ c. c < n) (next-taken o n t i h s (omega (arith, b, few-observations))) (g .next s b);
+                unused = λ s u b. blank-taken s b (g .unused s u b);
+              })
+        ]
+
+    goes-first : GoesRow o choices observations n t i → firstCell o t i < firstLimit o
+    goes-first g =
+        subst (λ c. c < firstLimit o) (sym (g .first))
+        (first-few o choices (choiceCell o t i) few-choices (g .choice 0 (pow-pos (shape .observed))))
+
+    is-first : IsFirst o (firstCell o t i)
+    is-first = elim row-laid [ inl (s, z) ↦ inr (eqb-true (firstCell o t i) stopCell s) | inr g ↦ inl (goes-first g) ]
+
+  row-good : (i : ℕ) (h : i < n) → GoodRow t shape i
+  row-good i h =
       elim (row-laid i h) [
-        | inl (s, z) ↦ or-intro-right (ltb (firstCell t i) sideLimit) s
-        | inr (c, m, z) ↦ or-intro-left (isStop t i) (lt-ltb (firstCell t i) sideLimit (omega (arith, c, few-choices)))
+        | inl (s, z) ↦ record { first = is-first i h; goes = λ m. absurd (m (eqb-true (firstCell o t i) stopCell s)) }
+        | inr g ↦
+            record {
+              first = is-first i h;
+              goes = λ m s b. record {
+                choice = omega (arith, g .choice s b, few-choices);
+                next = g .next s b;
+                first = is-first (nextCell o t i s) (g .next s b);
+              };
+            }
       ]
 
-  -- a row that does not stop leads to rows, and its other cells are unused
-  pub goes-on : (i : ℕ) → i < n → isStop t i ≡ false → (s : ℕ) → s < 2 ^ observed → nextCell t i s < n
-  goes-on i h f s b = elim (row-laid i h) [ inl (e, z) ↦ clash e f | inr (c, m, z) ↦ m s b ]
-
-  unused : (i : ℕ) → i < n → (s : ℕ) → s < sideLimit → nextCount t shape i ≤ s → nextCell t i s ≡ 0
-  unused i h s b o =
+  row-blank : (i : ℕ) → i < n → (s : ℕ) → s < sideLimit → Unused t shape i s → Blank o t i s
+  row-blank i h s b u =
       elim (row-laid i h) [
         | inl (e, z) ↦ z s b
-        | inr (c, m, z) ↦
-            elim (test (isStop t i)) [
-              | inl e ↦ let k = eqb-true (firstCell t i) stopCell e in absurd (omega (arith, c, k, few-choices))
-              | inr f ↦ z s (rw f at o) b
-            ]
+        | inr g ↦ elim u [ inl e ↦ absurd (first-goes o (firstCell o t i) (goes-first i h g) e) | inr l ↦ g .unused s l b ]
       ]
 
-  pub row-passes : (i : ℕ) → i < n → isRow t shape i ≡ true
-  unfolding isRow
-  row-passes i h = and-true (answers i h) (all-of (nextCount t shape i) (λ s. isNext t shape (nextCell t i s)) next)
-    where
-      next : (s : ℕ) → s < nextCount t shape i → isNext t shape (nextCell t i s) ≡ true
-      next s b =
-          elim (test (isStop t i)) [
-            | inl e ↦ absurd (not-suc-le-zero (rw e at b))
-            | inr f ↦ let m = goes-on i h f s (rw f at b) in and-true (lt-ltb (nextCell t i s) n m) (answers (nextCell t i s) m)
-          ]
+  pub standing : (i : ℕ) → i < n → Standing t shape i
+  standing i h = record { sized = sized; inside = h; good = row-good i h }
 
-  blank-passes : (i : ℕ) → i < n → isBlank t shape i ≡ true
-  unfolding isBlank
-  blank-passes i h = all-of sideLimit (λ s. ltb s (nextCount t shape i) || eqb (nextCell t i s) 0) blank
-    where
-      blank : (s : ℕ) → s < sideLimit → (ltb s (nextCount t shape i) || eqb (nextCell t i s) 0) ≡ true
-      blank s b =
-          elim (test (ltb s (nextCount t shape i))) [
-            | inl e ↦ or-intro-left (eqb (nextCell t i s) 0) e
-            | inr f ↦ or-intro-right (ltb s (nextCount t shape i)) (eq-eqb (nextCell t i s) 0 (unused i h s b (ltb-false s (nextCount t shape i) f)))
-          ]
-
-  pub printable : (r : ℕ) → r < n → isPrintable t shape r ≡ true
-  unfolding isPrintable isPrintableRow
-  printable r b =
-      rw (
-        sized,
-        lt-ltb r n b,
-        all-of n (isPrintableRow t shape) (λ i h. and-true (row-passes i h) (blank-passes i h)),
-      )
+  pub printable : (r : ℕ) → r < n → Printable t shape r
+  printable r b = record { sized = sized; below = b; each = λ i h. record { good = row-good i h; blank = row-blank i h } }

@@ -2,6 +2,7 @@
 use Prim.Native.Nat.{ℕ, _*_, _≤_, _<_}
 use mathlib.Core.Path.{_≡_}
 use mathlib.Core.Logic.{_↔_, _⊎_}
+use mathlib.Core.Bool.{true}
 use mathlib.Core.List.{List, [], _∷_}
 use lib.ListN.{length, take, drop, replicate}
 use Rattle.lines.specs.Refusal.{Told, values, refused}
@@ -9,17 +10,18 @@ use Rattle.rules.specs.Denotes.{Denotes}
 use Rattle.rules.specs.Problem.{Problem}
 use Rattle.play.specs.Cells.{rowSize, tableSize}
 use Rattle.tables.specs.declared.shape.Shape.{Shape}
-use Rattle.play.specs.Game.{Play}
+use Rattle.play.specs.Game.{Play, Strategy}
 use Rattle.play.specs.Table.{tableStrategy}
 use Rattle.game.specs.Solution.{gameOf}
-use Rattle.game.specs.SolvedAs.{tableAfter, Short, SolvedAs}
+use Rattle.game.specs.declared.solving.Solved.the-variants as solved
+use Rattle.game.specs.SolvedAs.{toldSolved, tableAfter, Short, SolvedAs}
 use Rattle.loader.specs.declared.loading.Loaded.the-variants.{Table}
 use Rattle.loader.specs.LoadedAs.{loadedBy, cellsBy, tableAfter as loadedTable, toldShape}
 use Rattle.cabinet.specs.declared.position.Position.{Position}
 use Rattle.cabinet.specs.declared.printing.Printed.the-variants.{Text}
 use Rattle.printer.specs.Limits.{textSize}
 use Rattle.printer.specs.Text.{tableText}
-use Rattle.cabinet.specs.Position.{startOf, stepOf, toldAnswer, StartedAs, Holds, SteppedAs}
+use Rattle.cabinet.specs.Position.{startOf, stepOf, isStopped, toldAnswer, StartedAs, Holds, SteppedAs}
 use Rattle.cabinet.specs.Print.{printedBy, bytesBy, textAfter, toldPrinted, IsPrinted, PrintedAs}
 use Rattle.cabinet.specs.Response.{respondedBy, bytesFor, responseAfter, respondedTable, respondedWork, RespondedAs}
 use Rattle.cabinet.specs.Running.{stepAll, answerTo, Runs}
@@ -68,16 +70,22 @@ pub print-rest : (t : List ℕ) (shape : Shape) (worst : ℕ) (x : List ℕ) (n 
     → toldPrinted (printedBy t shape worst (length x)) ≡ values (n ∷ []) → drop n (textAfter t shape worst x) ≡ drop n x
 print-rest = AnswersDue.text-rest
 
--- the start: 13, or row 0 and its choice
+-- the start: 13, or row 0, under `Set` with its choice
 pub starting : (t : List ℕ) (shape : Shape) (old : Position) (a : Told) (p : Position)
     → ((toldAnswer (startOf t shape old .answer) ≡ a) × (startOf t shape old .position ≡ p)) ↔ StartedAs t shape old a p
 starting = AnswersDue.start-iff
 
--- a step: 13, 14, 15 in this order, or the next row for the observation and its choice
+-- a step: 13, 14, 15 in this order, or the next row for the observation, under `Set` with that row's choice, under `Read` with the old row's
+-- for the observation
 pub stepping : (t : List ℕ) (shape : Shape) (observation : ℕ) (old : Position) (a : Told) (p : Position)
     → ((toldAnswer (stepOf t shape observation old .answer) ≡ a) × (stepOf t shape observation old .position ≡ p))
     ↔ SteppedAs t shape observation old a p
 stepping = AnswersDue.step-iff
+
+-- the position is told to be stopped exactly where a step is refused with 14, whatever the observation
+pub stopped : (t : List ℕ) (shape : Shape) (observation : ℕ) (p : Position)
+    → (isStopped t shape p ≡ true) ↔ (toldAnswer (stepOf t shape observation p .answer) ≡ refused 14 0)
+stopped = AnswersDue.stopped-iff
 
 -- ---- printing and loading undo each other (`loader/proofs/Main` has what is loaded from any text)
 
@@ -100,19 +108,25 @@ loaded-holds = CarriedTable.loaded-holds
 -- and is loaded with none
 pub load-printed : (t : List ℕ) (shape : Shape) (worst room n : ℕ) → printedBy t shape worst room ≡ Text n → (cells : ℕ) → tableSize ≤ cells
     → (loadedBy cells (bytesBy t shape worst room) ≡ Table (toldShape t shape) worst)
-    × (cellsBy cells (bytesBy t shape worst room) ≡ take (shape .rows * rowSize) t)
+    × (cellsBy cells (bytesBy t shape worst room) ≡ take (shape .rows * rowSize (shape .order)) t)
 load-printed = CarriedTable.load-printed
 
 -- ---- DEMAND 3 carried to the desk
 
 -- of a table that the solver gives (`SolvedAs` is what its contract says of it), for the problem p that the text denotes
 module _ (work room : ℕ) (source : List ℕ) (shape : Shape) (r : ℕ) (table : List ℕ)
-    (due : SolvedAs work room source (values (shape .rows ∷ shape .observed ∷ r ∷ [])) (take (shape .rows * rowSize) table)) (p : Problem)
+    (due : SolvedAs work room source (toldSolved (solved.Table shape r)) (take (shape .rows * rowSize (shape .order)) table)) (p : Problem)
     (denotes : Denotes source p) where
-  -- the running cabinet: started at any old position and stepped with the observations of any play, it makes the
+  -- its rows, read as a strategy of its order, which is the problem's
+  abbrev strategy : Strategy (shape .order)
+  strategy = tableStrategy (shape .order) (take (shape .rows * rowSize (shape .order)) table)
+
+  pub ordered : shape .order ≡ p .order
+  ordered = SolvedTable.ordered work room source shape r table due p denotes
+
+  -- the running cabinet, under either order: started at any old position and stepped with the observations of any play, it makes the
   -- strategy's choices, is refused nothing, and stops within the worst case with a trace that satisfies the problem
-  pub running : (old : Position) (play : Play (gameOf p))
-      → Runs (gameOf p) (tableStrategy (take (shape .rows * rowSize) table)) r (answerTo table shape old) play
+  pub running : (old : Position) (play : Play (gameOf p)) → Runs (gameOf p) strategy r (answerTo table shape old) play
   running = SolvedTable.running work room source shape r table due p denotes
 
   -- printing it into enough room is never refused
@@ -126,5 +140,5 @@ module _ (work room : ℕ) (source : List ℕ) (shape : Shape) (r : ℕ) (table 
     carried = CarriedTable.carried work room source shape r table due p denotes t enough
 
     pub carried-running : (old : Position) (play : Play (gameOf p))
-        → Runs (gameOf p) (tableStrategy (take (shape .rows * rowSize) table)) r (answerTo (loadedTable (tableText table shape r) t) shape old) play
+        → Runs (gameOf p) strategy r (answerTo (loadedTable (tableText table shape r) t) shape old) play
     carried-running = CarriedTable.carried-running work room source shape r table due p denotes t enough

@@ -49,7 +49,7 @@ module _ (t : List ℕ) (shape : Shape) (worst : ℕ) (text : List ℕ) where
       passes = sym e ∙ not-false a f
 
       -- what the writing of the table asks
-      pub print-asks : (shape .observed ≤ kindLimit) × ((shape .rows * rowSize ≤ length t) × (length (tableText t shape worst) ≤ length text))
+      pub print-asks : (shape .observed ≤ kindLimit) × ((shape .rows * rowSize (shape .order) ≤ length t) × (length (tableText t shape worst) ≤ length text))
       print-asks =
           let s = printable-says t shape worst .0 passes .sized in
           (s .seen, (s .room, le-trans (text-fits t shape worst passes) h))

@@ -26,7 +26,8 @@ use Rattle.basics.specs.Lists.{written}
 use Rattle.basics.proofs.ListsLaws.{written-rest}
 use Rattle.basics.specs.Says.{Says}
 use Rattle.basics.proofs.SaysLaws.{says-or, says-false, lt-says}
-use Rattle.game.specs.SolvedAs.{isShort, solvedFrom, solvedBy, toldSolved, cellsFrom, cellsBy, tableAfter, workAfter, usedRows, Controller, Short, SolvedAs}
+use Rattle.game.specs.SolvedAs.{isShort, solvedFrom, solvedBy, toldSolved, cellsFrom, cellsBy, tableAfter, workAfter, usedRows}
+use Rattle.game.specs.SolvedAs.{Controller, Short, SolvedAs}
 use Rattle.game.proofs.SolvedAsLaws.{short-says, not-short, due-read, answered-iff, RowCells, due-cells, same-solved}
 use Rattle.game.proofs.LentMemory.{work-kept, work-cleared}
 use Rattle.game.proofs.SolvedAsCases.{due-table}
@@ -36,9 +37,11 @@ use Rattle.printer.specs.Limits.{textSize}
 use Rattle.printer.specs.WellFormed.{isPrintable}
 use Rattle.printer.specs.Text.{tableText, refusalText}
 use Rattle.cabinet.specs.Print.{printedBy, bytesBy, textAfter, toldPrinted, usedText}
-use Rattle.cabinet.specs.Response.{solvedText, response, isTight, respondedBy, bytesFor, responseAfter, respondedTable, respondedWork, RespondedAs, short-memory, answered}
+use Rattle.cabinet.specs.Response.{solvedText, response, isTight, respondedBy, bytesFor, responseAfter, respondedTable}
+use Rattle.cabinet.specs.Response.{respondedWork, RespondedAs, short-memory, answered}
 use Rattle.cabinet.proofs.AnswersDue.{OwnBytes}
-use Rattle.cabinet.proofs.SolvedTable.{passes}
+use Rattle.printer.proofs.WellFormedLaws.{printable-says}
+use Rattle.cabinet.proofs.SolvedTable.{can-print}
 
 -- the whole call: its answer, and what it leaves in text, table and work memory
 abbrev Responded : (source work table text : List ℕ) → Printed → (text′ table′ work′ : List ℕ) → Type 0
@@ -78,10 +81,11 @@ module _ (source : List ℕ) where
 
 -- the cells of a table that is answered are those of its rows
 cells-count : (source : List ℕ) (shape : Shape) (r : ℕ) → solvedFrom (readProblem source) ≡ solved.Table shape r
-    → length (cellsFrom (readProblem source)) ≡ shape .rows * rowSize
+    → length (cellsFrom (readProblem source)) ≡ shape .rows * rowSize (shape .order)
 cells-count source shape r e =
     subst (λ z. RowCells (toldSolved z) (cellsFrom (readProblem source))) e
     (due-cells workSize tableSize source _ _ (due-read source workSize tableSize (not-short workSize tableSize refl)))
+    (shape .rows) (shape .observed) r (shape .order) refl
 
 -- memory that is long enough
 pub text-long : (work table text : ℕ) → isTight work table text ≡ false → textSize ≤ text
@@ -131,43 +135,51 @@ module _ (source work table text : List ℕ) (e : isTight (length work) (length 
       (due : SolvedAs (length work) (length table) source (toldSolved s) (usedRows s table′)) where
     -- how many cells its rows have
     abbrev size : ℕ
-    size = shape .rows * rowSize
+    size = shape .rows * rowSize (shape .order)
 
     is-table : solvedFrom (readProblem source) ≡ solved.Table shape r
     is-table = sym is-solved ∙ h
 
-    table-due : SolvedAs (length work) (length table) source (values (shape .rows ∷ shape .observed ∷ r ∷ [])) (take size table′)
+    table-due : SolvedAs (length work) (length table) source (toldSolved (solved.Table shape r)) (take size table′)
     table-due = subst (λ z. SolvedAs (length work) (length table) source (toldSolved z) (usedRows z table′)) h due
 
-    controller : (p : Problem) × Denotes source p × (shape .observed ≡ p .signals .observed) × Controller p (shape .rows) r (take size table′)
-    controller = due-table (length work) (length table) source (shape .rows) (shape .observed) r (take size table′) table-due
+    controller : (p : Problem) × Denotes source p × (shape .observed ≡ p .signals .observed) × (shape .order ≡ p .order)
+        × Controller p (shape .rows) r (take size table′)
+    controller = due-table (length work) (length table) source (shape .rows) (shape .observed) r (shape .order) (take size table′) table-due
 
     front : take size table′ ≡ cellsFrom (readProblem source)
     front = ap (take size) is-written ∙ take-at (cellsFrom (readProblem source)) _ size (cells-count source shape r is-table)
 
-    front-due : SolvedAs (length work) (length table) source (values (shape .rows ∷ shape .observed ∷ r ∷ [])) (take size (take size table′))
+    front-due : SolvedAs (length work) (length table) source (toldSolved (solved.Table shape r)) (take size (take size table′))
     front-due =
-        subst (SolvedAs (length work) (length table) source (values (shape .rows ∷ shape .observed ∷ r ∷ []))) (sym (take-take size size table′ (omega arith)))
+        subst (SolvedAs (length work) (length table) source (toldSolved (solved.Table shape r))) (sym (take-take size size table′ (omega arith)))
         table-due
 
-    -- its rows are within the table
+    -- its rows are few
     pub few-rows : shape .rows ≤ beliefLimit
-    few-rows = let (p, d, o, c) = controller in c .solves .within
+    few-rows = let (p, d, k, o, c) = controller in c .solves .within
 
-    pub rows-within : size ≤ length table′
-    rows-within = let (p, d, o, c) = controller in omega (arith, sym (length-take size table′) ∙ c .isTable .long)
+    prints : isPrintable (take size table′) shape r ≡ true
+    prints =
+        let (p, d, k, o, c) = controller in
+        printable-says (take size table′) shape r .1
+        (can-print (length work) (length table) source shape r (take size table′) front-due p d)
 
-    can-print : isPrintable (take size table′) shape r ≡ true
-    can-print =
-        let (p, d, o, c) = controller in passes (length work) (length table) source shape r (take size table′) front-due p d
+    -- they end where the code says
+    module _ (end : ℕ) (ends : end ≡ size) where
+      pub rows-within : end ≤ length table′
+      rows-within =
+          let (p, d, k, o, c) = controller in
+          let long : length (take size table′) ≡ size = c .isTable .long ∙ ap (λ q. shape .rows * rowSize q) (sym o) in
+          omega (arith, ends, sym (length-take size table′) ∙ long)
 
-    pub table-right : (q : Printed) (text′ : List ℕ) → q ≡ printedBy (take size table′) shape r (length text)
-        → text′ ≡ textAfter (take size table′) shape r text → Responded source work table text q text′ table′ work′
-    unfolding printedBy bytesBy
-    table-right q text′ p t =
-        let is : tableText (take size table′) shape r ≡ response source =
-        ap (λ cells. tableText cells shape r) front ∙ sym (response-table source shape r is-table) in
-        responded q text′ (p ∙ rw (long, can-print) (ap (λ l. Text (length l)) is)) (t ∙ rw (long, can-print) (ap (λ l. written l text) is))
+      pub table-right : (q : Printed) (text′ : List ℕ) → q ≡ printedBy (take end table′) shape r (length text)
+          → text′ ≡ textAfter (take end table′) shape r text → Responded source work table text q text′ table′ work′
+      unfolding printedBy bytesBy
+      table-right q text′ p t =
+          let is : tableText (take size table′) shape r ≡ response source =
+          ap (λ cells. tableText cells shape r) front ∙ sym (response-table source shape r is-table) in
+          responded q text′ (p ∙ rw (ends, long, prints) (ap (λ l. Text (length l)) is)) (t ∙ rw (ends, long, prints) (ap (λ l. written l text) is))
 
 -- what is written stands in the text
 pub text-within : (source : List ℕ) (work table : ℕ) (text : List ℕ) (r : Printed) (text′ : List ℕ) → r ≡ respondedBy work table (length text) source

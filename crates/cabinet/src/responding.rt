@@ -11,8 +11,8 @@ use lines::Refusal;
 use printer::TEXT_SIZE;
 use printer::put_refusal;
 use rules::WORK_SIZE;
-use tables::ROW;
 use tables::TABLE_SIZE;
+use tables::row_size;
 
 // Solves a problem and writes its table, or the refusal, as text. Refusal: 12, which touches nothing. Otherwise only the text's own
 // bytes change, at the front; the table and the work memory are left as `solve` leaves them.
@@ -31,7 +31,8 @@ pub fn respond(source: &[u8], work: &mut [u8], table: &mut [u16], text: &mut [u8
     }
     match solve(source, work, table) {
         Solved::Table { shape, worst_case } => {
-            let end = shape.rows * ROW;
+            let order = shape.order;
+            let end = shape.rows * row_size(order);
             print(&table[..end], shape, worst_case, text)
         }
         Solved::Refused(r) => Printed::Text(put_refusal(text, r)),

@@ -1,9 +1,13 @@
 // What a call answers, written as fields behind the case's name.
+use basics::Order;
 use cabinet::Answer;
 use cabinet::Loaded;
 use cabinet::Moved;
 use cabinet::Printed;
+use cabinet::is_stopped;
+use game::Shape;
 use game::Solved;
+use lines::order_of;
 use rules::Reading;
 use rules::Refusal;
 use rules::Verdict;
@@ -31,13 +35,21 @@ fn refused(r: Refusal) {
     tell_two(b"\trefused\t", rules::number(r), rules::place(r));
 }
 
-// How many signals of each kind, parts and temporal operators were read.
+fn order(o: Order) {
+    match o {
+        Order::Set => say(b"\tset"),
+        Order::Read => say(b"\tread"),
+    }
+}
+
+// How many signals of each kind, parts and temporal operators were read, and the order.
 pub(crate) fn reading(r: Reading) {
     match r {
         Reading::Accepted(s) => {
             tell_two(b"\tread\t", s.outputs, s.observed);
             tell_two(b"\t", s.hidden, s.parts);
             tell(b"\t", s.operators);
+            order(order_of(s));
         }
         Reading::Refused(x) => refused(x),
     }
@@ -51,18 +63,27 @@ pub(crate) fn verdict(v: Verdict) {
     }
 }
 
+// The first word of a table's text, rows and worst case.
+fn table(shape: Shape, worst: usize) {
+    let o = shape.order;
+    match o {
+        Order::Set => tell_two(b"\ttable\t", shape.rows, worst),
+        Order::Read => tell_two(b"\trtable\t", shape.rows, worst),
+    }
+}
+
 pub(crate) fn solved(s: Solved) {
     match s {
-        Solved::Table { shape, worst_case } => tell_two(b"\ttable\t", shape.rows, worst_case),
+        Solved::Table { shape, worst_case } => table(shape, worst_case),
         Solved::Refused(r) => refused(r),
     }
 }
 
-// Rows, worst case and observed signals.
+// The same with the observed signals.
 pub(crate) fn loaded(l: Loaded) {
     match l {
         Loaded::Table { shape, worst_case } => {
-            tell_two(b"\ttable\t", shape.rows, worst_case);
+            table(shape, worst_case);
             tell(b"\t", shape.observed);
         }
         Loaded::Refused(r) => refused(r),
@@ -94,14 +115,19 @@ fn choice(a: Answer) {
     match a {
         Answer::Choice(c) => tell(b"\tchoice\t", c as usize),
         Answer::Stop => say(b"\tstop"),
+        Answer::Ready => say(b"\tready"),
         Answer::Refused(r) => refused(r),
     }
 }
 
-// The answer and the position behind it.
-pub(crate) fn moved(m: Moved) {
+// The answer and the position behind it, and whether the cabinet stands on a stop row there.
+pub(crate) fn moved(table: &[u16], shape: Shape, m: Moved) {
     let answer = m.answer;
     choice(answer);
-    tell(b"\trow\t", m.position.row);
-    tell(b"\tchoice\t", m.position.choice as usize);
+    let position = m.position;
+    tell(b"\trow\t", position.row);
+    tell(b"\tchoice\t", position.choice as usize);
+    if is_stopped(table, shape, position) {
+        say(b"\tstopped");
+    }
 }

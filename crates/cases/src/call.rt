@@ -11,6 +11,7 @@ use crate::cards::prefixes;
 use crate::line::argument;
 use crate::line::read_numbers;
 use crate::line::read_text;
+use crate::line::shape_at;
 use crate::memory::look_at;
 use crate::memory::look_at_cells;
 use crate::memory::look_at_work;
@@ -20,8 +21,6 @@ use crate::parts::list;
 use basics::field;
 use basics::same;
 use cabinet::Position;
-use game::ROW;
-use game::Shape;
 use game::TABLE_SIZE;
 use rules::WORK_SIZE;
 
@@ -44,27 +43,27 @@ fn solve(line: &[u8], source: &[u8], cells: &[u16], work: &mut [u8]) {
 }
 
 fn print(line: &[u8], expected: &[u8], table: &[u16], text: &mut [u8]) {
-    let rows = argument(line, 5);
+    let shape = shape_at(line, 5, 7, 8);
     let worst = argument(line, 6);
-    let observed = argument(line, 7);
-    let shape = Shape { rows, observed };
     printed(cabinet::print(table, shape, worst, text));
     look_at(text, expected, 1);
 }
 
 // Starts a table, or steps it from a position.
 fn run(line: &[u8], table: &[u16], starts: bool) {
-    let rows = argument(line, 5);
-    let observed = argument(line, 6);
-    let shape = Shape { rows, observed };
+    let shape = shape_at(line, 5, 6, 10);
     let row = argument(line, 7);
     let choice = argument(line, 8) as u16;
     let position = Position { row, choice };
     if starts {
-        return moved(cabinet::start_from(table, shape, position));
+        return moved(table, shape, cabinet::start_from(table, shape, position));
     }
     let observation = argument(line, 9);
-    moved(cabinet::step_from(table, shape, observation, position));
+    moved(
+        table,
+        shape,
+        cabinet::step_from(table, shape, observation, position),
+    );
 }
 
 // Whether call k has this name.
@@ -112,12 +111,9 @@ fn call_with(line: &[u8], text: &[u8], cells: &[u16]) {
     call_in(line, text, cells, &mut memory[..n]);
 }
 
-// Room for one row more than a table may have.
-const CELLS: usize = TABLE_SIZE + ROW;
-
 // Makes the call with the list of numbers.
 fn call_on(line: &[u8], text: &[u8]) {
-    let mut cells = [0u16; CELLS];
+    let mut cells = [0u16; TABLE_SIZE];
     let n = read_numbers(field(line, 3), &mut cells);
     call_with(line, text, &cells[..n]);
 }

@@ -1,20 +1,23 @@
 // Tables and their texts: what is loaded is printed again, and what is printed is loaded again.
+ghost use Prim.Native.Nat.{_<_};
 use crate::answer::fault;
 use crate::answer::loaded;
 use crate::answer::printed;
 use crate::answer::solved;
 use crate::line::argument;
+use crate::line::shape_at;
 use crate::memory::look_at;
 use crate::memory::look_at_cells;
 use crate::memory::look_at_work;
 use crate::memory::ones;
+use basics::Order;
 use cabinet::Loaded;
 use cabinet::Printed;
-use game::ROW;
 use game::Shape;
 use game::Solved;
 use game::TABLE_SIZE;
 use streams::first;
+use tables::SIDE_LIMIT;
 
 // Says so where the print of a loaded table is not its text.
 fn look_at_print(l: Loaded, cells: &[u16], text: &[u8]) {
@@ -81,27 +84,45 @@ pub(crate) fn card(source: &[u8], work: &mut [u8]) {
     }
 }
 
+// Cells of a row.
+const SET_ROW: usize = 1 + SIDE_LIMIT;
+
+const READ_ROW: usize = 1 + 2 * SIDE_LIMIT;
+
+// Room for one row more than a table may have.
+const CELLS: usize = TABLE_SIZE + READ_ROW;
+
+fn row_size(order: Order) -> usize
+    ensures { λ r. ⌜ 0 < r ⌝ }
+{
+    match order {
+        Order::Set => SET_ROW,
+        Order::Read => READ_ROW,
+    }
+}
+
 // Cell k of a row; 0 behind its end.
 fn cell_at(row: &[u16], k: usize) -> u16 {
     if k < row.len() { row[k] } else { 0 }
 }
 
-// Puts a row into a table, again and again up to a place.
-fn put_rows(cells: &mut [u16], row: &[u16], end: usize) {
+// Puts a row of so many cells into a table, again and again, as far as there is room for so many rows.
+fn put_rows(cells: &mut [u16], row: &[u16], size: usize, rows: usize)
+    requires { ⌜ 0 < size ⌝ }
+{
     let mut i = 0;
-    while i < end && i < cells.len() {
-        cells[i] = cell_at(row, i % ROW);
+    while i < cells.len() && i / size < rows {
+        cells[i] = cell_at(row, i % size);
         i += 1;
     }
 }
 
 // Copies a table of equal rows.
 pub(crate) fn fill(line: &[u8], row: &[u16]) {
-    let rows = argument(line, 5);
+    let shape = shape_at(line, 5, 7, 8);
     let worst = argument(line, 6);
-    let observed = argument(line, 7);
-    let shape = Shape { rows, observed };
-    let mut cells = [1u16; TABLE_SIZE];
-    put_rows(&mut cells, row, rows * ROW);
+    let mut cells = [1u16; CELLS];
+    let order = shape.order;
+    put_rows(&mut cells, row, row_size(order), shape.rows);
     copy(&cells, shape, worst);
 }

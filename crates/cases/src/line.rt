@@ -1,15 +1,17 @@
-// The texts and numbers in a line's fields. In a text `\n` is a line end, `\t` a tab, `\r` a carriage return and `\\` a backslash, and
-// `\2` is all that stands before it in the text once more: `\n\2\2` is four line ends. Numbers are decimal, and those of a list are
-// parted by single spaces.
+// The texts, numbers and shapes in a line's fields. In a text `\n` is a line end, `\t` a tab, `\r` a carriage return and `\\` a backslash,
+// and `\2` is all that stands before it in the text once more: `\n\2\2` is four line ends. Numbers are decimal. Those of a list are parted
+// by single spaces, and `z` before a number is so many zeros: `1 z3` is `1 0 0 0`.
 ghost use Prim.Native.Nat.{_≤_, _<_};
 ghost use lib.ListN.{length};
 use crate::answer::wrong;
 use basics::Class;
 use basics::Number;
+use basics::Order;
 use basics::field;
 use basics::number_in;
 use basics::past;
 use basics::put_byte;
+use game::Shape;
 
 // The number that digits stand for; 0 where they are wrong.
 fn number(digits: &[u8]) -> usize
@@ -35,6 +37,27 @@ pub(crate) fn argument(line: &[u8], k: usize) -> usize
     number(digits)
 }
 
+// The order in a field: 0 or nothing for `set`, 1 for `read`.
+fn order_at(line: &[u8], k: usize) -> Order {
+    match argument(line, k) {
+        0 => Order::Set,
+        1 => Order::Read,
+        _ => {
+            wrong();
+            Order::Set
+        }
+    }
+}
+
+// The shape whose row count, observed signals and order stand in these fields.
+pub(crate) fn shape_at(line: &[u8], rows: usize, observed: usize, order: usize) -> Shape {
+    Shape {
+        rows: argument(line, rows),
+        observed: argument(line, observed),
+        order: order_at(line, order),
+    }
+}
+
 // Puts a number behind others, and answers how many there are then.
 fn put_number(numbers: &mut [u16], n: usize, digits: &[u8]) -> usize
     requires { ⌜ n ≤ length (now numbers) ⌝ }
@@ -48,8 +71,31 @@ fn put_number(numbers: &mut [u16], n: usize, digits: &[u8]) -> usize
     n
 }
 
-// The place behind a number, where a space or the list's end has to stand.
-fn number_end(list: &[u8], from: usize) -> usize
+// How many numbers there are with k zeros behind n others, of at most `most`. Numbers that are not put are 0.
+fn with_zeros(n: usize, k: usize, most: usize) -> usize
+    requires { ⌜ n ≤ most ⌝ }
+    ensures { λ r. ⌜ r ≤ most ⌝ }
+{
+    if k > most - n {
+        wrong();
+        return n;
+    }
+    n + k
+}
+
+// Puts what a word of a list stands for behind n numbers, and answers how many there are then.
+fn put_word(numbers: &mut [u16], n: usize, word: &[u8]) -> usize
+    requires { ⌜ n ≤ length (now numbers) ⌝ }
+    ensures { λ r. ⌜ r ≤ length (now (numbers .exit)) ⌝ }
+{
+    if word.len() > 0 && word[0] == b'z' {
+        return with_zeros(n, number(&word[1..]), numbers.len());
+    }
+    put_number(numbers, n, word)
+}
+
+// The place behind a word, where a space or the list's end has to stand.
+fn word_end(list: &[u8], from: usize) -> usize
     requires { ⌜ from ≤ length (now list) ⌝ }
     ensures { λ r. ⌜ (from ≤ r) × (r ≤ length (now (list .entry))) ⌝ }
 {
@@ -60,15 +106,15 @@ fn number_end(list: &[u8], from: usize) -> usize
     end
 }
 
-// Reads numbers parted by spaces, and answers how many there are.
+// Reads a list into numbers that are 0 before, and answers how many there are.
 pub(crate) fn read_numbers(list: &[u8], numbers: &mut [u16]) -> usize
     ensures { λ r. ⌜ r ≤ length (now (numbers .exit)) ⌝ }
 {
     let mut n = 0;
     let mut i = 0;
     while i < list.len() {
-        let end = number_end(list, i);
-        n = put_number(numbers, n, &list[i..end]);
+        let end = word_end(list, i);
+        n = put_word(numbers, n, &list[i..end]);
         i = end + 1;
     }
     n

@@ -7,6 +7,7 @@ use crate::answer::wrong;
 use crate::line::argument;
 use crate::line::read_numbers;
 use basics::field;
+use lines::OrderSoFar;
 use lines::PART_LIMIT;
 use lines::Sizes;
 use records::PartList;
@@ -78,6 +79,7 @@ fn judge_by(line: &[u8], numbers: &[u16], trace: &[u16]) {
         hidden: argument(line, 8),
         parts: argument(line, 9),
         operators: 0,
+        order: OrderSoFar::Open,
     };
     let l = PartList {
         codes: codes_of(numbers),

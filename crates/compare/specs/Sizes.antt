@@ -16,6 +16,10 @@ patternCount = 2 ^ bitCount
 abbrev pub letterCount : ℕ
 letterCount = pairLimit * sideLimit
 
+-- cells of a row: under `read` a first one, and two for each observation
+abbrev pub longRow : ℕ
+longRow = suc (2 * sideLimit)
+
 -- counts of states and of beliefs that say that there are too many
 abbrev pub manyStates : ℕ
 manyStates = suc stateLimit

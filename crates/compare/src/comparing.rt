@@ -1,10 +1,10 @@
 // Both solvers on one problem, which may be written in two ways.
 ghost use Prim.Native.Nat.{_+_, _<_};
 ghost use lib.ListN.{length};
-ghost use Rattle.play.specs.Cells.{tableSize};
 use crate::plain;
 use crate::plain::Answer;
 use crate::plain::Table;
+use crate::plain::is_read;
 use crate::plain::refused;
 use basics::same;
 use game::Solved;
@@ -13,8 +13,6 @@ use rules::SOURCE_LIMIT;
 use rules::WORK_SIZE;
 use rules::number;
 use rules::place;
-use tables::BELIEF_LIMIT;
-use tables::ROW;
 use tables::TABLE_SIZE;
 
 // Room for a text: one byte more than a problem may have.
@@ -35,12 +33,16 @@ pub struct Compared {
 // The answer of the proved solver, told as the plain one tells it.
 fn told(s: Solved) -> Answer {
     match s {
-        Solved::Table { shape, worst_case } => Answer {
-            number: 0,
-            place: 0,
-            rows: shape.rows,
-            worst_case,
-        },
+        Solved::Table { shape, worst_case } => {
+            let order = shape.order;
+            Answer {
+                number: 0,
+                place: 0,
+                rows: shape.rows,
+                worst_case,
+                read: is_read(order),
+            }
+        }
         Solved::Refused(r) => refused(number(r), place(r)),
     }
 }
@@ -50,6 +52,7 @@ fn same_answer(a: Answer, b: Answer) -> bool {
         & (a.place == b.place)
         & (a.rows == b.rows)
         & (a.worst_case == b.worst_case)
+        & (a.read == b.read)
 }
 
 // Whether work memory is all zero.
@@ -62,31 +65,21 @@ fn is_clear(work: &[u8]) -> bool {
     true
 }
 
-// The cell that a table must have at a place: those of so many rows, and behind them what was there before.
-fn expected(cells: &Table, rows: usize, i: usize) -> u16
-    requires { ⌜ i < tableSize ⌝ }
-{
-    if i / ROW < rows {
-        return cells[i / ROW][i % ROW];
-    }
-    BEFORE
-}
-
-fn same_cells(table: &[u16; TABLE_SIZE], cells: &Table, rows: usize) -> bool {
+fn same_cells(a: &Table, b: &Table) -> bool {
     for i in 0..TABLE_SIZE {
-        if table[i] != expected(cells, rows, i) {
+        if a[i] != b[i] {
             return false;
         }
     }
     true
 }
 
-// Whether the proved solver answers a text so, with these cells, and leaves no trace in work memory.
+// Whether the proved solver answers a text so, leaves a table with these cells, and no trace in work memory.
 fn answers(text: &[u8], answer: Answer, cells: &Table) -> bool {
     let mut work = [1u8; WORK_SIZE];
     let mut table = [BEFORE; TABLE_SIZE];
     let own = told(solve(text, &mut work, &mut table));
-    same_answer(own, answer) & is_clear(&work) & same_cells(&table, cells, answer.rows)
+    same_answer(own, answer) & is_clear(&work) & same_cells(&table, cells)
 }
 
 // Whether it answers a second text so too, where the texts differ.
@@ -96,7 +89,7 @@ fn answers_too(text: &[u8], other: &[u8], answer: Answer, cells: &Table) -> bool
 
 // Solves a text by both, and a second text of the same problem by the proved solver alone.
 pub(crate) fn compare(text: &[u8], other: &[u8]) -> Compared {
-    let mut cells = [[0u16; ROW]; BELIEF_LIMIT];
+    let mut cells = [BEFORE; TABLE_SIZE];
     let answer = plain::solve(text, &mut cells);
     Compared {
         number: answer.number,

@@ -1,8 +1,9 @@
 // Draws problems, solves each by the proved solver and by a plain one, and writes how many agree: the refusal and its place, or the row
-// count, the worst case and every cell of the table. A problem may be drawn in two ways, as with plan words and with what they stand for:
-// then the proved solver has to give the same answer to both. Standard input has a line for each kind of problems, in fields parted by
-// tabs: its name, the seed of the first problem, how many are drawn, and what `draw.rt` asks for. The answer has a line for each, with the
-// numbers that `summary.rt` counts. The first problem of a kind on which answers differ is written out, in both ways.
+// count, the worst case, the order and every cell of the table. Each problem is drawn under both orders of a step. It may be drawn in two
+// ways, as with plan words and with what they stand for: then the proved solver has to give the same answer to both. Standard input has a
+// line for each kind of problems, in fields parted by tabs: its name, the seed of the first problem, how many are drawn, and what `draw.rt`
+// asks for. The answer has a line for each kind and order, with the numbers that `summary.rt` counts. The first problem of a kind and an
+// order on which answers differ is written out before it, in both ways.
 use basics::Class;
 use basics::field;
 use basics::past;
@@ -12,6 +13,7 @@ use streams::Input;
 mod answer;
 mod comparing;
 mod draw;
+mod draw_formula;
 mod line;
 mod plain;
 mod plain_beliefs;
@@ -22,15 +24,16 @@ mod plain_sets;
 mod plain_states;
 mod summary;
 
-// Draws and compares the problems of a line, and answers whether the end of its line could be written.
+// Draws and compares the problems of a line, and answers whether the ends of its lines could be written.
 fn run(line: &[u8]) -> bool {
-    answer::say(field(line, 0));
+    let kind = field(line, 0);
     let seed = line::argument(line, 1);
-    let mut counts = [0u64; summary::CLASSES];
+    let mut set = [0u64; summary::CLASSES];
+    let mut read = [0u64; summary::CLASSES];
     for k in 0..line::argument(line, 2) {
-        summary::draw_one(line, (seed + k) as u64, &mut counts);
+        summary::draw_both(line, (seed + k) as u64, &mut set, &mut read);
     }
-    summary::write(&counts)
+    summary::write(kind, b"\tset", &set) && summary::write(kind, b"\tread", &read)
 }
 
 // Goes on up to a line that could not be written.
@@ -49,7 +52,7 @@ fn run_lines(input: &[u8]) -> bool {
 // The names of what is counted.
 fn write_names() -> bool {
     answer::say(
-        b"kind\tdrawn\tagree\ttables\t1\t2\t3\t4\t5\t6\t7\t8\t9\t10\t11\tover 1 step\tover 2 steps\thidden matter\talike\n",
+        b"kind\torder\tdrawn\tagree\ttables\t1\t2\t3\t4\t5\t6\t7\t8\t9\t10\t11\tover 1 step\tover 2 steps\thidden matter\talike\torder matters\n",
     )
 }
 

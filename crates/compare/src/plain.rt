@@ -17,27 +17,30 @@ use crate::plain_states::Successors;
 use crate::plain_states::Widths;
 use crate::plain_states::explore_states;
 use basics::OPERATOR_LIMIT;
+use basics::Order;
 use lines::PART_LIMIT;
 use lines::Reading;
 use lines::Sizes;
+use lines::order_of;
 use rules::number;
 use rules::place;
 use rules::read;
 use search::STATE_LIMIT;
 use tables::BELIEF_LIMIT;
 use tables::PAIR_LIMIT;
-use tables::ROW;
 use tables::SIDE_LIMIT;
+use tables::TABLE_SIZE;
 
-// A table, row by row.
-pub type Table = [[u16; ROW]; BELIEF_LIMIT];
+// A table, whose used rows stand at the front.
+pub type Table = [u16; TABLE_SIZE];
 
-// What is answered to a problem: the number and the place of a refusal, or 0 and 0 with a table's row count and worst case.
+// What is answered to a problem: the number and the place of a refusal, or 0 and 0 with a table's row count, worst case and order.
 pub struct Answer {
     pub number: usize,
     pub place: usize,
     pub rows: usize,
     pub worst_case: usize,
+    pub read: bool,
 }
 
 pub(crate) fn refused(number: usize, place: usize) -> Answer {
@@ -46,6 +49,7 @@ pub(crate) fn refused(number: usize, place: usize) -> Answer {
         place,
         rows: 0,
         worst_case: 0,
+        read: false,
     }
 }
 
@@ -72,7 +76,15 @@ fn power(k: usize, most: usize) -> usize
     n
 }
 
-// How many values the signals of each kind have.
+// Whether an order is `read`.
+pub(crate) fn is_read(order: Order) -> bool {
+    match order {
+        Order::Set => false,
+        Order::Read => true,
+    }
+}
+
+// How many values the signals of each kind have, and the order.
 fn widths(s: Sizes) -> Widths
     ensures { λ r. ⌜ (r .choices ≤ sideLimit) × (r .observations ≤ sideLimit) × (r .hiddens ≤ sideLimit) ⌝ }
 {
@@ -83,6 +95,7 @@ fn widths(s: Sizes) -> Widths
         choices: power(outputs, SIDE_LIMIT),
         observations: power(observed, SIDE_LIMIT),
         hiddens: power(hidden, SIDE_LIMIT),
+        read: is_read(order_of(s)),
     }
 }
 
@@ -105,6 +118,7 @@ fn solve_ranks(moves: &Moves, ranks: &Ranks, w: Widths, table: &mut Table) -> An
         place: 0,
         rows: put_table(moves, ranks, w, table),
         worst_case: steps(rank),
+        read: w.read,
     }
 }
 
@@ -137,7 +151,7 @@ fn solve_parts(parts: &[u32], operators: usize, w: Widths, table: &mut Table) ->
     solve_states(&states, &successors, w, table)
 }
 
-// Solves a problem. The table's cells are 0 before.
+// Solves a problem. Only the table's used rows change.
 pub(crate) fn solve(source: &[u8], table: &mut Table) -> Answer {
     let mut parts = [0u32; PART_LIMIT];
     match read(source, &mut parts) {

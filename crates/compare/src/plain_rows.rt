@@ -1,16 +1,17 @@
 // The table: a row for each belief met from the start by the choices taken.
 ghost use Prim.Native.Nat.{_≤_, _<_};
+ghost use Rattle.play.specs.Cells.{tableSize};
 ghost use Rattle.play.specs.Limits.{beliefLimit, sideLimit};
+ghost use Rattle.compare.specs.Sizes.{longRow};
 use crate::plain::Table;
 use crate::plain_beliefs::Moves;
 use crate::plain_ranks::Ranks;
-use crate::plain_ranks::smallest_choice;
+use crate::plain_ranks::best_choice;
 use crate::plain_sets::count_with;
 use crate::plain_sets::index;
 use crate::plain_states::Widths;
 use tables::BELIEF_LIMIT;
 use tables::PAIR_LIMIT;
-use tables::ROW;
 use tables::SIDE_LIMIT;
 use tables::STOP;
 
@@ -31,54 +32,115 @@ fn add_row(rows: &mut Rows, n: usize, belief: u8) -> usize
     n
 }
 
-// Writes a row that takes a choice, and answers how many rows there are then.
-fn put_row(
+// Cells of a row.
+const SET_ROW: usize = 1 + SIDE_LIMIT;
+
+const READ_ROW: usize = 1 + 2 * SIDE_LIMIT;
+
+fn row_size(read: bool) -> usize
+    ensures { λ r. ⌜ r ≤ longRow ⌝ }
+{
+    if read { READ_ROW } else { SET_ROW }
+}
+
+// Where cell k of a row stands.
+fn cell_at(read: bool, row: usize, k: usize) -> usize
+    requires { ⌜ row < beliefLimit ⌝ }
+    requires { ⌜ k < longRow ⌝ }
+    ensures { λ r. ⌜ r < tableSize ⌝ }
+{
+    if read {
+        row * READ_ROW + k
+    } else {
+        row * SET_ROW + k
+    }
+}
+
+fn clear_row(read: bool, row: usize, table: &mut Table)
+    requires { ⌜ row < beliefLimit ⌝ }
+{
+    for k in 0..row_size(read) {
+        table[cell_at(read, row, k)] = 0;
+    }
+}
+
+// Where in a row the choice for an observation stands, and where the next row.
+fn choice_at(read: bool, o: usize) -> usize
+    requires { ⌜ o < sideLimit ⌝ }
+    ensures { λ r. ⌜ r < longRow ⌝ }
+{
+    if read { 1 + 2 * o } else { 0 }
+}
+
+fn next_at(read: bool, o: usize) -> usize
+    requires { ⌜ o < sideLimit ⌝ }
+    ensures { λ r. ⌜ r < longRow ⌝ }
+{
+    if read { 2 + 2 * o } else { 1 + o }
+}
+
+// Writes the choice and the next row for an observation.
+fn put_move(read: bool, row: usize, o: usize, choice: u16, next: u16, table: &mut Table)
+    requires { ⌜ row < beliefLimit ⌝ }
+    requires { ⌜ o < sideLimit ⌝ }
+{
+    table[cell_at(read, row, choice_at(read, o))] = choice;
+    table[cell_at(read, row, next_at(read, o))] = next;
+}
+
+// Writes what the row of a belief with a rank does at each observation, and answers how many rows there are then.
+fn put_moves(
     moves: &[u8; PAIR_LIMIT],
-    observations: usize,
-    choice: usize,
+    ranks: &Ranks,
+    w: Widths,
+    rank: u16,
+    row: usize,
     n: usize,
     rows: &mut Rows,
-    cells: &mut [u16; ROW],
+    table: &mut Table,
 ) -> usize
-    requires { ⌜ observations ≤ sideLimit ⌝ }
-    requires { ⌜ choice < sideLimit ⌝ }
+    requires { ⌜ w .choices ≤ sideLimit ⌝ }
+    requires { ⌜ w .observations ≤ sideLimit ⌝ }
+    requires { ⌜ row < beliefLimit ⌝ }
     requires { ⌜ n ≤ beliefLimit ⌝ }
     ensures { λ r. ⌜ (n ≤ r) × (r ≤ beliefLimit) ⌝ }
 {
-    cells[0] = choice as u16;
     let mut m = n;
-    for o in 0..observations {
+    for o in 0..w.observations {
+        let choice = best_choice(moves, ranks, w, o, rank);
         let j = add_row(rows, m, moves[choice + SIDE_LIMIT * o]);
-        cells[1 + o] = j as u16;
+        put_move(w.read, row, o, choice as u16, j as u16, table);
         m = count_with(m, j, BELIEF_LIMIT);
     }
     m
 }
 
 // Writes the row of a belief with a rank, and answers how many rows there are then.
-fn put_belief(
+fn put_row(
     moves: &[u8; PAIR_LIMIT],
     ranks: &Ranks,
     w: Widths,
     rank: u16,
+    row: usize,
     n: usize,
     rows: &mut Rows,
-    cells: &mut [u16; ROW],
+    table: &mut Table,
 ) -> usize
     requires { ⌜ w .choices ≤ sideLimit ⌝ }
     requires { ⌜ w .observations ≤ sideLimit ⌝ }
+    requires { ⌜ row < beliefLimit ⌝ }
     requires { ⌜ n ≤ beliefLimit ⌝ }
     ensures { λ r. ⌜ (n ≤ r) × (r ≤ beliefLimit) ⌝ }
 {
+    clear_row(w.read, row, table);
     if rank == 0 {
-        cells[0] = STOP;
+        table[cell_at(w.read, row, 0)] = STOP;
         return n;
     }
-    let choice = smallest_choice(moves, ranks, w, rank);
-    put_row(moves, w.observations, choice, n, rows, cells)
+    put_moves(moves, ranks, w, rank, row, n, rows, table)
 }
 
-// Writes the table, whose cells are 0 before, and answers how many rows it has.
+// Writes the table, and answers how many rows it has.
 pub(crate) fn put_table(moves: &Moves, ranks: &Ranks, w: Widths, table: &mut Table) -> usize
     requires { ⌜ w .choices ≤ sideLimit ⌝ }
     requires { ⌜ w .observations ≤ sideLimit ⌝ }
@@ -90,7 +152,7 @@ pub(crate) fn put_table(moves: &Moves, ranks: &Ranks, w: Widths, table: &mut Tab
     while i < n {
         let b = index(rows[i]);
         let rank = ranks[b];
-        n = put_belief(&moves[b], ranks, w, rank, n, &mut rows, &mut table[i]);
+        n = put_row(&moves[b], ranks, w, rank, i, n, &mut rows, table);
         i += 1;
     }
     n

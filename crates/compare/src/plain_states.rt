@@ -22,11 +22,12 @@ pub const LETTERS: usize = PAIR_LIMIT * SIDE_LIMIT;
 // The number of the state that each letter leads to, for each state.
 pub type Successors = [[u8; LETTERS]; STATE_LIMIT];
 
-// How many choices, observations and hidden values there are.
+// How many choices, observations and hidden values there are, and whether a step's observation is read before its choice is set.
 pub struct Widths {
     pub choices: usize,
     pub observations: usize,
     pub hiddens: usize,
+    pub read: bool,
 }
 
 // Whether a number has a choice and an observation of the problem.

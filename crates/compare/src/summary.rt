@@ -1,5 +1,5 @@
-// How many problems of a kind were drawn, on how many the solvers agree, what kinds of answers these have, and how many of them were asked
-// in two ways.
+// How many problems of a kind and an order were drawn, on how many the solvers agree, what kinds of answers these have, and how many of them
+// were asked in two ways.
 ghost use Prim.Native.Nat.{_≤_};
 ghost use lib.ListN.{length};
 use crate::answer::say;
@@ -16,7 +16,8 @@ use std::num::wrapping_add_u64;
 use std::num::wrapping_add_usize;
 
 // What is counted: all problems; those on which both solvers agree, and of these the tables and the refusals by number; tables with a worst
-// case over 1 and over 2; where it matters that hidden signals are hidden; and those whose two texts differ and are answered alike.
+// case over 1 and over 2; where it matters that hidden signals are hidden; those whose two texts differ and are answered alike; and all
+// problems where the order matters.
 const DRAWN: usize = 0;
 
 const AGREE: usize = 1;
@@ -31,12 +32,16 @@ const HIDDEN_MATTER: usize = OVER_TWO + 1;
 
 const ALIKE: usize = HIDDEN_MATTER + 1;
 
-pub const CLASSES: usize = ALIKE + 1;
+const ORDER_MATTERS: usize = ALIKE + 1;
+
+pub const CLASSES: usize = ORDER_MATTERS + 1;
 
 type Counts = [u64; CLASSES];
 
-// Ends the line of a kind, and answers whether its end could be written. What fails before is told.
-pub(crate) fn write(counts: &Counts) -> bool {
+// Writes the line of a kind and an order, and answers whether its end could be written. What fails before is told.
+pub(crate) fn write(kind: &[u8], order: &[u8], counts: &Counts) -> bool {
+    say(kind);
+    say(order);
     for k in 0..CLASSES {
         tell(counts[k]);
     }
@@ -48,9 +53,8 @@ fn is_solved(c: Compared) -> bool {
     (c.number == 0) | (c.number == 11)
 }
 
-// Whether it matters that hidden signals are hidden, where d is the answer if they are observed: both are solved, and the number or the
-// worst case is another.
-fn hidden_matter(c: Compared, d: Compared) -> bool {
+// Whether two problems are both solved, and the number or the worst case is another.
+fn differ(c: Compared, d: Compared) -> bool {
     is_solved(c) & is_solved(d) & ((c.number != d.number) | (c.worst_case != d.worst_case))
 }
 
@@ -73,7 +77,7 @@ fn add_agreed(counts: &mut Counts, c: Compared, d: Compared) {
     add(counts, wrapping_add_usize(TABLES, c.number));
     add_if(counts, OVER_ONE, c.worst_case > 1);
     add_if(counts, OVER_TWO, c.worst_case > 2);
-    add_if(counts, HIDDEN_MATTER, hidden_matter(c, d));
+    add_if(counts, HIDDEN_MATTER, differ(c, d));
     add_if(counts, ALIKE, c.texts_differ);
 }
 
@@ -103,17 +107,18 @@ fn add_compared(counts: &mut Counts, c: Compared, d: Compared) {
     }
 }
 
-// Solves a problem by both, then with its hidden signals observed, and counts it.
-fn count(text: &mut [u8], other: &mut [u8], counts: &mut Counts) {
+// Solves a problem by both, then with its hidden signals observed, counts it, and answers how the first went.
+fn count(text: &mut [u8], other: &mut [u8], counts: &mut Counts) -> Compared {
     let c = compare_shown(text, other, counts, true);
     observe(text);
     observe(other);
     let d = compare_shown(text, other, counts, c.agrees);
     add_compared(counts, c, d);
+    c
 }
 
-// Draws a problem of a line's kind, by one side of its pairs.
-fn draw_by(line: &[u8], seed: u64, second: bool, text: &mut [u8]) -> usize
+// Draws a problem of a line's kind and an order, by one side of its pairs.
+fn draw_by(line: &[u8], seed: u64, read: bool, second: bool, text: &mut [u8]) -> usize
     ensures { λ r. ⌜ r ≤ length (now (text .exit)) ⌝ }
 {
     let kind = Kind {
@@ -125,15 +130,24 @@ fn draw_by(line: &[u8], seed: u64, second: bool, text: &mut [u8]) -> usize
         operators: argument(line, 8),
         damage: argument(line, 9),
         second,
+        read,
     };
     draw(kind, field(line, 10), seed, text)
 }
 
-// Draws a problem of a line's kind in both ways, and counts it.
-pub(crate) fn draw_one(line: &[u8], seed: u64, counts: &mut Counts) {
+// Draws a problem of a line's kind and an order in both ways, and counts it.
+fn draw_one(line: &[u8], seed: u64, read: bool, counts: &mut Counts) -> Compared {
     let mut text = [0u8; ROOM];
     let mut other = [0u8; ROOM];
-    let n = draw_by(line, seed, false, &mut text);
-    let m = draw_by(line, seed, true, &mut other);
-    count(&mut text[..n], &mut other[..m], counts);
+    let n = draw_by(line, seed, read, false, &mut text);
+    let m = draw_by(line, seed, read, true, &mut other);
+    count(&mut text[..n], &mut other[..m], counts)
+}
+
+// Draws a problem of a line's kind under both orders, and counts it.
+pub(crate) fn draw_both(line: &[u8], seed: u64, set: &mut Counts, read: &mut Counts) {
+    let c = draw_one(line, seed, false, set);
+    let d = draw_one(line, seed, true, read);
+    add_if(set, ORDER_MATTERS, differ(c, d));
+    add_if(read, ORDER_MATTERS, differ(c, d));
 }

@@ -7,25 +7,24 @@ use native.Mathlib.Omega.{arith}
 use mathlib.Core.Path.{_≡_, refl, sym, ap, subst, _∙_}
 use mathlib.Core.Logic.{_↔_, inl, inr}
 use mathlib.Core.Bool.{true, false}
-use mathlib.Core.List.{List, [], _∷_, _++_, flatMap}
+use mathlib.Core.List.{List, [], _∷_, _++_, flatMap, append-nil}
 use lib.ListN.{length, take, length-append}
 use lib.Seq.{take-at, length-sets}
 use Rattle.basics.specs.Bytes.{bytesOf, sameBytes}
 use Rattle.basics.specs.Lists.{written}
 use Rattle.basics.specs.Numbers.{numberBelow}
-use Rattle.basics.specs.Text.{decimal, field}
+use Rattle.basics.specs.Text.{decimal, field, line}
 use Rattle.basics.proofs.Booleans.{test}
 use Rattle.basics.proofs.BytesLaws.{same-bytes, same-refl}
 use Rattle.basics.proofs.NumbersLaws.{below-lt, below-decimal}
 use Rattle.basics.proofs.Stores.{Put, Rest, rest-all, rest-room, rest-next, put-front}
 use Rattle.basics.proofs.TextLaws.{decimal-length, field-length, line-parts}
-use Rattle.cabinet.specs.Position.{Holds, SteppedAs, bad-observation}
+use Rattle.cabinet.specs.Position.{Holds, OnStop, SteppedAs, bad-observation}
 use Rattle.cabinet.specs.declared.position.Position.{Position}
 use Rattle.cabinet.specs.declared.position.Answer.{Answer}
-use Rattle.cabinet.specs.declared.position.Answer.the-variants.{Choice, Stop}
+use Rattle.cabinet.specs.declared.position.Answer.the-variants.{Choice}
 use Rattle.lines.specs.Refusal.{refused}
 use Rattle.play.specs.Limits.{sideLimit}
-use Rattle.play.specs.Cells.{stopCell, firstCell}
 use Rattle.printer.specs.Limits.{textSize}
 use Rattle.printer.proofs.WellFormedLaws.{side-le}
 use Rattle.tables.specs.declared.shape.Shape.{Shape}
@@ -69,10 +68,12 @@ module _ (c : ℕ) (small : c < 65536) (x : List ℕ) (room : textSize ≤ lengt
       pub choice-put : {end : ℕ} {y : List ℕ} → Put n (10 ∷ []) y₂ end y → Written (answerText (Choice c)) x end y
       choice-put p₃ = front-put (answerText (Choice c)) x fits _ _ (rest₂ .puts _ _ p₃)
 
-pub stop-put : (x : List ℕ) → textSize ≤ length x → {end : ℕ} {y : List ℕ} → Put 0 (bytesOf "stop\n") x end y
-    → Written (answerText Stop) x end y
+-- a word alone
+pub word-put : (word : List ℕ) → length word < textSize → (x : List ℕ) → textSize ≤ length x → {end : ℕ} {y : List ℕ}
+    → Put 0 (word ++ (10 ∷ [])) x end y → Written (line word []) x end y
 unfolding flatMap
-stop-put x room p = front-put (bytesOf "stop\n") x (omega arith) _ _ p
+word-put word short x room p =
+    rw (append-nil word) (front-put (word ++ (10 ∷ [])) x (omega (arith, length-append word (10 ∷ []))) _ _ p)
 
 -- ---- an observation
 
@@ -122,7 +123,7 @@ observed-iff l n h = (to, from)
         rw e (sym (number-same (decimal n) n (sym same) (same-refl (decimal n))))
 
 -- any other line is no observation that the table takes
-pub other-refused : (t : List ℕ) (shape : Shape) (p : Position) → Holds t shape p → (¬ (firstCell t (p .row) ≡ stopCell))
+pub other-refused : (t : List ℕ) (shape : Shape) (p : Position) → Holds t shape p → (¬ OnStop t shape p)
     → (l : List ℕ) → ((n : ℕ) → n < 2 ^ (shape .observed) → ¬ (l ≡ decimal n)) → SteppedAs t shape (observationIn l) p (refused 15 0) p
 other-refused t shape p h goes l other =
     elim (decLt (observationIn l) (2 ^ (shape .observed))) [

@@ -7,7 +7,7 @@ use Rattle.basics.specs.Bytes.{bytesOf, sameBytes}
 use Rattle.basics.specs.Numbers.{numberBelow}
 use Rattle.basics.specs.Text.{decimal, line}
 use Rattle.cabinet.specs.declared.position.Answer.{Answer}
-use Rattle.cabinet.specs.declared.position.Answer.the-variants.{Choice, Stop, Refused}
+use Rattle.cabinet.specs.declared.position.Answer.the-variants.{Choice, Stop, Ready, Refused}
 use Rattle.play.specs.Limits.{sideLimit}
 use Rattle.printer.specs.Text.{refusalText}
 
@@ -15,6 +15,7 @@ use Rattle.printer.specs.Text.{refusalText}
 abbrev pub answerText : Answer → List ℕ
 answerText (Choice c) = line (bytesOf "choice") (decimal c ∷ [])
 answerText Stop = line (bytesOf "stop") []
+answerText Ready = line (bytesOf "ready") []
 answerText (Refused r) = refusalText r
 
 -- the observation that a line holds, without its end; one that is not written as the printer writes it counts as 16, which is no observation

@@ -39,6 +39,7 @@ pub(crate) fn put_answer(text: &mut [u8], a: Answer) -> usize
     match a {
         Answer::Choice(c) => put_choice(text, c),
         Answer::Stop => put_bytes(text, 0, b"stop\n"),
+        Answer::Ready => put_bytes(text, 0, b"ready\n"),
         Answer::Refused(r) => put_refusal(text, r),
     }
 }

@@ -4,7 +4,8 @@ pub(crate) fn explain() {
         b"control",
         b"control runs a controller table by hand, as it is tried at the bench: it writes
 the first choice, then reads an observation and writes the next choice, and so
-on until the table says stop.
+on until the table says stop. On a card that begins with rtable the first
+observation comes first: each is answered by the choice for its own step.
 
   control CARD     runs the table whose text stands in the file CARD
   control --help   writes this text
@@ -17,8 +18,10 @@ and 0 where none is true. Nothing else stands on the line: no space, sign or
 leading zero, no carriage return. The end of the input ends the run.
 
 The start is answered by one line, and so is each line that is typed, before the
-next is read. Fields are parted by tabs:
+next is read; on an rtable stop is a second line behind the last choice. Fields
+are parted by tabs:
   choice  C        what to set now: such a sum of the out signals to be set
+  ready            the start of an rtable: nothing is set yet
   stop             the run has ended; no more is read
   refused  15  0   the line is no observation of this table. Nothing has moved,
                    and the next line is read

@@ -1,7 +1,8 @@
 // Runs a table as a controller, as a shop tries it at the bench: loads the table's text in a file, writes the first choice, and steps with
-// each line of standard input, which holds an observation, until the table says stop or the input ends. Each line is answered, on a line
-// of standard output, before the next is read. A line that is no observation is refused, and the run goes on; a text that is no table is
-// refused, and nothing is read. A failure is told on standard error, and not by the exit status: a `main` returns nothing in this language.
+// each line of standard input, which holds an observation, until the table says stop or the input ends. Under `read` nothing is chosen at
+// the start, and each observation gets the choice for its own step. Each line is answered, on standard output, before the next is read. A
+// line that is no observation is refused, and the run goes on; a text that is no table is refused, and nothing is read. A failure is told
+// on standard error, and not by the exit status: a `main` returns nothing in this language.
 use cabinet::Loaded;
 use cabinet::TEXT_SIZE;
 use cabinet::load;

@@ -5,6 +5,7 @@ use cabinet::Answer;
 use cabinet::Moved;
 use cabinet::Position;
 use cabinet::TEXT_SIZE;
+use cabinet::is_stopped;
 use cabinet::start_from;
 use cabinet::step_from;
 use libc::STDIN_FILENO;
@@ -37,17 +38,29 @@ pub(crate) fn refuse_text(r: Refusal) {
     }
 }
 
-// Answers a start or a step.
-fn answer(m: Moved) -> Next {
+// Ends a run by the line `stop`.
+fn stop() -> Next {
+    if write(Answer::Stop) {
+        Next::End
+    } else {
+        Next::Lost
+    }
+}
+
+// Answers a start or a step. Behind a choice that leads to a stop row, as under `read`, comes a line `stop`.
+fn answer(table: &[u16], shape: Shape, m: Moved) -> Next {
     let position = m.position;
     let a = m.answer;
+    if let Answer::Stop = a {
+        return stop();
+    }
     if !write(a) {
         return Next::Lost;
     }
-    match a {
-        Answer::Stop => Next::End,
-        _ => Next::At(position),
+    if is_stopped(table, shape, position) {
+        return stop();
     }
+    Next::At(position)
 }
 
 fn fail_input() -> Next {
@@ -57,7 +70,7 @@ fn fail_input() -> Next {
 
 // Answers a long line, which is no observation, as soon as it is known to be long, and then reads its rest.
 fn refuse_long(table: &[u16], shape: Shape, position: Position) -> Next {
-    let next = answer(step_from(table, shape, SIDE_LIMIT, position));
+    let next = answer(table, shape, step_from(table, shape, SIDE_LIMIT, position));
     if let Next::At(_) = next {
         if !streams::skip_line(STDIN_FILENO) {
             return fail_input();
@@ -72,7 +85,7 @@ fn obey_line(table: &[u16], shape: Shape, position: Position) -> Next {
     match streams::read_line(STDIN_FILENO, &mut line) {
         Line::Given(n) => {
             let observation = observation_in(streams::first(&line, n));
-            answer(step_from(table, shape, observation, position))
+            answer(table, shape, step_from(table, shape, observation, position))
         }
         Line::Long => refuse_long(table, shape, position),
         Line::End => Next::End,
@@ -83,7 +96,11 @@ fn obey_line(table: &[u16], shape: Shape, position: Position) -> Next {
 // Runs a table until it stops or the input ends; a start ignores the position. A proved loop has to end: this one counts down from a number
 // that no run uses up.
 pub(crate) fn run(table: &[u16], shape: Shape) {
-    let mut next = answer(start_from(table, shape, Position { row: 0, choice: 0 }));
+    let mut next = answer(
+        table,
+        shape,
+        start_from(table, shape, Position { row: 0, choice: 0 }),
+    );
     let mut turns = u64::MAX;
     while turns > 0 {
         match next {

@@ -17,7 +17,7 @@ use Rattle.formula.specs.Letter.{isLetter}
 use Rattle.formula.specs.Parts.{opOf, temporals, partsFrom, partsOf, partAt, bottomUp, resultAt}
 use Rattle.formula.specs.Semantics.{holds}
 use Rattle.formula.specs.Values.{valueWith}
-use Rattle.lines.specs.Lines.{lines, tabPlace, wordOf, isName, isText}
+use Rattle.lines.specs.Lines.{lines, tabPlace, wordOf, isName, isText, orderNamed}
 use Rattle.lines.specs.Effect.{formulaOf, allDeclared, declareEffect, stateEffect, effectOf}
 use Rattle.rules.specs.Problem.{readLines, readProblem}
 use Rattle.rules.specs.Trace.{badStep, verdictOn}
@@ -37,7 +37,7 @@ unfolding fromBits firstThat lower wordByte run past sameBytes isIn indexIn addN
     planKind wordKind tokenFrom tokenAt more tokensF tokens isOp leftward isPre isLeaf bind on close parseF parse
     numberAt headOf headAt secondAt planAt parseFormula soon hold delay indexOf leafValue
     size operators isLetter opOf temporals partsFrom partsOf partAt bottomUp resultAt holds valueWith
-    lines tabPlace wordOf isName isText formulaOf allDeclared declareEffect stateEffect effectOf readLines readProblem badStep verdictOn judged
+    lines tabPlace wordOf isName isText orderNamed formulaOf allDeclared declareEffect stateEffect effectOf readLines readProblem badStep verdictOn judged
     operatorsOf numberOf spotsTo spots valueAt owedAt back lettersOf member setOf start accepts next after sameSet nextSets reachableSets
     startState nextState stateAfter statesOf stopRow choiceRow solvedBy cellsBy response
 computed = refl

@@ -1,5 +1,5 @@
--- The examples A to K, and of plan words (REFERENCE.md, Examples and Plan words), as one table: a problem's bytes, what is asked of them, and
--- the answer.
+-- The examples A to K, A to H under the other order, and of plan words (REFERENCE.md, Examples and Plan words), as one table: a problem's
+-- bytes, what is asked of them, and the answer.
 -- Assumes nothing.
 use Prim.Native.Nat.{ℕ}
 use Prim.Native.String.{String}
@@ -7,6 +7,7 @@ use mathlib.Core.List.{List, [], _∷_, _++_}
 use Rattle.basics.specs.Bits.{digit}
 use Rattle.basics.specs.Bytes.{bytesOf}
 use Rattle.basics.specs.Lists.{padded}
+use Rattle.basics.specs.declared.order.Order.the-variants.{Set, Read}
 use Rattle.lines.specs.Refusal.{Told, values, refused, toldRefusal}
 use Rattle.formula.specs.Semantics.{Trace}
 use Rattle.rules.specs.Limits.{workSize}
@@ -19,8 +20,8 @@ use Rattle.play.specs.Cells.{rowSize, stopCell, tableSize}
 use Rattle.game.specs.SolvedAs.{solvedBy, toldSolved, cellsBy}
 use Rattle.cabinet.specs.Response.{response}
 
--- what is asked of a problem: its table's row count, observed signals and worst case; the table's cells; the bytes that are written for it;
--- the verdict on a trace; or whether its states accept the trace
+-- what is asked of a problem: its table's row count, observed signals, order (0 for `set`, 1 for `read`) and worst case; the table's cells;
+-- the bytes that are written for it; the verdict on a trace; or whether its states accept the trace
 pub data Asked : Type 0 where
   table cells text : Asked
   judge accept : Trace → Asked
@@ -50,18 +51,18 @@ expected (example name source asked told) = told
 
 abbrev pub examples : List Example
 examples =
-    example "A" "out\tvalve\nhid\twet\nrule\tF valve\n" table (values (2 ∷ 0 ∷ 1 ∷ []))
-    ∷ example "B" "out\ta\nsee\ts\nrule\ts -> X a\n" table (values (3 ∷ 1 ∷ 2 ∷ []))
+    example "A" "out\tvalve\nhid\twet\nrule\tF valve\n" table (values (2 ∷ 0 ∷ 0 ∷ 1 ∷ []))
+    ∷ example "B" "out\ta\nsee\ts\nrule\ts -> X a\n" table (values (3 ∷ 1 ∷ 0 ∷ 2 ∷ []))
     ∷ example "B" "out\ta\nsee\ts\nrule\ts -> X a\n" text (values (bytesOf "table\t3\t2\nrow\t0\t0\t1\t2\nrow\t1\tstop\nrow\t2\t1\t1\t1\n"))
     ∷ example "B" "out\ta\nsee\ts\nrule\ts -> X a\n" cells
-    (values (padded rowSize (0 ∷ 1 ∷ 2 ∷ []) ++ padded rowSize (stopCell ∷ []) ++ padded rowSize (1 ∷ 1 ∷ 1 ∷ [])))
-    ∷ example "C" "out\ta\nhid\ts\nrule\ts -> X a\n" table (values (3 ∷ 0 ∷ 2 ∷ []))
+    (values (padded (rowSize Set) (0 ∷ 1 ∷ 2 ∷ []) ++ padded (rowSize Set) (stopCell ∷ []) ++ padded (rowSize Set) (1 ∷ 1 ∷ 1 ∷ [])))
+    ∷ example "C" "out\ta\nhid\ts\nrule\ts -> X a\n" table (values (3 ∷ 0 ∷ 0 ∷ 2 ∷ []))
     ∷ example "D" "hid\ts\nrule\tF s\n" table (refused 11 0)
     ∷ example "E" "hid\ts\nrule\t(s & N false) | (!s & X N false)\n" table (refused 11 0)
-    ∷ example "E" "see\ts\nrule\t(s & N false) | (!s & X N false)\n" table (values (4 ∷ 1 ∷ 2 ∷ []))
-    ∷ example "F" "rule\ttrue\n" table (values (2 ∷ 0 ∷ 1 ∷ []))
+    ∷ example "E" "see\ts\nrule\t(s & N false) | (!s & X N false)\n" table (values (4 ∷ 1 ∷ 0 ∷ 2 ∷ []))
+    ∷ example "F" "rule\ttrue\n" table (values (2 ∷ 0 ∷ 0 ∷ 1 ∷ []))
     ∷ example "G" "rule\tfalse\n" table (refused 11 0)
-    ∷ example "H" "rule\tX true\n" table (values (3 ∷ 0 ∷ 2 ∷ []))
+    ∷ example "H" "rule\tX true\n" table (values (3 ∷ 0 ∷ 0 ∷ 2 ∷ []))
     ∷ example "I" "rule\tX true\n" (judge (0 ∷ [])) (values (0 ∷ []))
     ∷ example "I" "rule\tX true\n" (accept (0 ∷ [])) (values (0 ∷ []))
     ∷ example "I" "rule\tN false\n" (judge (0 ∷ [])) (values (1 ∷ []))
@@ -72,6 +73,28 @@ examples =
     ∷ example "J" "out\ta\nout\tb\nrule\ta U b\n" (accept (1 ∷ [])) (values (0 ∷ []))
     ∷ example "K" "out\ta\nout\tb\nrule\ta R b\n" (judge (2 ∷ [])) (values (1 ∷ []))
     ∷ example "K" "out\ta\nout\tb\nrule\ta R b\n" (accept (2 ∷ [])) (values (1 ∷ []))
+    ∷ example "A, read" "out\tvalve\nhid\twet\nrule\tF valve\norder\tread\n" table (values (2 ∷ 0 ∷ 1 ∷ 1 ∷ []))
+    ∷ example "B, read" "out\ta\nsee\ts\nrule\ts -> X a\norder\tread\n" table (values (3 ∷ 1 ∷ 1 ∷ 2 ∷ []))
+    ∷ example "B, read" "out\ta\nsee\ts\nrule\ts -> X a\norder\tread\n" text
+    (values (bytesOf "rtable\t3\t2\nrow\t0\t0\t1\t0\t2\nrow\t1\tstop\nrow\t2\t1\t1\t1\t1\n"))
+    ∷ example "B, read" "out\ta\nsee\ts\nrule\ts -> X a\norder\tread\n" cells
+    (values (padded (rowSize Read) (0 ∷ 0 ∷ 1 ∷ 0 ∷ 2 ∷ []) ++ padded (rowSize Read) (stopCell ∷ []) ++ padded (rowSize Read) (0 ∷ 1 ∷ 1 ∷ 1 ∷ 1 ∷ [])))
+    ∷ example "C, read" "out\ta\nhid\ts\nrule\ts -> X a\norder\tread\n" table (values (3 ∷ 0 ∷ 1 ∷ 2 ∷ []))
+    ∷ example "D, read" "hid\ts\nrule\tF s\norder\tread\n" table (refused 11 0)
+    ∷ example "E, read" "hid\ts\nrule\t(s & N false) | (!s & X N false)\norder\tread\n" table (refused 11 0)
+    ∷ example "E, read" "see\ts\nrule\t(s & N false) | (!s & X N false)\norder\tread\n" table (values (4 ∷ 1 ∷ 1 ∷ 2 ∷ []))
+    ∷ example "F, read" "order\tread\nrule\ttrue\n" text (values (bytesOf "rtable\t2\t1\nrow\t0\t0\t1\nrow\t1\tstop\n"))
+    ∷ example "F, set" "order\tset\nrule\ttrue\n" text (values (bytesOf "table\t2\t1\nrow\t0\t0\t1\nrow\t1\tstop\n"))
+    ∷ example "G, read" "order\tread\nrule\tfalse\n" table (refused 11 0)
+    ∷ example "H, read" "order\tread\nrule\tX true\n" table (values (3 ∷ 0 ∷ 1 ∷ 2 ∷ []))
+    ∷ example "gauge" "out\ta\nsee\ts\nrule\t(a -> s) & (s -> a) & N false\n" table (refused 11 0)
+    ∷ example "gauge, read" "out\ta\nsee\ts\nrule\t(a -> s) & (s -> a) & N false\norder\tread\n" text
+    (values (bytesOf "rtable\t2\t1\nrow\t0\t0\t1\t1\t1\nrow\t1\tstop\n"))
+    ∷ example "best next rank, read" "out\ta\nsee\ts\nrule\tX X true | (s & a)\norder\tread\n" text
+    (values (bytesOf "rtable\t4\t3\nrow\t0\t0\t1\t1\t2\nrow\t1\t0\t3\t0\t3\nrow\t2\tstop\nrow\t3\t0\t2\t0\t2\n"))
+    ∷ example "no rule" "order\tread\n" table (refused 8 0)
+    ∷ example "no order" "order\tRead\nrule\ttrue\n" table (refused 2 1)
+    ∷ example "a second order" "order\tread\nrule\ttrue\norder\tread\n" table (refused 2 3)
     ∷ example "once" "out\ta\nrule\tonce(a)\n" (judge (1 ∷ 1 ∷ 0 ∷ [])) (values (1 ∷ []))
     ∷ example "once" "out\ta\nrule\tonce(a)\n" (judge (1 ∷ 0 ∷ 1 ∷ [])) (values (0 ∷ []))
     ∷ example "before" "out\ta\nout\tb\nrule\tbefore(a,b)\n" (judge (2 ∷ 1 ∷ [])) (values (1 ∷ []))
@@ -82,7 +105,7 @@ examples =
     ∷ example "within" "out\ta\nout\tb\nrule\twithin(1,a,b)\n" (judge (1 ∷ 0 ∷ 2 ∷ [])) (values (0 ∷ []))
     ∷ example "during" "out\ta\nrule\tduring(2,3,a)\n" (judge (0 ∷ 1 ∷ 1 ∷ 0 ∷ [])) (values (1 ∷ []))
     ∷ example "during" "out\ta\nrule\tduring(2,3,a)\n" (judge (0 ∷ 1 ∷ 0 ∷ [])) (values (0 ∷ []))
-    ∷ example "during" "out\ta\nsee\ts\nrule\tduring(1,2,s -> a) & X true\n" table (values (3 ∷ 1 ∷ 2 ∷ []))
+    ∷ example "during" "out\ta\nsee\ts\nrule\tduring(1,2,s -> a) & X true\n" table (values (3 ∷ 1 ∷ 0 ∷ 2 ∷ []))
     ∷ example "during" "out\ta\nrule\tduring(2,3,a)\n" (judge (0 ∷ [])) (values (1 ∷ []))
     ∷ example "during" "out\ta\nrule\tX during(1,2,a)\n" (judge (0 ∷ 1 ∷ 1 ∷ 0 ∷ [])) (values (1 ∷ []))
     ∷ example "within" "out\ta\nout\tb\nrule\twithin(5,a,b)\n" (judge (1 ∷ 0 ∷ 0 ∷ 0 ∷ 0 ∷ 2 ∷ [])) (values (1 ∷ []))

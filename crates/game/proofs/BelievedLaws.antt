@@ -2,13 +2,13 @@
 -- Assumes nothing.
 use Prim.Native.Nat.{ℕ, suc, _<_}
 use mathlib.Core.Path.{_≡_, refl, sym, ap, _∙_, subst}
-use mathlib.Core.Logic.{_↔_}
+use mathlib.Core.Logic.{_↔_, _⊎_, inl, inr}
 use mathlib.Core.Bool.{Bool, true, false}
 use mathlib.Core.List.{List, [], _∷_}
 use lib.ListN.{length, getD}
 use lib.Seq.{ext-getD}
-use Rattle.basics.specs.Reach.{closed, over, AtLeast}
-use Rattle.basics.proofs.Booleans.{clash}
+use Rattle.basics.specs.Reach.{Listing, closed, over, AtLeast}
+use Rattle.basics.proofs.Booleans.{test, clash}
 use Rattle.basics.proofs.ListsLaws.{length-tabulate}
 use Rattle.basics.proofs.MemberLaws.{distinct-index}
 use Rattle.basics.proofs.ReachLaws.{closed-not-over}
@@ -138,3 +138,16 @@ module _ (p : Problem) where
     -- as many beliefs can be reached as histories lead to
     pub beliefs-iff : (n : ℕ) → AtLeast (moves A sameSet (G .choices) (G .observations)) (A .start) n ↔ AtLeastBeliefs (Counted p) (SameBelief p) n
     beliefs-iff = at-least-iff A sameSet (G .choices) (G .observations) (Counted p) (SameBelief p) (λ h. (λ c. c, λ c. c)) same-iff
+
+-- whether a belief is final is decided, where the states are within their limit
+pub final-decided : (p : Problem) → (¬ ManyStates p) → (h : History) → Possible (gameOf p .choices) (gameOf p .observations) h
+    → FinalBelief p h ⊎ (¬ FinalBelief p h)
+final-decided p few h v = at (problemStates p) refl
+  where
+    at : (l : Listing PatternSet) → problemStates p ≡ l → FinalBelief p h ⊎ (¬ FinalBelief p h)
+    at (closed xs) e =
+        elim (test (finalBelief (M p xs e) (K p xs e h))) [
+          | inl t ↦ inl (final-iff p xs e h v .1 t)
+          | inr f ↦ inr (λ g. clash (final-iff p xs e h v .0 g) f)
+        ]
+    at over e = absurd (few (many-states p .0 e))

@@ -7,6 +7,8 @@ use lib.ListN.{length, drop, replicate}
 use Rattle.basics.specs.Lists.{written}
 use Rattle.basics.proofs.ListsLaws.{written-rest}
 use Rattle.lines.specs.Refusal.{values, refused}
+use Rattle.basics.specs.declared.order.Order.{Order}
+use Rattle.basics.specs.Order.{orderNumber}
 use Rattle.play.specs.Cells.{rowSize}
 use Rattle.game.specs.SolvedAs.{toldBy, cellsBy, tableAfter, workAfter, Short}
 use Rattle.game.proofs.SolvedAsLaws.{short-says, is-long, due-call, RowCells, due-cells}
@@ -28,8 +30,9 @@ table-kept work source t number place e =
     subst (λ a. RowCells a (cellsBy work (length t) source)) e (due-cells work (length t) source _ _ (due-call source work (length t))) in
     ap (λ c. written c t) none
 
-pub table-rest : (work : ℕ) (source t : List ℕ) (n : ℕ) (l : List ℕ) → toldBy work (length t) source ≡ values (n ∷ l)
-    → drop (n * rowSize) (tableAfter work source t) ≡ drop (n * rowSize) t
-table-rest work source t n l e =
-    written-rest (cellsBy work (length t) source) t (n * rowSize)
-    (subst (λ a. RowCells a (cellsBy work (length t) source)) e (due-cells work (length t) source _ _ (due-call source work (length t))))
+pub table-rest : (work : ℕ) (source t : List ℕ) (n observed r : ℕ) (o : Order)
+    → toldBy work (length t) source ≡ values (n ∷ observed ∷ orderNumber o ∷ r ∷ [])
+    → drop (n * rowSize o) (tableAfter work source t) ≡ drop (n * rowSize o) t
+table-rest work source t n observed r o e =
+    written-rest (cellsBy work (length t) source) t (n * rowSize o)
+    (subst (λ a. RowCells a (cellsBy work (length t) source)) e (due-cells work (length t) source _ _ (due-call source work (length t))) n observed r o refl)

@@ -1,5 +1,5 @@
 -- The theorems of this crate. Assumes nothing.
-use Prim.Native.Nat.{ℕ, _*_, _≤_, _<_}
+use Prim.Native.Nat.{ℕ, suc, _*_, _≤_, _<_}
 use mathlib.Core.Path.{_≡_}
 use mathlib.Core.Logic.{_↔_, _⊎_}
 use mathlib.Core.Bool.{Bool}
@@ -16,18 +16,24 @@ use Rattle.rules.specs.Refuses.{Refuses}
 use Rattle.search.specs.PatternSet.{PatternSet}
 use Rattle.play.specs.Limits.{sideLimit}
 use Rattle.play.specs.Cells.{rowSize, stopCell, tableSize}
-use Rattle.play.specs.Game.{Game, set, Play, Strategy, IsStrategy, Steps, run, Wins}
+use Rattle.basics.specs.declared.order.Order.{Order}
+use Rattle.basics.specs.declared.order.Order.the-variants.{Set, Read}
+use Rattle.basics.specs.Order.{orderNumber}
+use Rattle.play.specs.Game.{Game, Play, Strategy, IsStrategy, Steps, run, Wins}
 use Rattle.play.specs.Rank.{Arena}
-use Rattle.play.specs.History.{History, Knows}
-use Rattle.play.specs.IsTable.{RankIs, HasChoice}
+use Rattle.play.specs.History.{History, Possible, Knows}
+use Rattle.play.specs.IsTable.{RankIs, HasAnswer, BestNext}
 use Rattle.play.specs.Table.{tableStrategy}
 use Rattle.play.specs.Answer.{positions, verdictOf, Right}
 use Rattle.game.specs.Solution.{gameOf, problemStates, beliefsOf}
-use Rattle.game.specs.Believed.{ManyStates, ManyBeliefs}
+use Rattle.game.specs.Believed.{FinalBelief, ManyStates, ManyBeliefs}
 use Rattle.game.specs.SolvedAs.{toldBy, cellsBy, tableAfter, workAfter, Controller, Short, SolvedAs}
 use Rattle.play.proofs.IsTableLaws
+use Rattle.play.proofs.ReadNeverWorse
+use Rattle.play.proofs.ReadRank
 use Rattle.play.proofs.AnswerLaws
 use Rattle.game.proofs.StatesJudge
+use Rattle.game.proofs.BelievedLaws
 use Rattle.game.proofs.SolvedAsLaws
 use Rattle.game.proofs.SolvedAsCases
 use Rattle.game.proofs.LentMemory
@@ -59,18 +65,20 @@ module _ (source : List ℕ) (work table : ℕ) where
       too-many-beliefs = SolvedAsCases.too-many-beliefs source work table enough room p denotes
 
       module _ (few-states : ¬ ManyStates p) (few-beliefs : ¬ ManyBeliefs p) where
-        -- 11: no strategy wins
-        pub unrealizable : (toldBy work table source ≡ refused 11 0) ↔ ((σ : Strategy set) → IsStrategy (gameOf p) σ → ¬ Wins (gameOf p) σ)
+        -- 11: no strategy of the problem's order wins
+        pub unrealizable : (toldBy work table source ≡ refused 11 0) ↔ ((σ : Strategy (p .order)) → IsStrategy (gameOf p) σ → ¬ Wins (gameOf p) σ)
         unrealizable = SolvedAsCases.unrealizable source work table enough room p denotes few-states few-beliefs
 
-        -- otherwise the table that the reference lays down is written, and told with its row count, observed signals and worst case ..
+        -- otherwise the table that the reference lays down is written, and told with its row count, observed signals, order and worst case ..
         pub otherwise : (¬ (toldBy work table source ≡ refused 11 0))
-            → (n : ℕ) × (r : ℕ) × (toldBy work table source ≡ values (n ∷ p .signals .observed ∷ r ∷ [])) × Controller p n r (cellsBy work table source)
+            → (n : ℕ) × (r : ℕ) × (toldBy work table source ≡ values (n ∷ p .signals .observed ∷ orderNumber (p .order) ∷ r ∷ []))
+            × Controller p n r (cellsBy work table source)
         otherwise = SolvedAsCases.otherwise source work table enough room p denotes few-states few-beliefs
 
         -- .. and there is only one
         pub controller : (n r : ℕ) (t : List ℕ)
-            → ((toldBy work table source ≡ values (n ∷ p .signals .observed ∷ r ∷ [])) × (cellsBy work table source ≡ t)) ↔ Controller p n r t
+            → ((toldBy work table source ≡ values (n ∷ p .signals .observed ∷ orderNumber (p .order) ∷ r ∷ [])) × (cellsBy work table source ≡ t))
+            ↔ Controller p n r t
         controller = SolvedAsCases.controller source work table enough room p denotes few-states few-beliefs
 
 -- what is left in lent memory: a refusal leaves the table as it was, and a table all behind its rows; 12 leaves the work memory as it was,
@@ -78,8 +86,9 @@ module _ (source : List ℕ) (work table : ℕ) where
 pub table-kept : (work : ℕ) (source t : List ℕ) (number place : ℕ) → toldBy work (length t) source ≡ refused number place → tableAfter work source t ≡ t
 table-kept = LentMemory.table-kept
 
-pub table-rest : (work : ℕ) (source t : List ℕ) (n : ℕ) (l : List ℕ) → toldBy work (length t) source ≡ values (n ∷ l)
-    → drop (n * rowSize) (tableAfter work source t) ≡ drop (n * rowSize) t
+pub table-rest : (work : ℕ) (source t : List ℕ) (n observed r : ℕ) (o : Order)
+    → toldBy work (length t) source ≡ values (n ∷ observed ∷ orderNumber o ∷ r ∷ [])
+    → drop (n * rowSize o) (tableAfter work source t) ≡ drop (n * rowSize o) t
 table-rest = LentMemory.table-rest
 
 pub work-kept : (table : ℕ) (w : List ℕ) → Short (length w) table → workAfter table w ≡ w
@@ -91,32 +100,46 @@ work-cleared = LentMemory.work-cleared
 -- what the table is good for: every play of it ends within the worst case, with a trace that satisfies the problem; one play takes so long;
 -- and a strategy that wins has a play that takes as long, or longer
 pub plays : (p : Problem) (n r : ℕ) (t : List ℕ) → Controller p n r t
-    → IsStrategy (gameOf p) (tableStrategy t)
-    × ((play : Play (gameOf p)) → (m : ℕ) × (m ≤ r) × Steps (tableStrategy t) play m × Satisfies (run (gameOf p) (tableStrategy t) play m) p)
-    × ((play : Play (gameOf p)) × Steps (tableStrategy t) play r)
-    × ((σ : Strategy set) → IsStrategy (gameOf p) σ → Wins (gameOf p) σ → (play : Play (gameOf p)) × (m : ℕ) × Steps σ play m × (r ≤ m))
+    → IsStrategy (gameOf p) (tableStrategy (p .order) t)
+    × ((play : Play (gameOf p)) → (m : ℕ) × (m ≤ r) × Steps (tableStrategy (p .order) t) play m
+    × Satisfies (run (gameOf p) (tableStrategy (p .order) t) play m) p)
+    × ((play : Play (gameOf p)) × Steps (tableStrategy (p .order) t) play r)
+    × ((σ : Strategy (p .order)) → IsStrategy (gameOf p) σ → Wins (gameOf p) σ → (play : Play (gameOf p)) × (m : ℕ) × Steps σ play m × (r ≤ m))
 plays = SolvedAsCases.plays
 
 -- the ranks in it are those of the reference (REFERENCE.md, The game), for any histories' final beliefs: a final belief has rank 0 ..
-pub final-rank : (choices observations : ℕ) (Final : History → Type 0) → 0 < observations → (h : History)
-    → Final h ↔ RankIs choices observations Final h 0
+pub final-rank : (o : Order) (choices observations : ℕ) (Final : History → Type 0) → 0 < observations → (h : History)
+    → Final h ↔ RankIs o choices observations Final h 0
 final-rank = IsTableLaws.final-rank
 
--- .. and that of another is the least r for which some choice leads, at every observation, to a rank below r
-pub other-rank : (choices observations : ℕ) (Final : History → Type 0) → 0 < observations → (h : History) → (¬ Final h) → (r : ℕ)
-    → RankIs choices observations Final h r
-    ↔ (HasChoice choices observations Final r h × ((q : ℕ) → q < r → ¬ HasChoice choices observations Final q h))
+-- .. that of another is the least r for which the controller can choose so that every observation leads to a rank below r ..
+pub other-rank : (o : Order) (choices observations : ℕ) (Final : History → Type 0) → 0 < observations → (h : History) → (¬ Final h) → (r : ℕ)
+    → RankIs o choices observations Final h r
+    ↔ (HasAnswer o choices observations Final r h × ((q : ℕ) → q < r → ¬ HasAnswer o choices observations Final q h))
 other-rank = IsTableLaws.other-rank
+
+-- .. and under `Read` a rank over 0 of a problem's belief is one more than the worst, over observations, of the best next rank
+pub read-rank : (p : Problem) → (¬ ManyStates p) → (h : History) → Possible (gameOf p .choices) (gameOf p .observations) h → (¬ FinalBelief p h) → (r : ℕ)
+    → RankIs Read (gameOf p .choices) (gameOf p .observations) (FinalBelief p) h (suc r)
+    ↔ (((s : ℕ) → s < gameOf p .observations
+    → (q : ℕ) × (q ≤ r) × BestNext Read (gameOf p .choices) (gameOf p .observations) (FinalBelief p) h s q)
+    × ((s : ℕ) × (s < gameOf p .observations) × BestNext Read (gameOf p .choices) (gameOf p .observations) (FinalBelief p) h s r))
+read-rank p few = ReadRank.read-rank (gameOf p .choices) (gameOf p .observations) (FinalBelief p) (BelievedLaws.final-decided p few)
 
 -- ---- the theory behind it
 
--- for any game, any positions that know when a trace is sure to be true, and any limit that keeps their number: the table is an optimal
--- strategy and the worst case its own, or no strategy wins
-pub any-game : (G : Game) (A : Arena) (same : A .K → A .K → Bool) → ((a b : A .K) → Says (same a b) (a ≡ b)) → (limit : ℕ) (all : List (A .K))
+-- for either order, any game, any positions that know when a trace is sure to be true, and any limit that keeps their number: the table is
+-- an optimal strategy of the order and the worst case its own, or no strategy of the order wins
+pub any-game : (o : Order) (G : Game) (A : Arena) (same : A .K → A .K → Bool) → ((a b : A .K) → Says (same a b) (a ≡ b)) → (limit : ℕ) (all : List (A .K))
     → positions A same (G .choices) (G .observations) limit ≡ closed all → Knows G A
     → 0 < G .observations → 0 < G .hiddens → G .choices < stopCell → G .observations ≤ sideLimit
-    → Right limit G (verdictOf A same (G .choices) (G .observations) (length all))
+    → Right limit o G (verdictOf o A same (G .choices) (G .observations) (length all))
 any-game = AnswerLaws.answer-right
+
+-- reading first is never worse: whoever wins by setting first also wins by reading first, with the same number of steps in every play
+pub read-never-worse : (G : Game) (σ : Strategy Set) → IsStrategy G σ → Wins G σ
+    → (τ : Strategy Read) × IsStrategy G τ × Wins G τ × ((p : Play G) (n : ℕ) → Steps σ p n ↔ Steps τ p n)
+read-never-worse = ReadNeverWorse.read-never-worse
 
 -- a problem's beliefs know: one is final exactly where every hidden history makes the trace true
 pub beliefs-know : (p : Problem) (xs : List PatternSet) → problemStates p ≡ closed xs → Knows (gameOf p) (beliefsOf p xs)

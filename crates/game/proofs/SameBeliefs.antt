@@ -17,6 +17,7 @@ use Rattle.play.specs.Limits.{beliefLimit}
 use Rattle.play.specs.Rank.{Arena}
 use Rattle.play.specs.Belief.{Automaton, Belief, has, alone, beliefs}
 use Rattle.play.specs.Answer.{moves, positions}
+use Rattle.basics.specs.declared.order.Order.{Order}
 use Rattle.play.proofs.SameAnswer.{Renaming, verdict-image}
 use Rattle.beliefs.specs.BeliefMemory.{successorIn, acceptsIn, beliefAfter, countedBeliefs}
 use Rattle.game.specs.Solution.{verdict, solutionOf, beliefSolution}
@@ -83,13 +84,13 @@ module _ (M : Automaton) (choices observations hiddens : ℕ) (letter : ℕ → 
         one = λ j k m n. refl;
       }
 
-  pub memory-same : 0 < choices
-      → memorySolution sets successors (M .states) choices observations hiddens ≡ beliefSolution M choices observations hiddens letter
+  pub memory-same : (o : Order) → 0 < choices → 0 < observations
+      → memorySolution o sets successors (M .states) choices observations hiddens ≡ beliefSolution o M choices observations hiddens letter
   unfolding memorySolution
-  memory-same some = at (positions I sameSet choices observations beliefLimit) ∙ ap (solutionOf B sameSet choices observations) listed
+  memory-same o some some-observation = at (positions I sameSet choices observations beliefLimit) ∙ ap (solutionOf o B sameSet choices observations) listed
     where
-      at : (l : Listing Belief) → solutionOf I sameSet choices observations l ≡ solutionOf B sameSet choices observations l
-      at (closed all) = ap verdict (verdict-image renaming (length all))
+      at : (l : Listing Belief) → solutionOf o I sameSet choices observations l ≡ solutionOf o B sameSet choices observations l
+      at (closed all) = ap verdict (verdict-image renaming o some-observation (length all))
       at over = refl
 
       steps : (b : Belief) → moves I sameSet choices observations b ≡ moves B sameSet choices observations b

@@ -16,13 +16,14 @@ use Rattle.search.specs.PatternSet.{PatternSet}
 use Rattle.search.specs.ReachableSets.{sameSet}
 use Rattle.search.proofs.ReachableSetsLaws.{sameSet-says}
 use Rattle.play.specs.Limits.{beliefLimit}
-use Rattle.play.specs.Game.{Game, set, Unrealizable}
+use Rattle.play.specs.Game.{Game, Unrealizable}
 use Rattle.play.specs.Rank.{Arena}
 use Rattle.play.specs.Belief.{Belief}
 use Rattle.play.specs.Answer.{moves, positions, Verdict, solved, unrealizable, verdictOf, Right}
 use Rattle.play.proofs.AnswerLaws.{answer-right}
 use Rattle.play.proofs.AnswerTable.{answer-table, one-answer}
-use Rattle.game.specs.Solution.{gameOf, problemStates, beliefsOf, Solution, tooManyStates, tooManyBeliefs, verdict, solutionOf, solutionFrom, solution}
+use Rattle.game.specs.Solution.{gameOf, problemStates, beliefsOf, Solution, tooManyStates, tooManyBeliefs, verdict, solutionOf}
+use Rattle.game.specs.Solution.{solutionFrom, solution}
 use Rattle.game.specs.Believed.{SameBelief, FinalBelief, ManyStates, ManyBeliefs, Small}
 use Rattle.game.specs.SolvedAs.{Controller}
 use Rattle.game.proofs.StatesJudge.{beliefs-know, some-hidden}
@@ -32,7 +33,7 @@ use Rattle.game.proofs.BelievedLaws.{many-states, few-states, beliefs-t
 pub data Solving (p : Problem) : Solution → Type 0 where
   states : ManyStates p → Solving p tooManyStates
   beliefs : (¬ ManyStates p) → ManyBeliefs p → Solving p tooManyBeliefs
-  none : Small p → Unrealizable (gameOf p) set → Solving p (verdict unrealizable)
+  none : Small p → Unrealizable (gameOf p) (p .order) → Solving p (verdict unrealizable)
   -- the table, and there is no other
   table : Small p → (n r : ℕ) (cells : List ℕ) → Controller p n r cells
       → ((m q : ℕ) (t : List ℕ) → Controller p m q t → (m ≡ n) × (q ≡ r) × (t ≡ cells)) → Solving p (verdict (solved n r cells))
@@ -65,32 +66,33 @@ module _ (p : Problem) (few : Few (p .signals)) where
 
     module _ (all : List Belief) (is : counted ≡ closed all) where
       abbrev answer : Verdict
-      answer = verdictOf A sameSet (G .choices) (G .observations) (length all)
+      answer = verdictOf (p .order) A sameSet (G .choices) (G .observations) (length all)
 
       small : Small p
       small = (few-states p xs listed, λ m. closed-not-over all (sym is ∙ many-over m))
 
-      right : Right beliefLimit G answer
+      right : Right beliefLimit (p .order) G answer
       right =
-          answer-right G A sameSet sameSet-says beliefLimit all is (beliefs-know p xs listed) (pow-pos (p .signals .observed)) (some-hidden p)
+          answer-right (p .order) G A sameSet sameSet-says beliefLimit all is (beliefs-know p xs listed) (pow-pos (p .signals .observed)) (some-hidden p)
           few-choices few-observations
 
-      solving-verdict : (v : Verdict) → answer ≡ v → Right beliefLimit G v → Solving p (verdict v)
+      solving-verdict : (v : Verdict) → answer ≡ v → Right beliefLimit (p .order) G v → Solving p (verdict v)
       solving-verdict (solved n r cells) e s =
           let (t, q) =
-          answer-table A sameSet sameSet-says (G .choices) (G .observations) beliefLimit (pow-pos (p .signals .observed)) few-choices few-observations
+          answer-table (p .order) A sameSet sameSet-says (G .choices) (G .observations) beliefLimit
+          (pow-pos (p .signals .observed)) few-choices few-observations
           all is (SameBelief p) (FinalBelief p) (beliefs-tell p xs listed) n r cells e in
           table small n r cells (record { isTable = t; rank = q; solves = s })
           (λ m q t c.
-          one-answer A sameSet sameSet-says (G .choices) (G .observations) beliefLimit (pow-pos (p .signals .observed)) few-choices few-observations
+          one-answer (p .order) A sameSet sameSet-says (G .choices) (G .observations) beliefLimit (pow-pos (p .signals .observed)) few-choices few-observations
           all is (SameBelief p) (FinalBelief p) (beliefs-tell p xs listed) n r cells e m q t (c .isTable) (c .rank))
       solving-verdict unrealizable e u = none small u
 
-    solving-beliefs : (l : Listing Belief) → counted ≡ l → Solving p (solutionOf A sameSet (G .choices) (G .observations) l)
+    solving-beliefs : (l : Listing Belief) → counted ≡ l → Solving p (solutionOf (p .order) A sameSet (G .choices) (G .observations) l)
     solving-beliefs (closed all) e = solving-verdict all e (answer all e) refl (right all e)
     solving-beliefs over e = beliefs (few-states p xs listed) (many-told e)
 
-  solving-states : (l : Listing PatternSet) → problemStates p ≡ l → Solving p (solutionFrom (problemParts p) (countsIn (p .signals)) l)
+  solving-states : (l : Listing PatternSet) → problemStates p ≡ l → Solving p (solutionFrom (p .order) (problemParts p) (countsIn (p .signals)) l)
   solving-states (closed xs) e = solving-beliefs xs e (counted xs e) refl
   solving-states over e = states (many-states p .0 e)
 
@@ -112,7 +114,7 @@ module _ (p : Problem) where
   beliefs-due s (none small u) f d = absurd (small .1 d)
   beliefs-due s (table small n r cells c one) f d = absurd (small .1 d)
 
-  pub none-due : (s : Solution) → Solving p s → Small p → Unrealizable (gameOf p) set → s ≡ verdict unrealizable
+  pub none-due : (s : Solution) → Solving p s → Small p → Unrealizable (gameOf p) (p .order) → s ≡ verdict unrealizable
   none-due s (states m) small u = absurd (small .0 m)
   none-due s (beliefs f m) small u = absurd (small .1 m)
   none-due s (none small′ u′) small u = refl

@@ -14,7 +14,10 @@ use Rattle.rules.specs.Refuses.{Refuses}
 use Rattle.lines.proofs.RefusalLaws.{told-apart, one-number, one-place}
 use Rattle.rules.proofs.RefusesLaws.{refuses-number}
 use Rattle.play.specs.Cells.{tableSize}
-use Rattle.play.specs.Game.{set, Play, Strategy, IsStrategy, Steps, run, Wins, Unrealizable}
+use Rattle.basics.specs.declared.order.Order.{Order}
+use Rattle.basics.specs.Order.{orderNumber}
+use Rattle.basics.proofs.OrderLaws.{one-order}
+use Rattle.play.specs.Game.{Play, Strategy, IsStrategy, Steps, run, Wins, Unrealizable}
 use Rattle.play.specs.Table.{tableStrategy}
 use Rattle.game.specs.Solution.{gameOf, Solution, solution}
 use Rattle.game.specs.Believed.{ManyStates, ManyBeliefs}
@@ -70,7 +73,7 @@ module _ (source : List ℕ) (work room : ℕ) where
 
     module _ (p : Problem) (denotes : Denotes source p) where
       abbrev told : Solution → Told
-      told s = toldSolved (solvedOf (p .signals .observed) s)
+      told s = toldSolved (solvedOf (p .order) (p .signals .observed) s)
 
       is-told : answer ≡ told (solution p)
       is-told = solution-answered source work room long-enough p denotes (solution p) refl .0
@@ -93,13 +96,14 @@ module _ (source : List ℕ) (work room : ℕ) where
       when-many-beliefs s (none small u) e = absurd (omega (arith, one-number e))
       when-many-beliefs s (table small n r t c one) e = told-apart (sym e)
 
-      when-unrealizable : (s : Solution) → Solving p s → told s ≡ refused 11 0 → Unrealizable (gameOf p) set
+      when-unrealizable : (s : Solution) → Solving p s → told s ≡ refused 11 0 → Unrealizable (gameOf p) (p .order)
       when-unrealizable s (states m) e = absurd (omega (arith, one-number e))
       when-unrealizable s (beliefs f m) e = absurd (omega (arith, one-number e))
       when-unrealizable s (none small u) e = u
       when-unrealizable s (table small n r t c one) e = told-apart (sym e)
 
-      when-solved : (s : Solution) → Solving p s → (n r : ℕ) (t : List ℕ) → told s ≡ values (n ∷ p .signals .observed ∷ r ∷ []) → cellsOf s ≡ t
+      when-solved : (s : Solution) → Solving p s → (n r : ℕ) (t : List ℕ)
+          → told s ≡ values (n ∷ p .signals .observed ∷ orderNumber (p .order) ∷ r ∷ []) → cellsOf s ≡ t
           → Controller p n r t
       when-solved s (states m) n r t e q = told-apart e
       when-solved s (beliefs f m) n r t e q = told-apart e
@@ -122,36 +126,38 @@ module _ (source : List ℕ) (work room : ℕ) where
       )
 
       module _ (few-states : ¬ ManyStates p) (few-beliefs : ¬ ManyBeliefs p) where
-        pub unrealizable : (answer ≡ refused 11 0) ↔ ((σ : Strategy set) → IsStrategy (gameOf p) σ → ¬ Wins (gameOf p) σ)
+        pub unrealizable : (answer ≡ refused 11 0) ↔ ((σ : Strategy (p .order)) → IsStrategy (gameOf p) σ → ¬ Wins (gameOf p) σ)
         unrealizable = (
           λ e. when-unrealizable (solution p) view (sym is-told ∙ e),
           λ u. answered-iff source work room _ _ .1 (due.unrealizable long-enough p denotes (few-states, few-beliefs) u) .0,
         )
 
         pub controller : (n r : ℕ) (t : List ℕ)
-            → ((answer ≡ values (n ∷ p .signals .observed ∷ r ∷ [])) × (cells ≡ t)) ↔ Controller p n r t
+            → ((answer ≡ values (n ∷ p .signals .observed ∷ orderNumber (p .order) ∷ r ∷ [])) × (cells ≡ t)) ↔ Controller p n r t
         controller n r t = (
           λ e. when-solved (solution p) view n r t (sym is-told ∙ e .0) (sym are-cells ∙ e .1),
           λ c. answered-iff source work room _ _ .1 (due.table long-enough p denotes (few-states, few-beliefs) n r t c),
         )
 
-        pub otherwise : (¬ (answer ≡ refused 11 0)) → (n : ℕ) × (r : ℕ) × (answer ≡ values (n ∷ p .signals .observed ∷ r ∷ [])) × Controller p n r cells
+        pub otherwise : (¬ (answer ≡ refused 11 0))
+            → (n : ℕ) × (r : ℕ) × (answer ≡ values (n ∷ p .signals .observed ∷ orderNumber (p .order) ∷ r ∷ [])) × Controller p n r cells
         otherwise f = at (solution p) view refl
           where
             at : (s : Solution) → Solving p s → solution p ≡ s
-                → (n : ℕ) × (r : ℕ) × (answer ≡ values (n ∷ p .signals .observed ∷ r ∷ [])) × Controller p n r cells
+                → (n : ℕ) × (r : ℕ) × (answer ≡ values (n ∷ p .signals .observed ∷ orderNumber (p .order) ∷ r ∷ [])) × Controller p n r cells
             at s (states m) e = absurd (few-states m)
             at s (beliefs g m) e = absurd (few-beliefs m)
             at s (none small u) e = absurd (f (unrealizable .1 u))
             at s (table small n r t c one) e = (n, r, is-told ∙ ap told e, subst (Controller p n r) (sym (are-cells ∙ ap cellsOf e)) c)
 
 -- a table that is due is the controller of a problem that the text denotes
-pub due-table : (work room : ℕ) (source : List ℕ) (n o r : ℕ) (t : List ℕ) → SolvedAs work room source (values (n ∷ o ∷ r ∷ [])) t
-    → (p : Problem) × Denotes source p × (o ≡ p .signals .observed) × Controller p n r t
-due-table work room source n o r t d = at (values (n ∷ o ∷ r ∷ [])) t d refl
+pub due-table : (work room : ℕ) (source : List ℕ) (n observed r : ℕ) (o : Order) (t : List ℕ)
+    → SolvedAs work room source (values (n ∷ observed ∷ orderNumber o ∷ r ∷ [])) t
+    → (p : Problem) × Denotes source p × (observed ≡ p .signals .observed) × (o ≡ p .order) × Controller p n r t
+due-table work room source n observed r o t d = at (values (n ∷ observed ∷ orderNumber o ∷ r ∷ [])) t d refl
   where
-    at : (a : Told) (t : List ℕ) → SolvedAs work room source a t → a ≡ values (n ∷ o ∷ r ∷ [])
-        → (p : Problem) × Denotes source p × (o ≡ p .signals .observed) × Controller p n r t
+    at : (a : Told) (t : List ℕ) → SolvedAs work room source a t → a ≡ values (n ∷ observed ∷ orderNumber o ∷ r ∷ [])
+        → (p : Problem) × Denotes source p × (observed ≡ p .signals .observed) × (o ≡ p .order) × Controller p n r t
     at a t (due.short-memory s) e = told-apart e
     at a t (due.bad-source f number place x) e = told-apart e
     at a t (due.too-many-states f p d m) e = told-apart e
@@ -160,15 +166,17 @@ due-table work room source n o r t d = at (values (n ∷ o ∷ r ∷ [])) t d re
     at a t (due.table f p d small m q cells c) e =
         let is-n : m ≡ n = cc in
         let is-r : q ≡ r = cc in
-        let is-o : o ≡ p .signals .observed = cc in
-        (p, d, is-o, rw (← is-n, ← is-r) c)
+        let is-observed : observed ≡ p .signals .observed = cc in
+        let is-o = one-order o (p .order) cc in
+        (p, d, is-observed, is-o, rw (← is-n, ← is-r) c)
 
 -- what a table is good for
 pub plays : (p : Problem) (n r : ℕ) (t : List ℕ) → Controller p n r t
-    → IsStrategy (gameOf p) (tableStrategy t)
-    × ((play : Play (gameOf p)) → (m : ℕ) × (m ≤ r) × Steps (tableStrategy t) play m × Satisfies (run (gameOf p) (tableStrategy t) play m) p)
-    × ((play : Play (gameOf p)) × Steps (tableStrategy t) play r)
-    × ((σ : Strategy set) → IsStrategy (gameOf p) σ → Wins (gameOf p) σ → (play : Play (gameOf p)) × (m : ℕ) × Steps σ play m × (r ≤ m))
+    → IsStrategy (gameOf p) (tableStrategy (p .order) t)
+    × ((play : Play (gameOf p)) → (m : ℕ) × (m ≤ r) × Steps (tableStrategy (p .order) t) play m
+    × Satisfies (run (gameOf p) (tableStrategy (p .order) t) play m) p)
+    × ((play : Play (gameOf p)) × Steps (tableStrategy (p .order) t) play r)
+    × ((σ : Strategy (p .order)) → IsStrategy (gameOf p) σ → Wins (gameOf p) σ → (play : Play (gameOf p)) × (m : ℕ) × Steps σ play m × (r ≤ m))
 plays p n r t c =
     let o = c .solves .optimal in (
       o .isStrategy,

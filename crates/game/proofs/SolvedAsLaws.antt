@@ -1,7 +1,6 @@
 -- What is answered is what is due: demand 3, both ways.
 -- Assumes nothing.
 use Prim.Native.Nat.{ℕ, _*_}
-use native.Mathlib.Omega.{arith}
 use mathlib.Core.Path.{_≡_, refl, sym, ap, _∙_, subst}
 use mathlib.Core.Logic.{_↔_, inl, inr}
 use mathlib.Core.Bool.{false}
@@ -20,6 +19,9 @@ use Rattle.rules.proofs.DenotesLaws.{read-iff-denotes}
 use Rattle.rules.proofs.RefusesLaws.{refused-iff, told-refused}
 use Rattle.rules.specs.Within.{Few}
 use Rattle.rules.proofs.WithinLimits.{read-within}
+use Rattle.basics.specs.declared.order.Order.{Order}
+use Rattle.basics.specs.Order.{orderNumber}
+use Rattle.basics.proofs.OrderLaws.{one-order}
 use Rattle.play.specs.Cells.{rowSize, tableSize}
 use Rattle.game.specs.declared.solving.Solved.{Solved}
 use Rattle.game.specs.declared.solving.Solved.the-variants.{Table, Refused}
@@ -47,7 +49,7 @@ module _ (source : List ℕ) where
 
   module _ (work room : ℕ) (long : ¬ Short work room) where
     due-solution : (p : Problem) → Denotes source p → (s : Solution) → Solving p s
-        → SolvedAs work room source (toldSolved (solvedOf (p .signals .observed) s)) (cellsOf s)
+        → SolvedAs work room source (toldSolved (solvedOf (p .order) (p .signals .observed) s)) (cellsOf s)
     due-solution p d s (states m) = too-many-states long p d m
     due-solution p d s (beliefs f m) = too-many-beliefs long p d f m
     due-solution p d s (none small u) = unrealizable long p d small u
@@ -79,10 +81,10 @@ module _ (source : List ℕ) where
     long-answered f o e = rw (is-long work room f) (ap (λ z. toldSolved (solvedFrom z)) e, ap cellsFrom e)
 
     pub solution-answered : (¬ Short work room) → (p : Problem) → Denotes source p → (s : Solution) → solution p ≡ s
-        → Answered (toldSolved (solvedOf (p .signals .observed) s)) (cellsOf s)
+        → Answered (toldSolved (solvedOf (p .order) (p .signals .observed) s)) (cellsOf s)
     solution-answered f p d s e =
         let (a, b) = long-answered f (accepted p) (read-iff-denotes source p .1 d) in
-        (a ∙ ap (λ z. toldSolved (solvedOf (p .signals .observed) z)) e, b ∙ ap cellsOf e)
+        (a ∙ ap (λ z. toldSolved (solvedOf (p .order) (p .signals .observed) z)) e, b ∙ ap cellsOf e)
 
     pub solving-read : (p : Problem) → Denotes source p → Solving p (solution p)
     solving-read p d = solving p (few-signals p (read-iff-denotes source p .1 d))
@@ -109,8 +111,7 @@ module _ (source : List ℕ) where
 -- ---- the cells that are due are those of the rows that the answer tells
 
 abbrev pub RowCells : Told → List ℕ → Type 0
-RowCells (values []) cells = ⊥
-RowCells (values (n ∷ l)) cells = length cells ≡ n * rowSize
+RowCells (values l) cells = (n observed r : ℕ) (o : Order) → l ≡ n ∷ observed ∷ orderNumber o ∷ r ∷ [] → length cells ≡ n * rowSize o
 RowCells (refused number place) cells = cells ≡ []
 
 pub due-cells : (work room : ℕ) (source : List ℕ) (a : Told) (cells : List ℕ) → SolvedAs work room source a cells → RowCells a cells
@@ -119,7 +120,11 @@ due-cells work room source a cells (bad-source f number place x) = refl
 due-cells work room source a cells (too-many-states f p d m) = refl
 due-cells work room source a cells (too-many-beliefs f p d s m) = refl
 due-cells work room source a cells (unrealizable f p d small u) = refl
-due-cells work room source a cells (table f p d small n r t c) = c .isTable .long
+due-cells work room source a cells (table f p d small n r t c) =
+    λ m observed q o e.
+    let is-n : n ≡ m = cc in
+    let is-o = one-order (p .order) o cc in
+    rw (← is-n, ← is-o) (c .isTable .long)
 
 -- ---- an answer is known by its numbers and values
 
@@ -127,8 +132,9 @@ pub same-solved : (s q : Solved) → toldSolved s ≡ toldSolved q → s ≡ q
 same-solved (Table shape r) (Table shape′ r′) e =
     let rows : shape .rows ≡ shape′ .rows = cc in
     let observed : shape .observed ≡ shape′ .observed = cc in
+    let order = one-order (shape .order) (shape′ .order) cc in
     let worst : r ≡ r′ = cc in
-    rw (worst, rows, observed) refl
+    rw (worst, rows, observed, order) refl
 same-solved (Table shape r) (Refused x) e = told-apart (sym e)
 same-solved (Refused x) (Table shape r) e = told-apart e
 same-solved (Refused x) (Refused y) e =

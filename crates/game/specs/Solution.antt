@@ -4,6 +4,7 @@ use Prim.Native.Nat.{ℕ, _^_}
 use mathlib.Core.Bool.{Bool}
 use mathlib.Core.List.{List, []}
 use lib.ListN.{length, getD}
+use Rattle.basics.specs.declared.order.Order.{Order}
 use Rattle.rules.specs.Within.{countsIn}
 use Rattle.formula.specs.declared.parts.Part.{Part}
 use Rattle.formula.specs.Letter.{Counts, letterFrom}
@@ -57,26 +58,26 @@ pub data Solution : Type 0 where
   tooManyBeliefs : Solution
   verdict : Verdict → Solution
 
--- from the positions counted
-abbrev pub solutionOf : (A : Arena) (same : A .K → A .K → Bool) (choices observations : ℕ) → Listing (A .K) → Solution
-solutionOf A same choices observations (closed all) = verdict (verdictOf A same choices observations (length all))
-solutionOf A same choices observations over = tooManyBeliefs
+-- from the positions counted, for an order of a step
+abbrev pub solutionOf : Order → (A : Arena) (same : A .K → A .K → Bool) (choices observations : ℕ) → Listing (A .K) → Solution
+solutionOf o A same choices observations (closed all) = verdict (verdictOf o A same choices observations (length all))
+solutionOf o A same choices observations over = tooManyBeliefs
 
 -- from the beliefs over an automaton's states
-abbrev pub beliefSolution : (M : Automaton) (choices observations hiddens : ℕ) → (ℕ → ℕ → ℕ → ℕ) → Solution
-beliefSolution M choices observations hiddens letter =
+abbrev pub beliefSolution : Order → (M : Automaton) (choices observations hiddens : ℕ) → (ℕ → ℕ → ℕ → ℕ) → Solution
+beliefSolution o M choices observations hiddens letter =
     let A = beliefs M hiddens letter in
-    solutionOf A sameSet choices observations (positions A sameSet choices observations beliefLimit)
+    solutionOf o A sameSet choices observations (positions A sameSet choices observations beliefLimit)
 
 -- from the listed states of a formula's parts, with so many signals
-abbrev pub solutionFrom : List Part → Counts → Listing PatternSet → Solution
-solutionFrom ps c (closed xs) = beliefSolution (automatonOf ps xs) (2 ^ (c .outputs)) (2 ^ (c .observed)) (2 ^ (c .hidden)) letterFrom
-solutionFrom ps c over = tooManyStates
+abbrev pub solutionFrom : Order → List Part → Counts → Listing PatternSet → Solution
+solutionFrom o ps c (closed xs) = beliefSolution o (automatonOf ps xs) (2 ^ (c .outputs)) (2 ^ (c .observed)) (2 ^ (c .hidden)) letterFrom
+solutionFrom o ps c over = tooManyStates
 
 -- from a formula's parts
-abbrev pub partsSolution : List Part → Counts → Solution
-partsSolution ps c = solutionFrom ps c (statesOf ps (lettersOf c) stateLimit)
+abbrev pub partsSolution : Order → List Part → Counts → Solution
+partsSolution o ps c = solutionFrom o ps c (statesOf ps (lettersOf c) stateLimit)
 
--- for a problem: that of its formula's parts and of its signals
+-- for a problem: that of its order, of its formula's parts and of its signals
 abbrev pub solution : Problem → Solution
-solution p = partsSolution (problemParts p) (countsIn (p .signals))
+solution p = partsSolution (p .order) (problemParts p) (countsIn (p .signals))

@@ -7,6 +7,8 @@ use mathlib.Core.List.{List, [], _∷_}
 use lib.Dec.{ltb}
 use lib.ListN.{length, take, replicate}
 use Rattle.basics.specs.Lists.{written}
+use Rattle.basics.specs.declared.order.Order.{Order}
+use Rattle.basics.specs.Order.{orderNumber}
 use Rattle.lines.specs.declared.refusal.Refusal.the-variants as refusal
 use Rattle.lines.specs.Refusal.{Told, values, refused, toldRefusal}
 use Rattle.rules.specs.Limits.{workSize}
@@ -19,7 +21,7 @@ use Rattle.tables.specs.declared.answering.Outcome.the-variants as outcome
 use Rattle.tables.specs.Outcome.{outcomeOf}
 use Rattle.play.specs.Limits.{beliefLimit}
 use Rattle.play.specs.Cells.{rowSize, tableSize}
-use Rattle.play.specs.Game.{set, Unrealizable}
+use Rattle.play.specs.Game.{Unrealizable}
 use Rattle.play.specs.IsTable.{RankIs, IsTable}
 use Rattle.play.specs.Answer.{cellsOf as verdictCells, Solves}
 use Rattle.game.specs.declared.solving.Solved.{Solved}
@@ -29,18 +31,18 @@ use Rattle.game.specs.Believed.{SameBelief, FinalBelief, ManyStates, Man
 
 -- ---- the answer
 
--- for an outcome, for a solution, each with the number of observed signals, for a text
-abbrev pub solvedWith : ℕ → Outcome → Solved
-solvedWith observed (outcome.Table n r) = Table (record { rows = n; observed = observed }) r
-solvedWith observed outcome.Unrealizable = Refused refusal.Unrealizable
+-- for an outcome, for a solution, each with the order of a step and the number of observed signals, for a text
+abbrev pub solvedWith : Order → ℕ → Outcome → Solved
+solvedWith o observed (outcome.Table n r) = Table (record { rows = n; observed = observed; order = o }) r
+solvedWith o observed outcome.Unrealizable = Refused refusal.Unrealizable
 
-abbrev pub solvedOf : ℕ → Solution → Solved
-solvedOf observed (verdict v) = solvedWith observed (outcomeOf v)
-solvedOf observed tooManyBeliefs = Refused refusal.TooManyBeliefs
-solvedOf observed tooManyStates = Refused refusal.TooManyStates
+abbrev pub solvedOf : Order → ℕ → Solution → Solved
+solvedOf o observed (verdict v) = solvedWith o observed (outcomeOf v)
+solvedOf o observed tooManyBeliefs = Refused refusal.TooManyBeliefs
+solvedOf o observed tooManyStates = Refused refusal.TooManyStates
 
 abbrev pub solvedFrom : Reading → Solved
-solvedFrom (accepted p) = solvedOf (p .signals .observed) (solution p)
+solvedFrom (accepted p) = solvedOf (p .order) (p .signals .observed) (solution p)
 solvedFrom (reading.refused r) = Refused r
 
 -- lent memory that is too short
@@ -50,9 +52,10 @@ isShort work table = ltb work workSize || ltb table tableSize
 unfoldable pub solvedBy : ℕ → ℕ → List ℕ → Solved
 solvedBy work table source = cond (isShort work table) (Refused refusal.ShortMemory) (solvedFrom (readProblem source))
 
--- in the reference's terms: the row count, the number of observed signals and the worst case; or a refusal's number and place
+-- in the reference's terms: the row count, the number of observed signals, the order's number and the worst case; or a refusal's number
+-- and place
 abbrev pub toldSolved : Solved → Told
-toldSolved (Table shape r) = values (shape .rows ∷ shape .observed ∷ r ∷ [])
+toldSolved (Table shape r) = values (shape .rows ∷ shape .observed ∷ orderNumber (shape .order) ∷ r ∷ [])
 toldSolved (Refused x) = toldRefusal x
 
 abbrev pub toldBy : ℕ → ℕ → List ℕ → Told
@@ -82,20 +85,19 @@ workAfter table work = cond (isShort (length work) table) work (replicate (lengt
 
 -- the used rows of a table, by the answer
 abbrev pub usedRows : Solved → List ℕ → List ℕ
-usedRows (Table shape r) table = take (shape .rows * rowSize) table
+usedRows (Table shape r) table = take (shape .rows * rowSize (shape .order)) table
 usedRows (Refused x) table = []
 
 -- ---- what is due
 
 -- the table that the reference lays down for a problem (REFERENCE.md, The table), of n rows and with worst case r
 pub record Controller (p : Problem) (n r : ℕ) (cells : List ℕ) : Type 0 where
-  -- one row per belief met: row 0 the start, rows numbered as first met, the smallest choice that leads below the row's rank, next rows
-  -- by the moves
-  pub isTable : IsTable (gameOf p .choices) (gameOf p .observations) (SameBelief p) (FinalBelief p) n cells
+  -- one row per belief met: row 0 the start, rows numbered as first met, the choices that the order takes, next rows by the moves
+  pub isTable : IsTable (p .order) (gameOf p .choices) (gameOf p .observations) (SameBelief p) (FinalBelief p) n cells
   -- the worst case is the rank of the start
-  pub rank : RankIs (gameOf p .choices) (gameOf p .observations) (FinalBelief p) [] r
-  -- read as a strategy it wins, with exactly this worst case, and no strategy that wins has a smaller one
-  pub solves : Solves beliefLimit (gameOf p) n r cells
+  pub rank : RankIs (p .order) (gameOf p .choices) (gameOf p .observations) (FinalBelief p) [] r
+  -- read as a strategy of the order it wins, with exactly this worst case, and no strategy of the order that wins has a smaller one
+  pub solves : Solves beliefLimit (p .order) (gameOf p) n r cells
 
 -- lent memory that is too short
 abbrev pub Short : (work table : ℕ) → Type 0
@@ -113,9 +115,9 @@ pub data SolvedAs (work table : ℕ) (source : List ℕ) : Told → List ℕ →
   -- 10: they are within 128, and more than 256 beliefs can be reached
   too-many-beliefs : (¬ Short work table) → (p : Problem) → Denotes source p → (¬ ManyStates p) → ManyBeliefs p
       → SolvedAs work table source (refused 10 0) []
-  -- 11: both are within their limits, and no strategy wins
-  unrealizable : (¬ Short work table) → (p : Problem) → Denotes source p → Small p → Unrealizable (gameOf p) set
+  -- 11: both are within their limits, and no strategy of the problem's order wins
+  unrealizable : (¬ Short work table) → (p : Problem) → Denotes source p → Small p → Unrealizable (gameOf p) (p .order)
       → SolvedAs work table source (refused 11 0) []
-  -- the table, with its row count, the number of observed signals and its worst case
+  -- the table, with its row count, the number of observed signals, the order's number and its worst case
   table : (¬ Short work table) → (p : Problem) → Denotes source p → Small p → (n r : ℕ) (cells : List ℕ) → Controller p n r cells
-      → SolvedAs work table source (values (n ∷ p .signals .observed ∷ r ∷ [])) cells
+      → SolvedAs work table source (values (n ∷ p .signals .observed ∷ orderNumber (p .order) ∷ r ∷ [])) cells

@@ -2,6 +2,7 @@
 -- Assumes nothing.
 use Prim.Native.Nat.{ℕ, _+_, _*_, _≤_, _<_}
 use mathlib.Core.List.{List}
+use Rattle.basics.specs.declared.order.Order.{Order}
 use Rattle.search.specs.Limits.{letterLimit}
 use Rattle.play.specs.Limits.{sideLimit}
 use Rattle.play.specs.Belief.{Automaton}
@@ -25,6 +26,6 @@ abbrev pub letterNumber : (choices observations : ℕ) → ℕ → ℕ → ℕ �
 letterNumber choices observations c s h = s * choices + c + h * (choices * observations)
 
 -- what is answered from n states in memory
-unfoldable pub memorySolution : (sets successors : List ℕ) (n choices observations hiddens : ℕ) → Solution
-memorySolution sets successors n choices observations hiddens =
-    beliefSolution (automatonIn sets successors n) choices observations hiddens (letterNumber choices observations)
+unfoldable pub memorySolution : Order → (sets successors : List ℕ) (n choices observations hiddens : ℕ) → Solution
+memorySolution o sets successors n choices observations hiddens =
+    beliefSolution o (automatonIn sets successors n) choices observations hiddens (letterNumber choices observations)

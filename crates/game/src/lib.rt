@@ -4,6 +4,5 @@ mod solving;
 
 pub use solving::Solved;
 pub use solving::solve;
-pub use tables::ROW;
 pub use tables::Shape;
 pub use tables::TABLE_SIZE;

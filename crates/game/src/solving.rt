@@ -11,15 +11,19 @@ ghost use Rattle.states.specs.Planes.{Sized};
 ghost use Rattle.play.specs.Cells.{tableSize};
 ghost use Rattle.basics.specs.Lists.{written};
 ghost use Rattle.game.specs.Solution.{partsSolution};
-ghost use Rattle.game.specs.SolvedAs.{solvedWith, solvedOf, solvedFrom, solvedBy, toldSolved, cellsOf, cellsFrom, tableAfter, workAfter, usedRows, SolvedAs};
+ghost use Rattle.game.specs.SolvedAs.{solvedWith, solvedOf, solvedFrom, solvedBy, toldSolved, cellsOf, cellsFrom, tableAfter};
+ghost use Rattle.game.specs.SolvedAs.{workAfter, usedRows, SolvedAs};
 ghost use Rattle.beliefs.specs.BeliefMemory.{Successors};
 ghost use Rattle.game.specs.StateMemory.{Widths, memorySolution};
+ghost use Rattle.lines.specs.Memory.{orderIn};
+use basics::Order;
 use basics::clear;
 use beliefs::explore_beliefs;
 use lines::PART_LIMIT;
 use lines::Reading;
 use lines::Refusal;
 use lines::Sizes;
+use lines::order_of;
 use rules::WORK_SIZE;
 use rules::read;
 use search::Explored;
@@ -43,13 +47,17 @@ pub enum Solved {
     Refused(Refusal),
 }
 
-// The same, as it is answered for a problem with so many observed signals.
-fn solved_with(observed: usize, r: Outcome) -> Solved
-    ensures { λ s. ⌜ s ≡ solvedWith observed r ⌝ }
+// The same, as it is answered for a problem of an order, with so many observed signals.
+fn solved_with(order: Order, observed: usize, r: Outcome) -> Solved
+    ensures { λ s. ⌜ s ≡ solvedWith order observed r ⌝ }
 {
     match r {
         Outcome::Table { rows, worst_case } => Solved::Table {
-            shape: Shape { rows, observed },
+            shape: Shape {
+                rows,
+                observed,
+                order,
+            },
             worst_case,
         },
         Outcome::Unrealizable => Solved::Refused(Refusal::Unrealizable),
@@ -57,8 +65,9 @@ fn solved_with(observed: usize, r: Outcome) -> Solved
 }
 
 // The answer from n states: their sets, and the number of the state that each letter leads to from each. A table's answer tells the
-// number of observed signals.
+// order and the number of observed signals.
 fn solve_states(
+    order: Order,
     sets: &[u8],
     successors: &[u8],
     n: usize,
@@ -75,9 +84,9 @@ fn solve_states(
     requires { ⌜ Widths choices observations hiddens ⌝ }
     requires { ⌜ Successors (now successors) n (choices * observations) hiddens ⌝ }
     requires { ⌜ tableSize ≤ length (now table) ⌝ }
-    ensures { λ r. ⌜ r ≡ solvedOf observed (memorySolution (now (sets .entry)) (now (successors .entry)) n choices observations hiddens) ⌝ }
+    ensures { λ r. ⌜ r ≡ solvedOf order observed (memorySolution order (now (sets .entry)) (now (successors .entry)) n choices observations hiddens) ⌝ }
     ensures { λ _. ⌜ now (table .exit)
-        ≡ written (cellsOf (memorySolution (now (sets .entry)) (now (successors .entry)) n choices observations hiddens)) (now (table .entry)) ⌝ }
+        ≡ written (cellsOf (memorySolution order (now (sets .entry)) (now (successors .entry)) n choices observations hiddens)) (now (table .entry)) ⌝ }
 {
     let mut moves = [0u8; BELIEF_LIMIT * PAIR_LIMIT];
     let mut finals = [0u8; BELIEF_LIMIT];
@@ -91,8 +100,9 @@ fn solve_states(
         &mut finals,
     ) {
         Explored::Found(k) => solved_with(
+            order,
             observed,
-            answer(&moves, &finals, k, choices, observations, table),
+            answer(order, &moves, &finals, k, choices, observations, table),
         ),
         Explored::TooMany => Solved::Refused(Refusal::TooManyBeliefs),
     }
@@ -104,16 +114,18 @@ fn solve_parts(parts: &[u32], sizes: Sizes, sets: &mut [u8], table: &mut [u16]) 
     requires { ⌜ Sized (now parts) sizes ⌝ }
     requires { ⌜ length (now sets) ≡ (stateLimit + 1) * setSize ⌝ }
     requires { ⌜ tableSize ≤ length (now table) ⌝ }
-    ensures { λ r. ⌜ r ≡ solvedOf (sizes .observed) (partsSolution (partsIn (now (parts .entry))) (countsOf sizes)) ⌝ }
+    ensures { λ r. ⌜ r ≡ solvedOf (orderIn sizes) (sizes .observed) (partsSolution (orderIn sizes) (partsIn (now (parts .entry))) (countsOf sizes)) ⌝ }
     ensures { λ _. ⌜ now (table .exit)
-        ≡ written (cellsOf (partsSolution (partsIn (now (parts .entry))) (countsOf sizes))) (now (table .entry)) ⌝ }
+        ≡ written (cellsOf (partsSolution (orderIn sizes) (partsIn (now (parts .entry))) (countsOf sizes))) (now (table .entry)) ⌝ }
 {
     let mut successors = [0u8; STATE_LIMIT * LETTER_LIMIT];
+    let order = order_of(sizes);
     let outputs = sizes.outputs;
     let observed = sizes.observed;
     let hidden = sizes.hidden;
     match explore(parts, sizes, sets, &mut successors) {
         Explored::Found(n) => solve_states(
+            order,
             sets,
             &successors,
             n,

@@ -17,12 +17,15 @@ use Rattle.basics.proofs.BytesLaws.{past-in}
 use Rattle.lines.specs.declared.refusal.Refusal.the-variants.{BadLine}
 use Rattle.lines.specs.declared.problem.Kind.{Kind}
 use Rattle.lines.specs.declared.problem.Word.{Word}
-use Rattle.lines.specs.declared.problem.Word.the-variants.{Declare, Rule, Unknown}
+use Rattle.lines.specs.declared.problem.Word.the-variants.{Declare, Rule, Order as OrderWord, Unknown}
+use Rattle.lines.specs.declared.problem.OrderSoFar.{OrderSoFar}
+use Rattle.lines.specs.declared.problem.OrderSoFar.the-variants.{Open, Fixed}
 use Rattle.lines.specs.declared.problem.Sizes.{Sizes}
 use Rattle.lines.specs.declared.problem.Reading.{Reading}
 use Rattle.lines.specs.declared.problem.Reading.the-variants.{Refused}
-use Rattle.lines.specs.Lines.{tabPlace, wordOf, isName, isText}
-use Rattle.lines.specs.Effect.{Signals, isDeclared, isFull, formulaOf, allDeclared, isLarge, Effect, refuses, declareEffect, readEffect, stateEffect, byWord, effectOf}
+use Rattle.lines.specs.Lines.{tabPlace, wordOf, isName, isText, orderNamed}
+use Rattle.lines.specs.Effect.{Signals, isDeclared, isFull, formulaOf, allDeclared, isLarge, Effect, refuses}
+use Rattle.lines.specs.Effect.{declareEffect, readEffect, stateEffect, orderEffect, byWord, effectOf}
 use Rattle.lines.specs.Memory.{signalsIn, readingAfter, spansAfter, partsAfter, lineEffect, LineRead}
 
 -- the bytes of a second field, from the source and from its line
@@ -68,6 +71,13 @@ module _ (line : ℕ) (text : List ℕ) (g : Signals) (n m : ℕ) (s : Sizes) (s
   unfolding stateEffect
   state-spans = cond-elim Same (not (isText text)) _ _ (λ _. refl) (λ _. read-spans (parseFormula text))
 
+-- an order leaves both
+order-left : (line : ℕ) (before named : OrderSoFar) (s : Sizes) (start end : ℕ) (spans p : List ℕ)
+    → (spans ≡ spansAfter (orderEffect line before named) s start end spans) × (p ≡ partsAfter (orderEffect line before named) s p)
+order-left line (Fixed o) named s start end spans p = (refl, refl)
+order-left line Open Open s start end spans p = (refl, refl)
+order-left line Open (Fixed o) s start end spans p = (refl, refl)
+
 module _ (source : List ℕ) (at end line : ℕ) (s : Sizes) (spans p : List ℕ) (t : ℕ) (it : t ≡ past notTab (between source at end) 0) where
   abbrev bytes : List ℕ
   bytes = between source at end
@@ -91,7 +101,8 @@ module _ (source : List ℕ) (at end line : ℕ) (s : Sizes) (spans p : List ℕ
 
   module _ (h : t < length bytes) where
     by-word : (w : Word) → w ≡ wordOf (take t bytes)
-        → lineEffect source at end line s spans ≡ byWord w line (drop (t + 1) bytes) (signalsIn source s spans) (s .parts) (s .operators)
+        → lineEffect source at end line s spans
+        ≡ byWord w line (drop (t + 1) bytes) (signalsIn source s spans) (s .parts) (s .operators) (s .order)
     unfolding effectOf
     by-word w e = rw (lt-ltb (tabPlace bytes) (length bytes) (subst (λ k. k < length bytes) tab-is h), e, tab-is)
 
@@ -118,3 +129,12 @@ module _ (source : List ℕ) (at end line : ℕ) (s : Sizes) (spans p : List ℕ
           made (stateEffect line text (signalsIn source s spans) (s .parts) (s .operators))
           (by-word Rule (sym u ∙ e) ∙ ap (λ x. stateEffect line x (signalsIn source s spans) (s .parts) (s .operators)) (sym f)) a
           (state-spans line text (signalsIn source s spans) (s .parts) (s .operators) s (at + t + 1) end spans) b
+
+      pub order-word : w ≡ OrderWord → {r : Reading}
+          → r ≡ readingAfter (orderEffect line (s .order) (orderNamed (between source (at + t + 1) end))) s
+          → LineRead source at end line s spans p spans p r
+      order-word u a =
+          let f = field-is source at end t l (omega (arith, length-line source at end i l)) in
+          let left = order-left line (s .order) (orderNamed (between source (at + t + 1) end)) s (at + t + 1) end spans p in
+          made (orderEffect line (s .order) (orderNamed (between source (at + t + 1) end)))
+          (by-word OrderWord (sym u ∙ e) ∙ ap (λ x. orderEffect line (s .order) (orderNamed x)) (sym f)) a (left .0) (left .1)

@@ -1,5 +1,5 @@
--- What one line of a problem says: it declares a signal, states a formula, or is refused, by the tests in their order
--- (REFERENCE.md, A problem and Refusals).
+-- What one line of a problem says: it declares a signal, states a formula, says the order of a step, or is refused, by the tests in
+-- their order (REFERENCE.md, A problem and Refusals).
 -- Assumes nothing.
 use Prim.Native.Nat.{ℕ, zero, suc, _+_, _*_}
 use mathlib.Core.Bool.{Bool, true, not, _&&_, _||_, cond}
@@ -23,13 +23,16 @@ use Rattle.lines.specs.declared.refusal.Refusal.the-variants.{BadLine, N
 use Rattle.lines.specs.declared.problem.Kind.{Kind}
 use Rattle.lines.specs.declared.problem.Kind.the-variants.{Output, Observed, Hidden}
 use Rattle.lines.specs.declared.problem.Word.{Word}
-use Rattle.lines.specs.declared.problem.Word.the-variants.{Declare, Rule, Unknown}
+use Rattle.lines.specs.declared.problem.Word.the-variants.{Declare, Rule, Order as OrderWord, Unknown}
+use Rattle.basics.specs.declared.order.Order.{Order}
+use Rattle.lines.specs.declared.problem.OrderSoFar.{OrderSoFar}
+use Rattle.lines.specs.declared.problem.OrderSoFar.the-variants.{Open, Fixed}
 use Rattle.basics.specs.Limits.{kindLimit, signalLimit, operatorLimit}
 use Rattle.formula.specs.Limits.{partLimit}
 use Rattle.formula.specs.Formula.{Formula, False, size, operators}
 use Rattle.formula.specs.Parts.{opOf, build}
 use Rattle.formula.specs.Constraints.{once, before, after, within, during}
-use Rattle.lines.specs.Lines.{hasTab, firstField, secondField, wordOf, isName, isText}
+use Rattle.lines.specs.Lines.{hasTab, firstField, secondField, wordOf, isName, isText, orderNamed}
 
 -- ---- signals
 
@@ -104,11 +107,12 @@ exceeds n m k o = ltb partLimit (n + k + joint n) || ltb operatorLimit (m + o)
 abbrev pub isLarge : ℕ → ℕ → Formula → Bool
 isLarge n m φ = exceeds n m (size φ) (operators φ)
 
--- ---- what a line says, after g was declared and n parts with m operators were read
+-- ---- what a line says, after g was declared, n parts with m operators were read, and o is known of the order
 
 pub data Effect : Type 0 where
   declares : Kind → Name → Effect
   states : Formula → Effect
+  orders : Order → Effect
   refuses : Refusal → Effect
 
 unfoldable pub declareEffect : ℕ → Kind → Name → Signals → Effect
@@ -128,10 +132,18 @@ readEffect line text (parse.some a next) g n m =
 unfoldable pub stateEffect : ℕ → List ℕ → Signals → ℕ → ℕ → Effect
 stateEffect line text g n m = cond (not (isText text)) (refuses (BadLine line)) (readEffect line text (parseFormula text) g n m)
 
-abbrev pub byWord : Word → ℕ → List ℕ → Signals → ℕ → ℕ → Effect
-byWord (Declare k) line second g n m = declareEffect line k second g
-byWord Rule line second g n m = stateEffect line second g n m
-byWord Unknown line second g n m = refuses (BadLine line)
+-- from what was said before, and what the line names
+abbrev pub orderEffect : ℕ → OrderSoFar → OrderSoFar → Effect
+orderEffect line (Fixed o) named = refuses (BadLine line)
+orderEffect line Open Open = refuses (BadLine line)
+orderEffect line Open (Fixed o) = orders o
 
-unfoldable pub effectOf : ℕ → List ℕ → Signals → ℕ → ℕ → Effect
-effectOf line bytes g n m = cond (hasTab bytes) (byWord (wordOf (firstField bytes)) line (secondField bytes) g n m) (refuses (BadLine line))
+abbrev pub byWord : Word → ℕ → List ℕ → Signals → ℕ → ℕ → OrderSoFar → Effect
+byWord (Declare k) line second g n m o = declareEffect line k second g
+byWord Rule line second g n m o = stateEffect line second g n m
+byWord OrderWord line second g n m o = orderEffect line o (orderNamed second)
+byWord Unknown line second g n m o = refuses (BadLine line)
+
+unfoldable pub effectOf : ℕ → List ℕ → Signals → ℕ → ℕ → OrderSoFar → Effect
+effectOf line bytes g n m o =
+    cond (hasTab bytes) (byWord (wordOf (firstField bytes)) line (secondField bytes) g n m o) (refuses (BadLine line))

@@ -2,5 +2,6 @@
 pub mod Limits
 pub mod Refusal
 pub mod Lines
+pub mod StepOrder
 pub mod Effect
 pub mod Memory

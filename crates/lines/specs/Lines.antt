@@ -9,7 +9,11 @@ use Rattle.basics.specs.Bytes.{lower, wordByte, notTab, run, bytesOf, sameBytes
 use Rattle.lines.specs.declared.problem.Kind.{Kind}
 use Rattle.lines.specs.declared.problem.Kind.the-variants.{Output, Observed, Hidden}
 use Rattle.lines.specs.declared.problem.Word.{Word}
-use Rattle.lines.specs.declared.problem.Word.the-variants.{Declare, Rule, Unknown}
+use Rattle.lines.specs.declared.problem.Word.the-variants.{Declare, Rule, Order as OrderWord, Unknown}
+use Rattle.basics.specs.declared.order.Order.{Order}
+use Rattle.basics.specs.declared.order.Order.the-variants.{Set, Read}
+use Rattle.lines.specs.declared.problem.OrderSoFar.{OrderSoFar}
+use Rattle.lines.specs.declared.problem.OrderSoFar.the-variants.{Open, Fixed}
 use Rattle.syntax.specs.Lex.{isReserved}
 use Rattle.grammar.specs.Limits.{textLimit}
 use Rattle.lines.specs.Limits.{nameLimit}
@@ -45,6 +49,13 @@ declareLine k name = kindWord k ++ 9 ∷ name
 abbrev pub ruleLine : List ℕ → List ℕ
 ruleLine text = bytesOf "rule" ++ 9 ∷ text
 
+abbrev pub orderWord : Order → List ℕ
+orderWord Set = bytesOf "set"
+orderWord Read = bytesOf "read"
+
+abbrev pub orderLine : Order → List ℕ
+orderLine o = bytesOf "order" ++ 9 ∷ orderWord o
+
 -- ---- the fields of a line, parted by its first tab
 
 unfoldable pub tabPlace : List ℕ → ℕ
@@ -66,7 +77,8 @@ wordOf w =
     cond (sameBytes w (bytesOf "out")) (Declare Output)
     (cond (sameBytes w (bytesOf "see")) (Declare Observed)
     (cond (sameBytes w (bytesOf "hid")) (Declare Hidden)
-    (cond (sameBytes w (bytesOf "rule")) Rule Unknown)))
+    (cond (sameBytes w (bytesOf "rule")) Rule
+    (cond (sameBytes w (bytesOf "order")) OrderWord Unknown))))
 
 -- ---- the second field
 
@@ -79,3 +91,9 @@ isName (b ∷ s) =
 -- a formula's text: some bytes, not too many, and no tab
 unfoldable pub isText : List ℕ → Bool
 isText s = ltb 0 (length s) && (leb (length s) textLimit && eqb (tabPlace s) (length s))
+
+-- the order that it names, open where it names none
+unfoldable pub orderNamed : List ℕ → OrderSoFar
+orderNamed s =
+    cond (sameBytes s (bytesOf "set")) (Fixed Set)
+    (cond (sameBytes s (bytesOf "read")) (Fixed Read) Open)

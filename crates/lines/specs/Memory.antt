@@ -1,4 +1,5 @@
--- What the code that reads a problem keeps: counts, the spans of names, and the numbers of the formula's parts so far.
+-- What the code that reads a problem keeps: counts, the order of a step, the spans of names, and the numbers of the formula's parts so
+-- far.
 -- Assumes nothing.
 use Prim.Native.Nat.{ℕ, zero, suc, _+_, _*_, _≤_}
 use mathlib.Core.Path.{_≡_}
@@ -12,6 +13,8 @@ use Rattle.formula.specs.declared.formula.Op.the-variants as op
 use Rattle.lines.specs.declared.refusal.Refusal.the-variants.{TooManyParts}
 use Rattle.lines.specs.declared.problem.Kind.{Kind}
 use Rattle.lines.specs.declared.problem.Kind.the-variants.{Output, Observed, Hidden}
+use Rattle.basics.specs.declared.order.Order.{Order}
+use Rattle.lines.specs.declared.problem.OrderSoFar.the-variants.{Fixed}
 use Rattle.lines.specs.declared.problem.Sizes.{Sizes}
 use Rattle.lines.specs.declared.problem.Reading.{Reading}
 use Rattle.lines.specs.declared.problem.Reading.the-variants.{Accepted, Refused}
@@ -23,7 +26,8 @@ use Rattle.formula.specs.Parts.{partsFrom, temporals}
 use Rattle.formula.specs.declared.parts.Part.{Part}
 use Rattle.formula.specs.Codes.{codesOf}
 use Rattle.syntax.specs.Cells.{codesFrom, kindsIn}
-use Rattle.lines.specs.Effect.{Signals, joint, exceeds, Effect, declares, states, refuses, firstBit, effectOf}
+use Rattle.lines.specs.StepOrder.{orderOr}
+use Rattle.lines.specs.Effect.{Signals, joint, exceeds, Effect, declares, states, orders, refuses, firstBit, effectOf}
 
 -- the signals that are kept
 abbrev pub signalsIn : List ℕ → Sizes → List ℕ → Signals
@@ -37,14 +41,32 @@ countIn Hidden s = s .hidden
 
 -- the counts with one more signal
 abbrev pub moreSignals : Kind → Sizes → Sizes
-moreSignals Output s = record { outputs = s .outputs + 1; observed = s .observed; hidden = s .hidden; parts = s .parts; operators = s .operators }
-moreSignals Observed s = record { outputs = s .outputs; observed = s .observed + 1; hidden = s .hidden; parts = s .parts; operators = s .operators }
-moreSignals Hidden s = record { outputs = s .outputs; observed = s .observed; hidden = s .hidden + 1; parts = s .parts; operators = s .operators }
+moreSignals Output s =
+    record { outputs = s .outputs + 1; observed = s .observed; hidden = s .hidden; parts = s .parts; operators = s .operators; order = s .order }
+moreSignals Observed s =
+    record { outputs = s .outputs; observed = s .observed + 1; hidden = s .hidden; parts = s .parts; operators = s .operators; order = s .order }
+moreSignals Hidden s =
+    record { outputs = s .outputs; observed = s .observed; hidden = s .hidden + 1; parts = s .parts; operators = s .operators; order = s .order }
 
 -- the counts with one more formula, of k parts and o operators
 abbrev pub moreParts : ℕ → ℕ → Sizes → Sizes
 moreParts k o s =
-    record { outputs = s .outputs; observed = s .observed; hidden = s .hidden; parts = s .parts + k + joint (s .parts); operators = s .operators + o }
+    record {
+      outputs = s .outputs;
+      observed = s .observed;
+      hidden = s .hidden;
+      parts = s .parts + k + joint (s .parts);
+      operators = s .operators + o;
+      order = s .order;
+    }
+
+-- the order that is kept, the default where no line has said it; and what is kept once a line has
+abbrev pub orderIn : Sizes → Order
+orderIn s = orderOr (s .order)
+
+abbrev pub fixOrder : Order → Sizes → Sizes
+fixOrder o s =
+    record { outputs = s .outputs; observed = s .observed; hidden = s .hidden; parts = s .parts; operators = s .operators; order = Fixed o }
 
 -- the part that joins a formula of k parts to the n before it
 abbrev pub joinPart : ℕ → ℕ → List Part
@@ -69,16 +91,19 @@ spanned k s start end spans =
 abbrev pub readingAfter : Effect → Sizes → Reading
 readingAfter (declares k name) s = Accepted (moreSignals k s)
 readingAfter (states φ) s = Accepted (moreParts (size φ) (operators φ) s)
+readingAfter (orders o) s = Accepted (fixOrder o s)
 readingAfter (refuses r) s = Refused r
 
 abbrev pub spansAfter : Effect → Sizes → ℕ → ℕ → List ℕ → List ℕ
 spansAfter (declares k name) s start end spans = spanned k s start end spans
 spansAfter (states φ) s start end spans = spans
+spansAfter (orders o) s start end spans = spans
 spansAfter (refuses r) s start end spans = spans
 
 abbrev pub partsAfter : Effect → Sizes → List ℕ → List ℕ
 partsAfter (declares k name) s p = p
 partsAfter (states φ) s p = storedFrom (addedParts φ (s .parts)) (s .parts) p
+partsAfter (orders o) s p = p
 partsAfter (refuses r) s p = p
 
 -- what the cells of a formula leave
@@ -102,7 +127,7 @@ pub record Kept (source : List ℕ) (s : Sizes) (spans p : List ℕ) : Type 0 wh
   pub parts-long : length p ≡ partLimit
 
 abbrev pub lineEffect : List ℕ → ℕ → ℕ → ℕ → Sizes → List ℕ → Effect
-lineEffect source at end line s spans = effectOf line (between source at end) (signalsIn source s spans) (s .parts) (s .operators)
+lineEffect source at end line s spans = effectOf line (between source at end) (signalsIn source s spans) (s .parts) (s .operators) (s .order)
 
 -- what reading line `line`, the source's bytes from at up to end, leaves
 pub record LineRead (source : List ℕ) (at end line : ℕ) (s : Sizes) (spans p spans′ p′ : List ℕ) (r : Reading) : Type 0 where

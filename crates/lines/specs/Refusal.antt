@@ -3,7 +3,9 @@
 use Prim.Native.Nat.{ℕ}
 use mathlib.Core.List.{List}
 use Rattle.lines.specs.declared.refusal.Refusal.{Refusal}
-use Rattle.lines.specs.declared.refusal.Refusal.the-variants.{LongSource, BadLine, NameTwice, TooManySignals, BadFormula, UnknownName, TooManyParts, NoFormula, TooManyStates, TooManyBeliefs, Unrealizable, ShortMemory, BadTable, Stopped, BadObservation, BadTrace, BadText}
+use Rattle.lines.specs.declared.refusal.Refusal.the-variants.{LongSource, BadLine, NameTwice, TooManySignals, BadFormula}
+use Rattle.lines.specs.declared.refusal.Refusal.the-variants.{UnknownName, TooManyParts, NoFormula, TooManyStates, TooManyBeliefs}
+use Rattle.lines.specs.declared.refusal.Refusal.the-variants.{Unrealizable, ShortMemory, BadTable, Stopped, BadObservation, BadTrace, BadText}
 
 abbrev pub numberOf : Refusal → ℕ
 numberOf LongSource = 1

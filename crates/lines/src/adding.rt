@@ -120,13 +120,10 @@ fn add_cells(cells: &[u32], line: usize, s: Sizes, parts: &mut [u32]) -> Reading
     }
     put_codes(cells, n, parts);
     join(n, count, parts);
-    Reading::Accepted(Sizes {
-        outputs: s.outputs,
-        observed: s.observed,
-        hidden: s.hidden,
-        parts: all,
-        operators: m,
-    })
+    let mut t = s;
+    t.parts = all;
+    t.operators = m;
+    Reading::Accepted(t)
 }
 
 // Line `line` states the formula of a text: its parts behind those so far, or a refusal, and they stay as they were.

@@ -2,6 +2,7 @@
 ghost use mathlib.Core.Path.{_≡_};
 ghost use Rattle.lines.specs.Lines.{wordOf};
 use crate::refusal::Refusal;
+use basics::Order;
 use basics::same;
 
 // A kind of signal: set by the controller, read by it, or neither.
@@ -15,16 +16,24 @@ pub enum Kind {
 pub enum Word {
     Declare(Kind),
     Rule,
+    Order,
     Unknown,
 }
 
-// How many signals of each kind, parts and temporal operators there are.
+// The order of a step, as far as a text has been read: open until a line says it. At the end of the text it is fixed.
+pub enum OrderSoFar {
+    Open,
+    Fixed(Order),
+}
+
+// How many signals of each kind, parts and temporal operators there are, and the order of a step.
 pub struct Sizes {
     pub outputs: usize,
     pub observed: usize,
     pub hidden: usize,
     pub parts: usize,
     pub operators: usize,
+    pub order: OrderSoFar,
 }
 
 // What reading a problem, or one more line of it, gives.
@@ -47,6 +56,9 @@ pub fn word_of(field: &[u8]) -> Word
     }
     if same(field, b"rule") {
         return Word::Rule;
+    }
+    if same(field, b"order") {
+        return Word::Order;
     }
     Word::Unknown
 }

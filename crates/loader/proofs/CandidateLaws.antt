@@ -2,88 +2,156 @@
 -- Assumes nothing.
 use Prim.Native.Nat.{ℕ, zero, suc, _+_, _-_, _*_, _%_, _^_, _≤_, _<_}
 use native.Mathlib.Omega.{arith}
-use mathlib.Core.Path.{_≡_, refl, sym, ap, _∙_}
-use mathlib.Core.Bool.{Bool, true, false, cond}
+use mathlib.Core.Path.{_≡_, refl, sym, ap, ap₂, _∙_}
+use mathlib.Core.Logic.{_⊎_, inl, inr}
+use mathlib.Core.Bool.{Bool, true, false, _||_}
 use mathlib.Core.List.{List, flatMap}
-use lib.Dec.{ltb}
-use lib.ListN.{length}
-use borrow.Author.Tests.{lt-ltb, le-ltb, ne-eqb}
+use lib.Dec.{leb, ltb}
+use lib.ListN.{length, getD}
+use borrow.Author.Tests.{lt-ltb, le-ltb, ltb-true, ltb-false, leb-true, leb-false, ne-eqb}
+use Rattle.basics.specs.Bytes.{sameBytes}
 use Rattle.basics.specs.Limits.{kindLimit}
+use Rattle.basics.specs.Lists.{tabulate, below}
 use Rattle.basics.specs.Numbers.{numberBelow}
-use Rattle.basics.specs.Lists.{below}
 use Rattle.basics.specs.Pieces.{fieldAt, lineAt}
+use Rattle.basics.specs.declared.order.Order.{Order}
+use Rattle.basics.specs.declared.order.Order.the-variants.{Set, Read}
 use Rattle.basics.proofs.BitsLaws.{shl-one}
+use Rattle.basics.proofs.Booleans.{cond-elim, or-cases, or-left, or-right}
 use Rattle.basics.proofs.EqualRows.{length-rows}
-use Rattle.basics.proofs.ListsLaws.{length-tabulate}
+use Rattle.basics.proofs.ListsLaws.{length-tabulate, getD-tabulate}
+use Rattle.basics.proofs.SaysLaws.{says-false}
 use Rattle.play.specs.Limits.{beliefLimit, sideLimit}
-use Rattle.play.specs.Cells.{rowSize, stopCell}
-use Rattle.play.proofs.CellsLaws.{choice-length}
+use Rattle.play.specs.Cells.{rowSize, stopCell, stopRow}
+use Rattle.play.proofs.CellsLaws.{stop-length, stop-first, stop-rest}
+use Rattle.printer.specs.Text.{shownFrom, shownCount, tableWord}
 use Rattle.printer.proofs.WellFormedLaws.{side-le}
 use Rattle.tables.specs.declared.shape.Shape.{Shape}
-use Rattle.loader.specs.Candidate.{saysStop, firstIn, countIn, nextIn, rowIn, observedIn, rowsIn, cellsIn}
+use Rattle.loader.specs.Candidate.{saysStop, limitAt, moveIn, rowIn, observedIn, orderIn, rowsIn, cellsIn}
+use Rattle.loader.proofs.ShownCells.{Shown, shown-says}
 
 -- ---- a row, from its line
 
-module _ (line : List ℕ) (r : Bool) (e : r ≡ saysStop line) where
-  pub first-stop : r ≡ true → stopCell ≡ firstIn line
-  unfolding firstIn
-  first-stop t = rw (← e, t) refl
+module _ (o : Order) (rows i : ℕ) where
+  pub set-first : o ≡ Set → i ≡ 0 → sideLimit ≡ limitAt o rows i
+  set-first e z = rw (e, z) refl
 
-  pub first-choice : r ≡ false → numberBelow sideLimit (fieldAt 2 line) ≡ firstIn line
-  unfolding firstIn
-  first-choice f = rw (← e, f) refl
+  pub set-next : o ≡ Set → (i ≡ 0 → ⊥) → rows ≡ limitAt o rows i
+  set-next e m = rw (e, ne-eqb i 0 m) refl
 
-  pub count-stop : (observed : ℕ) → r ≡ true → 0 ≡ countIn observed line
-  unfolding countIn
-  count-stop observed t = rw (← e, t) refl
+  pub read-choice : o ≡ Read → i % 2 ≡ 1 → sideLimit ≡ limitAt o rows i
+  read-choice e z = rw (e, z) refl
 
-  pub count-moves : (observed : ℕ) → observed ≤ kindLimit → r ≡ false → 1 * 2 ^ observed % 18446744073709551616 ≡ countIn observed line
-  unfolding countIn
-  count-moves observed h f = rw (← e, f) (shl-one observed (omega arith))
+  pub read-next : o ≡ Read → (i % 2 ≡ 1 → ⊥) → rows ≡ limitAt o rows i
+  read-next e m = rw (e, ne-eqb (i % 2) 1 m) refl
 
-module _ (line : List ℕ) (rows n s : ℕ) where
-  pub next-unused : n ≤ s → 0 ≡ cond (ltb s n) (nextIn rows line s) 0
-  next-unused h = rw (le-ltb s n h) refl
+-- a row is not long
+pub size-small : (o : Order) → rowSize o ≤ 1 + 2 * sideLimit
+size-small Set = omega arith
+size-small Read = omega arith
 
-  pub next-used : s < n → numberBelow rows (fieldAt (3 + s) line) ≡ cond (ltb s n) (nextIn rows line s) 0
-  unfolding nextIn
-  next-used h = rw (lt-ltb s n h) refl
+pub shown-small : (o : Order) (n : ℕ) → n ≤ sideLimit → shownFrom o + shownCount o n ≤ 1 + 2 * sideLimit
+shown-small Set n h = omega arith
+shown-small Read n h = omega arith
 
-pub row-length : (shape : Shape) (line : List ℕ) → length (rowIn shape line) ≡ rowSize
+module _ (o : Order) (n rows : ℕ) (line : List ℕ) (i : ℕ) where
+  -- a cell that is printed, and one that is not
+  pub move-shown : Shown o n i → moveIn o n rows line i ≡ numberBelow (limitAt o rows i) (fieldAt (2 + (i - shownFrom o)) line)
+  unfolding moveIn
+  move-shown h = rw (shown-says o n i .1 h) refl
+
+  pub move-hidden : ¬ Shown o n i → moveIn o n rows line i ≡ 0
+  unfolding moveIn
+  move-hidden h = rw (says-false (shown-says o n i) h) refl
+
+  -- by the test of the code
+  module _ (from count : ℕ) (f : from ≡ shownFrom o) (c : count ≡ shownCount o n) where
+    pub move-zero : (ltb i from || leb (from + count) i) ≡ true → 0 ≡ moveIn o n rows line i
+    move-zero e = sym (move-hidden (out (or-cases (ltb i from) (leb (from + count) i) e)))
+      where
+        out : (ltb i from ≡ true) ⊎ (leb (from + count) i ≡ true) → ¬ Shown o n i
+        out (inl l) (a, b) = omega (arith, ltb-true i from l)
+        out (inr l) (a, b) = omega (arith, leb-true (from + count) i l)
+
+    pub move-inside : (ltb i from || leb (from + count) i) ≡ false → Shown o n i
+    move-inside e =
+        let a = ltb-false i from (or-left (ltb i from) (leb (from + count) i) e) in
+        let b = leb-false (from + count) i (or-right (ltb i from) (leb (from + count) i) e) in
+        (omega arith, omega arith)
+
+    pub move-number : (ltb i from || leb (from + count) i) ≡ false → (limit : ℕ) → limit ≡ limitAt o rows i
+        → numberBelow limit (fieldAt (2 + (i - from)) line) ≡ moveIn o n rows line i
+    move-number e limit q =
+        ap₂ (λ (m k : ℕ). numberBelow m (fieldAt (2 + (i - k)) line)) q f ∙ sym (move-shown (move-inside e))
+
+pub row-length : (shape : Shape) (line : List ℕ) → length (rowIn shape line) ≡ rowSize (shape .order)
 unfolding rowIn
-row-length shape line = choice-length (countIn (shape .observed) line) (firstIn line) (nextIn (shape .rows) line)
+row-length shape line =
+    let moves = moveIn (shape .order) (2 ^ (shape .observed)) (shape .rows) line in
+    cond-elim (λ l. length l ≡ rowSize (shape .order)) (saysStop line) (stopRow (shape .order)) (tabulate (rowSize (shape .order)) moves)
+    (λ e. stop-length (shape .order)) (λ e. length-tabulate (rowSize (shape .order)) moves)
+
+-- its cells, by whether it stops
+module _ (shape : Shape) (line : List ℕ) where
+  pub row-stop : saysStop line ≡ true → getD (rowIn shape line) 0 0 ≡ stopCell
+  unfolding rowIn
+  row-stop e = rw e (stop-first (shape .order))
+
+  pub row-rest : saysStop line ≡ true → (i : ℕ) → 0 < i → getD (rowIn shape line) i 0 ≡ 0
+  unfolding rowIn
+  row-rest e zero h = absurd (omega arith)
+  row-rest e (suc i) h = rw e (stop-rest (shape .order) i)
+
+  pub row-move : saysStop line ≡ false → (i : ℕ) → i < rowSize (shape .order)
+      → getD (rowIn shape line) i 0 ≡ moveIn (shape .order) (2 ^ (shape .observed)) (shape .rows) line i
+  unfolding rowIn
+  row-move e i h =
+      rw e (getD-tabulate (rowSize (shape .order)) (moveIn (shape .order) (2 ^ (shape .observed)) (shape .rows) line) i 0 h)
 
 -- ---- the number of observed signals, tried from the greatest down
 
-field-tried : (k : ℕ) (line f : List ℕ) → k ≤ kindLimit → f ≡ fieldAt (2 + 1 * 2 ^ k % 18446744073709551616) line → f ≡ fieldAt (2 + 2 ^ k) line
-field-tried k line f h e = e ∙ ap (λ n. fieldAt (2 + n) line) (shl-one k (omega arith))
+module _ (o : Order) where
+  field-tried : (k : ℕ) (line f : List ℕ) → k ≤ kindLimit → (m : ℕ) → m ≡ shownCount o (1 * 2 ^ k % 18446744073709551616)
+      → f ≡ fieldAt (1 + m) line → f ≡ fieldAt (1 + shownCount o (2 ^ k)) line
+  field-tried k line f h m q e = e ∙ ap (λ n. fieldAt (1 + n) line) (q ∙ ap (shownCount o) (shl-one k (omega arith)))
 
-pub tried-small : (k : ℕ) → k ≤ kindLimit → 1 * 2 ^ k % 18446744073709551616 ≤ sideLimit
-tried-small k h = omega (arith, shl-one k (omega arith), side-le k h)
+  pub tried-small : (k : ℕ) → k ≤ kindLimit → 1 * 2 ^ k % 18446744073709551616 ≤ sideLimit
+  tried-small k h = omega (arith, shl-one k (omega arith), side-le k h)
 
-pub observed-here : (k : ℕ) (line f : List ℕ) → k ≤ kindLimit → 0 < k → f ≡ fieldAt (2 + 1 * 2 ^ k % 18446744073709551616) line → 0 < length f
-    → k ≡ observedIn k line
-unfolding observedIn
-observed-here zero line f h some e l = absurd (omega arith)
-observed-here (suc k) line f h some e l =
-    let t : ltb 0 (length (fieldAt (2 + 2 ^ suc k) line)) ≡ true =
-    ap (λ u. ltb 0 (length u)) (sym (field-tried (suc k) line f h e)) ∙ lt-ltb 0 (length f) l in
-    rw t refl
+  pub observed-none : (k : ℕ) (line : List ℕ) → k ≤ 0 → 0 ≡ observedIn o k line
+  unfolding observedIn
+  observed-none zero line h = refl
+  observed-none (suc k) line h = absurd (omega arith)
 
-pub observed-less : (k : ℕ) (line f : List ℕ) → k ≤ kindLimit → 0 < k → f ≡ fieldAt (2 + 1 * 2 ^ k % 18446744073709551616) line → length f ≤ 0
-    → observedIn k line ≡ observedIn (k - 1) line
-unfolding observedIn
-observed-less zero line f h some e l = absurd (omega arith)
-observed-less (suc k) line f h some e l =
-    let t : ltb 0 (length (fieldAt (2 + 2 ^ suc k) line)) ≡ false =
-    ap (λ u. ltb 0 (length u)) (sym (field-tried (suc k) line f h e)) ∙ le-ltb 0 (length f) l in
-    let m : suc k - 1 ≡ k = omega arith in
-    rw (t, m) refl
+  pub observed-here : (k : ℕ) (line f : List ℕ) → k ≤ kindLimit → 0 < k → (m : ℕ) → m ≡ shownCount o (1 * 2 ^ k % 18446744073709551616)
+      → f ≡ fieldAt (1 + m) line → 0 < length f → k ≡ observedIn o k line
+  unfolding observedIn
+  observed-here zero line f h some m q e l = absurd (omega arith)
+  observed-here (suc k) line f h some m q e l =
+      let t : ltb 0 (length (fieldAt (1 + shownCount o (2 ^ suc k)) line)) ≡ true =
+      ap (λ u. ltb 0 (length u)) (sym (field-tried (suc k) line f h m q e)) ∙ lt-ltb 0 (length f) l in
+      rw t refl
 
-pub observed-none : (k : ℕ) (line : List ℕ) → k ≤ 0 → 0 ≡ observedIn k line
-unfolding observedIn
-observed-none zero line h = refl
-observed-none (suc k) line h = absurd (omega arith)
+  pub observed-less : (k : ℕ) (line f : List ℕ) → k ≤ kindLimit → 0 < k → (m : ℕ) → m ≡ shownCount o (1 * 2 ^ k % 18446744073709551616)
+      → f ≡ fieldAt (1 + m) line → length f ≤ 0 → observedIn o k line ≡ observedIn o (k - 1) line
+  unfolding observedIn
+  observed-less zero line f h some m q e l = absurd (omega arith)
+  observed-less (suc k) line f h some m q e l =
+      let t : ltb 0 (length (fieldAt (1 + shownCount o (2 ^ suc k)) line)) ≡ false =
+      ap (λ u. ltb 0 (length u)) (sym (field-tried (suc k) line f h m q e)) ∙ le-ltb 0 (length f) l in
+      let p : suc k - 1 ≡ k = omega arith in
+      rw (t, p) refl
+
+-- ---- the order
+
+module _ (line : List ℕ) (r : Bool) (e : r ≡ sameBytes (fieldAt 0 line) (tableWord Read)) where
+  pub order-read : r ≡ true → Read ≡ orderIn line
+  unfolding orderIn
+  order-read t = rw (← e, t) refl
+
+  pub order-set : r ≡ false → Set ≡ orderIn line
+  unfolding orderIn
+  order-set f = rw (← e, f) refl
 
 -- ---- the row count
 
@@ -99,11 +167,11 @@ module _ (line : List ℕ) (n : ℕ) (e : n ≡ numberBelow (suc beliefLimit) (f
 -- ---- the cells
 
 module _ (shape : Shape) (s : List ℕ) where
-  pub rows-length : (n : ℕ) → length (flatMap (λ i. rowIn shape (lineAt (suc i) s)) (below n)) ≡ n * rowSize
+  pub rows-length : (n : ℕ) → length (flatMap (λ i. rowIn shape (lineAt (suc i) s)) (below n)) ≡ n * rowSize (shape .order)
   rows-length n =
-      length-rows rowSize (λ i. rowIn shape (lineAt (suc i) s)) (λ i. row-length shape (lineAt (suc i) s)) (below n)
-      ∙ ap (λ k. k * rowSize) (length-tabulate n (λ k. k))
+      length-rows (rowSize (shape .order)) (λ i. rowIn shape (lineAt (suc i) s)) (λ i. row-length shape (lineAt (suc i) s)) (below n)
+      ∙ ap (λ k. k * rowSize (shape .order)) (length-tabulate n (λ k. k))
 
-  pub cells-length : length (cellsIn shape s) ≡ shape .rows * rowSize
+  pub cells-length : length (cellsIn shape s) ≡ shape .rows * rowSize (shape .order)
   unfolding cellsIn
   cells-length = rows-length (shape .rows)

@@ -1,66 +1,58 @@
 -- The cells of a candidate, and that it can be printed, whatever the text is.
 -- Assumes nothing.
-use Prim.Native.Nat.{ℕ, zero, suc, _+_, _*_, _^_, _≤_, _<_}
+use Prim.Native.Nat.{ℕ, zero, suc, _+_, _-_, _^_, _≤_, _<_}
 use native.Mathlib.Omega.{arith}
-use mathlib.Core.Path.{_≡_, refl, sym, ap, _∙_, subst}
-use mathlib.Core.Logic.{_⊎_, inl, inr}
-use mathlib.Core.Bool.{cond}
+use mathlib.Core.Path.{_≡_, sym, ap, _∙_, subst}
+use mathlib.Core.Logic.{inl, inr}
+use mathlib.Core.Bool.{true, false}
 use mathlib.Core.List.{List}
 use lib.Dec.{eqb, ltb}
 use lib.ListN.{length, getD}
-use borrow.Author.Tests.{le-ltb, eqb-false}
+use borrow.Author.Tests.{eqb-false}
 use Rattle.basics.specs.Bounded.{firstThat}
 use Rattle.basics.specs.Limits.{kindLimit}
 use Rattle.basics.specs.Lists.{below}
 use Rattle.basics.specs.Numbers.{numberBelow}
 use Rattle.basics.specs.Pieces.{fieldAt, lineAt}
+use Rattle.basics.specs.declared.order.Order.{Order}
+use Rattle.basics.specs.declared.order.Order.the-variants.{Set, Read}
 use Rattle.basics.proofs.Booleans.{cond-elim, test}
 use Rattle.basics.proofs.EqualRows.{getD-rows}
 use Rattle.basics.proofs.ListsLaws.{length-tabulate, getD-tabulate}
 use Rattle.basics.proofs.NumbersLaws.{below-lt}
 use Rattle.play.specs.Limits.{beliefLimit, sideLimit}
-use Rattle.play.specs.Cells.{choiceAt, nextAt, rowSize, stopCell, firstCell, nextCell}
-use Rattle.play.proofs.CellsLaws.{choice-first, choice-at}
+use Rattle.play.specs.Cells.{choiceAt, nextAt, rowSize, stopCell, cell, firstCell, nextCell}
+use Rattle.play.proofs.CellsLaws.{choice-inside, next-inside, first-inside}
+use Rattle.printer.specs.Text.{shownFrom, shownCount}
+use Rattle.printer.specs.WellFormed.{firstLimit, IsFirst, GoesOn, GoodRow, Unused, PrintableRow, Printable}
 use Rattle.printer.proofs.WellFormedLaws.{side-le}
-use Rattle.printer.specs.WellFormed.{IsAnswer, GoodRow, Unused, PrintableRow, Printable}
 use Rattle.tables.specs.declared.shape.Shape.{Shape}
-use Rattle.loader.proofs.CandidateLaws.{row-length, cells-length}
-use Rattle.loader.specs.Candidate.{saysStop, firstIn, countIn, nextIn, rowIn, observedIn, rowsIn, worstIn, shapeIn, cellsIn, goesOn}
+use Rattle.loader.specs.Candidate.{saysStop, limitAt, moveIn, rowIn, observedIn, rowsIn, worstIn, shapeIn, cellsIn, goesOn}
+use Rattle.loader.proofs.ShownCells.{Shown, choice-shown, next-shown, OwnAt, own-inside, own-some, own-hidden, blank-by}
+use Rattle.loader.proofs.ShownCells.{choice-limit, next-limit, limit-some}
+use Rattle.loader.proofs.CandidateLaws.{move-shown, move-hidden, row-length, row-stop, row-rest, row-move, cells-length}
 
 -- ---- its cells
 
-module _ (shape : Shape) (s : List ℕ) where
-  abbrev rowAt : ℕ → List ℕ
-  rowAt i = rowIn shape (lineAt (suc i) s)
-
-  module _ (i : ℕ) (h : i < shape .rows) where
-    abbrev line : List ℕ
-    line = lineAt (suc i) s
-
-    cell-is : (k : ℕ) → k < rowSize → getD (cellsIn shape s) (i * rowSize + k) 0 ≡ getD (rowIn shape line) k 0
-    unfolding cellsIn
-    cell-is k b =
-        getD-rows rowSize rowAt (λ i. row-length shape (lineAt (suc i) s)) (below (shape .rows)) 0 i k (rw (length-tabulate (shape .rows) (λ i. i)) h) b
-        ∙ ap (λ j. getD (rowAt j) k 0) (getD-tabulate (shape .rows) (λ i. i) i 0 h)
-
-    pub first-is : firstCell (cellsIn shape s) i ≡ firstIn line
-    unfolding rowIn
-    first-is = cell-is choiceAt (omega arith) ∙ choice-first (countIn (shape .observed) line) (firstIn line) (nextIn (shape .rows) line)
-
-    pub next-is : (k : ℕ) → k < sideLimit
-        → nextCell (cellsIn shape s) i k ≡ cond (ltb k (countIn (shape .observed) line)) (nextIn (shape .rows) line k) 0
-    unfolding rowIn
-    next-is k b =
-        cell-is (nextAt k) (omega arith) ∙ choice-at (countIn (shape .observed) line) (firstIn line) (nextIn (shape .rows) line) k b
+pub cell-is : (shape : Shape) (s : List ℕ) (i : ℕ) → i < shape .rows → (k : ℕ) → k < rowSize (shape .order)
+    → cell (shape .order) (cellsIn shape s) i k ≡ getD (rowIn shape (lineAt (suc i) s)) k 0
+unfolding cellsIn
+cell-is shape s i h k b =
+    getD-rows (rowSize (shape .order)) rowAt (λ i. row-length shape (lineAt (suc i) s)) (below (shape .rows)) 0 i k
+    (rw (length-tabulate (shape .rows) (λ i. i)) h) b
+    ∙ ap (λ j. getD (rowAt j) k 0) (getD-tabulate (shape .rows) (λ i. i) i 0 h)
+  where
+    rowAt : ℕ → List ℕ
+    rowAt i = rowIn shape (lineAt (suc i) s)
 
 -- ---- it can be printed
 
-observed-le : (k : ℕ) (l : List ℕ) → observedIn k l ≤ k
+observed-le : (o : Order) (k : ℕ) (l : List ℕ) → observedIn o k l ≤ k
 unfolding observedIn
-observed-le zero l = omega arith
-observed-le (suc k) l =
-    cond-elim (λ n. n ≤ suc k) (ltb 0 (length (fieldAt (2 + 2 ^ suc k) l))) (suc k) (observedIn k l) (λ e. omega arith)
-    (λ e. omega (arith, observed-le k l))
+observed-le o zero l = omega arith
+observed-le o (suc k) l =
+    cond-elim (λ n. n ≤ suc k) (ltb 0 (length (fieldAt (1 + shownCount o (2 ^ suc k)) l))) (suc k) (observedIn o k l) (λ e. omega arith)
+    (λ e. omega (arith, observed-le o k l))
 
 rows-some : (l : List ℕ) → (0 < rowsIn l) × (rowsIn l ≤ beliefLimit)
 unfolding rowsIn
@@ -70,68 +62,100 @@ rows-some l =
     cond-elim (λ k. (0 < k) × (k ≤ beliefLimit)) (eqb n 0) 1 n (λ e. (omega arith, omega arith))
     (λ e. let z = eqb-false n 0 e in (omega (arith, z), omega (arith, m)))
 
--- a row's first cell: it stops, and has no next rows; or it is a choice, and has all of them
-module _ (observed : ℕ) (l : List ℕ) where
-  first-cases : ((firstIn l ≡ stopCell) × (countIn observed l ≡ 0)) ⊎ ((firstIn l < sideLimit) × (countIn observed l ≡ 2 ^ observed))
-  unfolding firstIn countIn
-  first-cases =
-      elim (test (saysStop l)) [
-        | inl e ↦ inl (rw e refl, rw e refl)
-        | inr e ↦ inr (rw e (below-lt sideLimit (fieldAt 2 l) (omega arith)), rw e refl)
-      ]
+-- a row that goes on, from its line
+module _ (n rows : ℕ) (some : 0 < rows) (l : List ℕ) where
+  move-low : (o : Order) (i : ℕ) → Shown o n i → moveIn o n rows l i < limitAt o rows i
+  move-low o i h =
+      subst (λ k. k < limitAt o rows i) (sym (move-shown o n rows l i h))
+      (below-lt (limitAt o rows i) (fieldAt (2 + (i - shownFrom o)) l) (limit-some o rows i some))
 
-  first-answer : IsAnswer (firstIn l)
-  first-answer = elim first-cases [ inl (e, z) ↦ inr e | inr (h, n) ↦ inl h ]
+  move-first : (o : Order) → moveIn o n rows l 0 < firstLimit o
+  move-first Set = move-low Set 0 (omega arith, omega arith)
+  move-first Read = subst (λ k. k < 1) (sym (move-hidden Read n rows l 0 (λ (a, b). omega arith))) (omega arith)
+
+first-stops : (o : Order) (c : ℕ) → c < firstLimit o → ¬ (c ≡ stopCell)
+first-stops Set c h e = omega arith
+first-stops Read c h e = omega arith
 
 module _ (shape : Shape) (some : 0 < shape .rows) (s : List ℕ) where
   abbrev t : List ℕ
   t = cellsIn shape s
 
-  abbrev observed : ℕ
-  observed = shape .observed
+  abbrev o : Order
+  o = shape .order
 
-  answer : (i : ℕ) → i < shape .rows → IsAnswer (firstCell t i)
-  answer i h = subst IsAnswer (sym (first-is shape s i h)) (first-answer observed (lineAt (suc i) s))
+  abbrev n : ℕ
+  n = 2 ^ (shape .observed)
 
-  -- every next row is below the row count, also where it is unused
-  next-low : (i : ℕ) → i < shape .rows → (k : ℕ) → k < sideLimit → nextCell t i k < shape .rows
-  unfolding nextIn
-  next-low i h k b =
-      subst (λ n. n < shape .rows) (sym (next-is shape s i h k b))
-      (cond-elim (λ n. n < shape .rows) (ltb k (countIn observed (lineAt (suc i) s))) (nextIn (shape .rows) (lineAt (suc i) s) k) 0
-      (λ e. below-lt (shape .rows) (fieldAt (3 + k) (lineAt (suc i) s)) some) (λ e. some))
+  module _ (i : ℕ) (h : i < shape .rows) where
+    abbrev line : List ℕ
+    line = lineAt (suc i) s
 
-  module _ (seen : observed ≤ kindLimit) (i : ℕ) (h : i < shape .rows) where
+    abbrev moves : ℕ → ℕ
+    moves = moveIn o n (shape .rows) line
+
+    stop-first : saysStop line ≡ true → firstCell o t i ≡ stopCell
+    stop-first e = cell-is shape s i h 0 (first-inside o) ∙ row-stop shape line e
+
+    -- a row that goes on has these cells, and no stop
+    module _ (e : saysStop line ≡ false) where
+      cell-moves : (k : ℕ) → k < rowSize o → cell o t i k ≡ moves k
+      cell-moves k b = cell-is shape s i h k b ∙ row-move shape line e k b
+
+      first-low : firstCell o t i < firstLimit o
+      first-low = subst (λ c. c < firstLimit o) (sym (cell-moves 0 (first-inside o))) (move-first n (shape .rows) some line o)
+
+      goes : ¬ (firstCell o t i ≡ stopCell)
+      goes = first-stops o (firstCell o t i) first-low
+
+    answer : IsFirst o (firstCell o t i)
+    answer = elim (test (saysStop line)) [ inl e ↦ inr (stop-first e) | inr e ↦ inl (first-low e) ]
+
+  module _ (seen : shape .observed ≤ kindLimit) (i : ℕ) (h : i < shape .rows) where
+    moving : ¬ (firstCell o t i ≡ stopCell) → saysStop (lineAt (suc i) s) ≡ false
+    moving m = elim (test (saysStop (lineAt (suc i) s))) [ inl e ↦ absurd (m (stop-first i h e)) | inr e ↦ e ]
+
     good : GoodRow t shape i
-    good = record {
-      answer = answer i h;
-      next = λ m k b. let n = next-low i h k (omega (arith, side-le observed seen)) in (n, answer (nextCell t i k) n);
-    }
+    good = record { first = answer i h; goes = goes-on }
+      where
+        goes-on : ¬ (firstCell o t i ≡ stopCell) → (k : ℕ) → k < n → GoesOn t shape i k
+        goes-on m k b =
+            let side : k < sideLimit = omega (arith, side-le (shape .observed) seen) in
+            let low = move-low n (shape .rows) some (lineAt (suc i) s) o in
+            let choice = cell-moves i h (moving m) (choiceAt o k) (choice-inside o k side) in
+            let next = cell-moves i h (moving m) (nextAt o k) (next-inside o k side) in
+            let row : nextCell o t i k < shape .rows =
+            subst (λ x. x < shape .rows) (sym next)
+            (subst (λ x. moves i h (nextAt o k) < x) (next-limit o (shape .rows) k) (low (nextAt o k) (next-shown o n k b))) in
+            record {
+              choice = subst (λ x. x < sideLimit) (sym choice)
+                  (subst (λ x. moves i h (choiceAt o k) < x) (choice-limit o (shape .rows) k) (low (choiceAt o k) (choice-shown o n k b)));
+              next = row;
+              first = answer (nextCell o t i k) row;
+            }
 
-    -- an unused cell is behind the next rows of the line
-    beyond : (k : ℕ) → Unused t shape i k → countIn observed (lineAt (suc i) s) ≤ k
-    beyond k u =
-        elim (first-cases observed (lineAt (suc i) s)) [
-          | inl (e, z) ↦ omega arith
-          | inr (c, n) ↦
+    -- unused cells
+    unused : (k : ℕ) → k < sideLimit → Unused t shape i k → (j : ℕ) → OwnAt o k j → cell o t i j ≡ 0
+    unused k b u j own =
+        let inside = own-inside o k j b own in
+        elim (test (saysStop (lineAt (suc i) s))) [
+          | inl e ↦ cell-is shape s i h j inside ∙ row-rest shape (lineAt (suc i) s) e j (own-some o k j own)
+          | inr e ↦
               elim u [
-                | inl e ↦ let f : firstIn (lineAt (suc i) s) ≡ stopCell = sym (first-is shape s i h) ∙ e in absurd (omega arith)
-                | inr o ↦ omega arith
+                | inl z ↦ absurd (goes i h e z)
+                | inr l ↦ cell-moves i h e j inside ∙ move-hidden o n (shape .rows) (lineAt (suc i) s) j (own-hidden o n k j l own)
               ]
         ]
 
     printable-row : PrintableRow t shape i
-    printable-row = record {
-      good = good;
-      blank = λ k b u. next-is shape s i h k b ∙ rw (le-ltb k (countIn observed (lineAt (suc i) s)) (beyond k u)) refl;
-    }
+    printable-row = record { good = good; blank = λ k b u. blank-by o t i k (unused k b u) }
 
 pub candidate-printable : (s : List ℕ) → Printable (cellsIn (shapeIn s) s) (shapeIn s) (worstIn (shapeIn s .rows) s)
 unfolding shapeIn worstIn
 candidate-printable s =
     let shape = shapeIn s in
     let (some, few) = rows-some (lineAt 0 s) in
-    let seen = observed-le kindLimit (lineAt (suc (firstThat (goesOn s) (shape .rows))) s) in
+    let seen = observed-le (shape .order) kindLimit (lineAt (suc (firstThat (goesOn s) (shape .rows))) s) in
     record {
       sized = record { some = some; few = few; room = omega (arith, cells-length shape s); seen = seen };
       below = below-lt (shape .rows) (fieldAt 2 (lineAt 0 s)) some;

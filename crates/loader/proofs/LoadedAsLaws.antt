@@ -12,6 +12,8 @@ use lib.Seq.{length-take-le}
 use borrow.Author.Tests.{lt-ltb, le-ltb, ne-eqb}
 use Rattle.basics.specs.Limits.{kindLimit}
 use Rattle.basics.specs.Lists.{written}
+use Rattle.basics.specs.declared.order.Order.{Order}
+use Rattle.basics.specs.declared.order.Order.the-variants.{Set, Read}
 use Rattle.basics.proofs.Booleans.{cond-elim}
 use Rattle.basics.proofs.ListsLaws.{front-in, front-taken, taken-length}
 use Rattle.lines.specs.declared.refusal.Refusal.the-variants.{ShortMemory, BadText}
@@ -67,6 +69,11 @@ count-all place n z = rw z refl
 pub taken-long : (k : ℕ) (l : List ℕ) → k ≤ length l → k ≡ length (take k l)
 taken-long k l h = sym (length-take-le k l h)
 
+-- the cells of all rows
+few-cells : (o : Order) (rows : ℕ) → rows ≤ beliefLimit → rows * rowSize o ≤ tableSize
+few-cells Set rows h = omega arith
+few-cells Read rows h = omega arith
+
 -- the candidate of a text, as it is found
 module _ (s : List ℕ) {shape : Shape} (is-shape : shape ≡ shapeIn s) where
   printable : (worst : ℕ) → worst ≡ worstIn (shape .rows) s → Printable (cellsIn shape s) shape worst
@@ -75,47 +82,57 @@ module _ (s : List ℕ) {shape : Shape} (is-shape : shape ≡ shapeIn s) where
       (subst (λ h. Printable (cellsIn h s) h (worstIn (h .rows) s)) (sym is-shape) (candidate-printable s))
 
   -- what the writing of its cells asks
-  pub cells-ask : (shape .observed ≤ kindLimit) × ((shape .rows ≤ beliefLimit) × (shape .rows * rowSize ≤ tableSize))
+  pub cells-ask : (shape .observed ≤ kindLimit) × ((shape .rows ≤ beliefLimit) × (shape .rows * rowSize (shape .order) ≤ tableSize))
   cells-ask =
       let z = printable (worstIn (shape .rows) s) refl .sized in
-      (z .seen, (z .few, omega (arith, z .few)))
+      (z .seen, (z .few, few-cells (shape .order) (shape .rows) (z .few)))
 
-  -- its cells stand in a memory
-  module _ (memory : List ℕ) {cells : List ℕ} (are-cells : cells ≡ written (cellsIn shape s) memory) where
-    pub cells-in : shape .rows * rowSize ≤ length cells
-    cells-in = front-in (cellsIn shape s) memory cells (shape .rows * rowSize) (sym (cells-length shape s)) are-cells
+  -- its cells stand in a memory, rows of k
+  module _ (memory : List ℕ) {cells : List ℕ} (are-cells : cells ≡ written (cellsIn shape s) memory) {k : ℕ} (is-row : k ≡ rowSize (shape .order)) where
+    abbrev size : ℕ
+    size = shape .rows * k
 
-    cells-taken : take (shape .rows * rowSize) cells ≡ cellsIn shape s
-    cells-taken = front-taken (cellsIn shape s) memory cells (shape .rows * rowSize) (sym (cells-length shape s)) are-cells
+    size-is : size ≡ length (cellsIn shape s)
+    size-is = ap (λ n. shape .rows * n) is-row ∙ sym (cells-length shape s)
 
-    pub cells-long : shape .rows * rowSize ≡ length (take (shape .rows * rowSize) cells)
-    cells-long = taken-length (cellsIn shape s) memory cells (shape .rows * rowSize) (sym (cells-length shape s)) are-cells
+    pub size-few : size ≤ tableSize
+    size-few = omega (arith, size-is, cells-length shape s, cells-ask .1 .1)
+
+    pub cells-in : size ≤ length cells
+    cells-in = front-in (cellsIn shape s) memory cells size size-is are-cells
+
+    cells-taken : take size cells ≡ cellsIn shape s
+    cells-taken = front-taken (cellsIn shape s) memory cells size size-is are-cells
+
+    pub cells-long : size ≡ length (take size cells)
+    cells-long = taken-length (cellsIn shape s) memory cells size size-is are-cells
 
     -- so many of them are copied, and these are the cells that are to be written
-    module _ (place : ℕ) {n : ℕ} (is-count : n ≡ cond (eqb place 0) (shape .rows * rowSize) 0) where
-      pub count-le : n ≤ shape .rows * rowSize
+    module _ (place : ℕ) {n : ℕ} (is-count : n ≡ cond (eqb place 0) size 0) where
+      pub count-le : n ≤ size
       count-le =
-          subst (λ k. k ≤ shape .rows * rowSize) (sym is-count)
-          (cond-elim (λ k. k ≤ shape .rows * rowSize) (eqb place 0) (shape .rows * rowSize) 0 (λ e. le-refl _) (λ e. omega arith))
+          subst (λ k. k ≤ size) (sym is-count)
+          (cond-elim (λ k. k ≤ size) (eqb place 0) size 0 (λ e. le-refl _) (λ e. omega arith))
 
       copied : take n cells ≡ cellsAt place (cellsIn shape s)
       copied = ap (λ k. take k cells) is-count ∙ at place
         where
-          at : (k : ℕ) → take (cond (eqb k 0) (shape .rows * rowSize) 0) cells ≡ cellsAt k (cellsIn shape s)
+          at : (k : ℕ) → take (cond (eqb k 0) size 0) cells ≡ cellsAt k (cellsIn shape s)
           at zero = cells-taken
           at (suc k) = rw (ne-eqb (suc k) 0 (λ e. omega arith)) refl
 
     module _ {worst : ℕ} (is-worst : worst ≡ worstIn (shape .rows) s) where
       abbrev print : List ℕ
-      print = tableText (take (shape .rows * rowSize) cells) shape worst
+      print = tableText (take size cells) shape worst
 
       -- what the comparison asks
       pub print-asks : (shape .observed ≤ kindLimit)
-          × ((shape .rows * rowSize ≤ length (take (shape .rows * rowSize) cells)) × (length print ≤ textSize))
+          × ((shape .rows * rowSize (shape .order) ≤ length (take size cells)) × (length print ≤ textSize))
       print-asks =
           let p = printable worst is-worst in
           let fits = text-fits (cellsIn shape s) shape worst (printable-says (cellsIn shape s) shape worst .1 p) in
-          (p .sized .seen, (omega (arith, cells-long), subst (λ t. length (tableText t shape worst) ≤ textSize) (sym cells-taken) fits))
+          let long : shape .rows * rowSize (shape .order) ≤ length (take size cells) = omega (arith, cells-long, size-is, cells-length shape s) in
+          (p .sized .seen, (long, subst (λ t. length (tableText t shape worst) ≤ textSize) (sym cells-taken) fits))
 
       module _ (table : List ℕ) (room : tableSize ≤ length table) {place : ℕ} (is-place : place ≡ difference 1 s print) where
         place-is : difference 1 s (printIn s) ≡ place
@@ -126,7 +143,7 @@ module _ (s : List ℕ) {shape : Shape} (is-shape : shape ≡ shapeIn s) where
             ∙ ap (λ w. difference 1 s (tableText (cellsIn shape s) shape w)) is-worst
             ∙ ap (λ h. difference 1 s (tableText (cellsIn h s) h (worstIn (h .rows) s))) is-shape)
 
-        pub load-done : {n : ℕ} → n ≡ cond (eqb place 0) (shape .rows * rowSize) 0 → (r : Loaded) → r ≡ loadedAt place shape worst
+        pub load-done : {n : ℕ} → n ≡ cond (eqb place 0) size 0 → (r : Loaded) → r ≡ loadedAt place shape worst
             → (after : List ℕ) → after ≡ written (take n cells) table → Loads s table r after
         unfolding loadedBy cellsBy
         load-done is-count r q after e =

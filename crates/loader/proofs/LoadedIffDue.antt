@@ -11,8 +11,11 @@ use lib.ListN.{length, drop}
 use lib.Seq.{take-at}
 use borrow.Author.Tests.{lt-ltb, le-ltb, ltb-true, ltb-false, eq-eqb}
 use Rattle.basics.specs.Lists.{written}
+use Rattle.basics.specs.Order.{orderNumber}
+use Rattle.basics.specs.declared.order.Order.{Order}
 use Rattle.basics.proofs.Booleans.{test}
 use Rattle.basics.proofs.ListsLaws.{written-rest}
+use Rattle.basics.proofs.OrderLaws.{one-order}
 use Rattle.lines.specs.declared.refusal.Refusal.the-variants.{BadText}
 use Rattle.lines.specs.Refusal.{Told, values, refused}
 use Rattle.lines.proofs.RefusalLaws.{told-apart, one-place as told-place}
@@ -66,7 +69,7 @@ module _ (s : List ℕ) where
         prints = prints;
         exact = cells-length (shapeIn s) s;
         untold = λ stop. none-told s (shapeIn s) (worstIn (shapeIn s .rows) s) (cellsIn (shapeIn s) s) (candidate-printable s) prints
-            (λ i h. eq-eqb (firstCell (cellsIn (shapeIn s) s) i) stopCell (stop i h));
+            (λ i h. eq-eqb (firstCell (shapeIn s .order) (cellsIn (shapeIn s) s) i) stopCell (stop i h));
       }
 
   -- ---- a text that is none
@@ -147,7 +150,7 @@ module _ (s : List ℕ) where
         go (suc m) e = (ap (refused 17) (sym (one-place m e place f)), refl)
     answered a c (table h shape worst cells is) =
         rw (le-ltb room tableSize h, no-place (cells, shape, worst, is .printable, is .prints)) (
-          ap₂ (λ (x : Shape) r. values (x .rows ∷ x .observed ∷ r ∷ [])) (shape-is s shape worst cells is) (worst-is s shape worst cells is),
+          ap₂ (λ (x : Shape) r. toldLoaded (Table x r)) (shape-is s shape worst cells is) (worst-is s shape worst cells is),
           cells-are s shape worst cells is,
         )
 
@@ -218,14 +221,17 @@ one-table s a b v w c d x y = (
 
 -- cells that are an answer's own
 abbrev OwnCells : Told → List ℕ → Type 0
-OwnCells (values []) cells = ⊥
-OwnCells (values (n ∷ l)) cells = length cells ≡ n * rowSize
+OwnCells (values l) cells = (n observed r : ℕ) (o : Order) → l ≡ n ∷ observed ∷ orderNumber o ∷ r ∷ [] → length cells ≡ n * rowSize o
 OwnCells (refused number place) cells = cells ≡ []
 
 own-cells : (room : ℕ) (s : List ℕ) (a : Told) (cells : List ℕ) → LoadedAs room s a cells → OwnCells a cells
 own-cells room s a cells (short-memory h) = refl
 own-cells room s a cells (bad-text h place f) = refl
-own-cells room s a c (table h shape worst cells is) = is .exact
+own-cells room s a c (table h shape worst cells is) =
+    λ n observed r o e.
+    let is-n : shape .rows ≡ n = cc in
+    let is-o = one-order (shape .order) o cc in
+    rw (← is-n, ← is-o) (is .exact)
 
 module _ (s t : List ℕ) where
   abbrev room : ℕ
@@ -235,7 +241,7 @@ module _ (s t : List ℕ) where
   used-at : (d : ℕ) → usedRows (answer s d) (written (toWrite s d) t) ≡ toWrite s d
   used-at zero =
       let cells = cellsIn (shapeIn s) s in
-      take-at cells (drop (length cells) t) (shapeIn s .rows * rowSize) (cells-length (shapeIn s) s)
+      take-at cells (drop (length cells) t) (shapeIn s .rows * rowSize (shapeIn s .order)) (cells-length (shapeIn s) s)
   used-at (suc m) = refl
 
   load-used : usedRows (loadedBy room s) (tableAfter s t) ≡ cellsBy room s
@@ -257,5 +263,7 @@ module _ (s t : List ℕ) where
   pub table-kept : (number place : ℕ) → toldLoaded (loadedBy room s) ≡ refused number place → tableAfter s t ≡ t
   table-kept number place e = ap (λ c. written c t) (own (refused number place) e)
 
-  pub table-rest : (n : ℕ) (l : List ℕ) → toldLoaded (loadedBy room s) ≡ values (n ∷ l) → drop (n * rowSize) (tableAfter s t) ≡ drop (n * rowSize) t
-  table-rest n l e = written-rest (cellsBy room s) t (n * rowSize) (own (values (n ∷ l)) e)
+  pub table-rest : (n observed r : ℕ) (o : Order) → toldLoaded (loadedBy room s) ≡ values (n ∷ observed ∷ orderNumber o ∷ r ∷ [])
+      → drop (n * rowSize o) (tableAfter s t) ≡ drop (n * rowSize o) t
+  table-rest n observed r o e =
+      written-rest (cellsBy room s) t (n * rowSize o) (own (values (n ∷ observed ∷ orderNumber o ∷ r ∷ [])) e n observed r o refl)

@@ -2,8 +2,10 @@
 use Prim.Native.Nat.{ℕ, suc, _*_, _≤_, _<_}
 use mathlib.Core.Path.{_≡_}
 use mathlib.Core.Logic.{_↔_}
-use mathlib.Core.List.{List, _∷_}
+use mathlib.Core.List.{List, [], _∷_}
 use lib.ListN.{length, take, drop}
+use Rattle.basics.specs.Order.{orderNumber}
+use Rattle.basics.specs.declared.order.Order.{Order}
 use Rattle.lines.specs.Refusal.{Told, values, refused}
 use Rattle.play.specs.Cells.{rowSize, tableSize}
 use Rattle.printer.specs.Limits.{textSize}
@@ -40,17 +42,18 @@ module _ (s : List ℕ) (room : ℕ) (enough : tableSize ≤ room) where
 pub one-table : (s : List ℕ) (a b : Shape) (v w : ℕ) (c d : List ℕ) → TableOf s a v c → TableOf s b w d → (a ≡ b) × (v ≡ w) × (c ≡ d)
 one-table = LoadedIffDue.one-table
 
--- the print of a table is that of its rows, and of no more cells; it tells the shape, but for signals that no row shows
+-- the print of a table is that of its rows, and of no more cells; it tells the shape, the order with it, but for signals that no row shows
 pub printed-table : (t : List ℕ) (shape : Shape) (worst : ℕ) → Printable t shape worst
-    → TableOf (tableText t shape worst) (toldShape t shape) worst (take (shape .rows * rowSize) t)
+    → TableOf (tableText t shape worst) (toldShape t shape) worst (take (shape .rows * rowSize (shape .order)) t)
 printed-table = SameRows.table-of-print
 
 -- a refusal leaves the table as it was, and an answer all behind its rows
 pub table-kept : (s t : List ℕ) (number place : ℕ) → toldLoaded (loadedBy (length t) s) ≡ refused number place → tableAfter s t ≡ t
 table-kept = LoadedIffDue.table-kept
 
-pub table-rest : (s t : List ℕ) (n : ℕ) (l : List ℕ) → toldLoaded (loadedBy (length t) s) ≡ values (n ∷ l)
-    → drop (n * rowSize) (tableAfter s t) ≡ drop (n * rowSize) t
+pub table-rest : (s t : List ℕ) (n observed r : ℕ) (o : Order)
+    → toldLoaded (loadedBy (length t) s) ≡ values (n ∷ observed ∷ orderNumber o ∷ r ∷ [])
+    → drop (n * rowSize o) (tableAfter s t) ≡ drop (n * rowSize o) t
 table-rest = LoadedIffDue.table-rest
 
 -- a text that is longer than a print can be is answered as its beginning is, one byte more than that

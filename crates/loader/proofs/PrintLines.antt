@@ -11,10 +11,12 @@ use Rattle.basics.specs.Bytes.{bytesOf, notTab, notLineEnd}
 use Rattle.basics.specs.Lists.{tabulate}
 use Rattle.basics.specs.Pieces.{Unparted, fieldAt, lineAt}
 use Rattle.basics.specs.Text.{decimal, field}
+use Rattle.basics.specs.declared.order.Order.{Order}
+use Rattle.basics.specs.declared.order.Order.the-variants.{Set, Read}
 use Rattle.basics.proofs.Booleans.{cond-elim}
 use Rattle.basics.proofs.PiecesLaws.{unparted-append, unparted-decimal, AllUnparted, unparted-table, unparted-fields, field-of}
-use Rattle.play.specs.Cells.{firstCell, isStop, nextCell}
-use Rattle.printer.specs.Text.{nextFields, rowFields, rowText, tableText}
+use Rattle.play.specs.Cells.{cell, isStop}
+use Rattle.printer.specs.Text.{shownFrom, shownCount, shownFields, rowFields, rowText, tableWord, tableText}
 use Rattle.tables.specs.declared.shape.Shape.{Shape}
 use Rattle.loader.specs.LoadedAs.{Lines}
 use Rattle.loader.proofs.WholeLines.{line-here, line-next, lines-more, lines-are, line-of, line-last}
@@ -29,25 +31,36 @@ no-end b l h = rw (ne-eqb b 10 (λ e. omega arith)) refl
 
 -- ---- the first line without its end
 
-abbrev pub headBody : ℕ → ℕ → List ℕ
-headBody rows worst = bytesOf "table" ++ flatMap field (decimal rows ∷ decimal worst ∷ [])
+abbrev pub headBody : Order → ℕ → ℕ → List ℕ
+headBody o rows worst = tableWord o ++ flatMap field (decimal rows ∷ decimal worst ∷ [])
 
-module _ (rows worst : ℕ) where
-  head-whole : Unparted notLineEnd (headBody rows worst)
+word-whole : (o : Order) → Unparted notLineEnd (tableWord o)
+word-whole Set = (refl, (refl, (refl, (refl, (refl, tt)))))
+word-whole Read = (refl, (refl, (refl, (refl, (refl, (refl, tt))))))
+
+word-field : (o : Order) → Unparted notTab (tableWord o)
+word-field Set = (refl, (refl, (refl, (refl, (refl, tt)))))
+word-field Read = (refl, (refl, (refl, (refl, (refl, (refl, tt))))))
+
+module _ (o : Order) (rows worst : ℕ) where
+  head-whole : Unparted notLineEnd (headBody o rows worst)
   head-whole =
-      unparted-append notLineEnd (bytesOf "table") (flatMap field (decimal rows ∷ decimal worst ∷ [])) (refl, (refl, (refl, (refl, (refl, tt)))))
+      unparted-append notLineEnd (tableWord o) (flatMap field (decimal rows ∷ decimal worst ∷ [])) (word-whole o)
       (unparted-fields notLineEnd refl (decimal rows ∷ decimal worst ∷ [])
       (unparted-decimal notLineEnd no-end rows, (unparted-decimal notLineEnd no-end worst, tt)))
 
-  head-field : (k : ℕ) → fieldAt k (headBody rows worst) ≡ getD (bytesOf "table" ∷ decimal rows ∷ decimal worst ∷ []) k []
+  head-field : (k : ℕ) → fieldAt k (headBody o rows worst) ≡ getD (tableWord o ∷ decimal rows ∷ decimal worst ∷ []) k []
   head-field =
-      field-of (bytesOf "table") (decimal rows ∷ decimal worst ∷ []) (refl, (refl, (refl, (refl, (refl, tt)))))
+      field-of (tableWord o) (decimal rows ∷ decimal worst ∷ []) (word-field o)
       (unparted-decimal notTab no-tab rows, (unparted-decimal notTab no-tab worst, tt))
 
-  pub head-rows : fieldAt 1 (headBody rows worst) ≡ decimal rows
+  pub head-word : fieldAt 0 (headBody o rows worst) ≡ tableWord o
+  head-word = head-field 0
+
+  pub head-rows : fieldAt 1 (headBody o rows worst) ≡ decimal rows
   head-rows = head-field 1
 
-  pub head-worst : fieldAt 2 (headBody rows worst) ≡ decimal worst
+  pub head-worst : fieldAt 2 (headBody o rows worst) ≡ decimal worst
   head-worst = head-field 2
 
 -- ---- the line of a row without its end
@@ -58,12 +71,11 @@ rowBody t shape i = bytesOf "row" ++ flatMap field (decimal i ∷ rowFields t sh
 module _ (t : List ℕ) (shape : Shape) (i : ℕ) where
   fields-whole : (p : ℕ → Bool) → ((b : ℕ) → 48 ≤ b → b < 58 → p b ≡ true) → Unparted p (bytesOf "stop") → AllUnparted p (rowFields t shape i)
   fields-whole p digit word =
-      cond-elim (AllUnparted p) (isStop t i) (bytesOf "stop" ∷ []) (decimal (firstCell t i) ∷ nextFields t i (2 ^ (shape .observed)))
-      (λ e. (word, tt))
-      (λ e. (
-        unparted-decimal p digit (firstCell t i),
-        unparted-table p (2 ^ (shape .observed)) (λ s. decimal (nextCell t i s)) (λ s. unparted-decimal p digit (nextCell t i s)),
-      ))
+      let o = shape .order in
+      let n = 2 ^ (shape .observed) in
+      cond-elim (AllUnparted p) (isStop o t i) (bytesOf "stop" ∷ []) (shownFields o t i n) (λ e. (word, tt))
+      (λ e. unparted-table p (shownCount o n) (λ k. decimal (cell o t i (shownFrom o + k)))
+      (λ k. unparted-decimal p digit (cell o t i (shownFrom o + k))))
 
   row-whole : Unparted notLineEnd (rowBody t shape i)
   row-whole =
@@ -90,17 +102,18 @@ module _ (t : List ℕ) (shape : Shape) (worst : ℕ) where
 
   pub print-lines : Lines (suc rows) (tableText t shape worst)
   print-lines =
-      lines-more (headBody rows worst) (head-whole rows worst) rows behindHead (lines-are (rowBody t shape) (row-whole t shape) rows (λ i. i))
+      lines-more (headBody (shape .order) rows worst) (head-whole (shape .order) rows worst) rows behindHead
+      (lines-are (rowBody t shape) (row-whole t shape) rows (λ i. i))
 
-  split : tableText t shape worst ≡ headBody rows worst ++ (10 ∷ behindHead)
-  split = append-assoc (headBody rows worst) (10 ∷ []) behindHead
+  split : tableText t shape worst ≡ headBody (shape .order) rows worst ++ (10 ∷ behindHead)
+  split = append-assoc (headBody (shape .order) rows worst) (10 ∷ []) behindHead
 
-  pub print-head : lineAt 0 (tableText t shape worst) ≡ headBody rows worst
-  print-head = ap (lineAt 0) split ∙ line-here (headBody rows worst) behindHead (head-whole rows worst)
+  pub print-head : lineAt 0 (tableText t shape worst) ≡ headBody (shape .order) rows worst
+  print-head = ap (lineAt 0) split ∙ line-here (headBody (shape .order) rows worst) behindHead (head-whole (shape .order) rows worst)
 
   pub print-row : (i : ℕ) → i < rows → lineAt (suc i) (tableText t shape worst) ≡ rowBody t shape i
   print-row i h =
-      ap (lineAt (suc i)) split ∙ line-next (headBody rows worst) behindHead (head-whole rows worst) i
+      ap (lineAt (suc i)) split ∙ line-next (headBody (shape .order) rows worst) behindHead (head-whole (shape .order) rows worst) i
       ∙ line-of (rowBody t shape) (row-whole t shape) rows (λ i. i) i h
 
   pub print-end : lineAt (suc rows) (tableText t shape worst) ≡ []

@@ -1,11 +1,11 @@
--- Tables whose rows say the same are printed alike; so the print of a table tells its rows, and no more cells, and its shape, but for observed
--- signals that no row shows.
+-- Tables whose rows have the same cells are printed alike; so the print of a table tells its rows, and no more cells, and its shape, but for
+-- observed signals that no row shows.
 -- Assumes nothing.
 use Prim.Native.Nat.{ℕ, _+_, _*_, _^_, _≤_, _<_}
 use native.Mathlib.Omega.{arith}
-use mathlib.Core.Path.{_≡_, refl, sym, ap, ap₂, _∙_, subst}
+use mathlib.Core.Path.{_≡_, refl, sym, ap, _∙_, subst}
 use mathlib.Core.Logic.{inl, inr}
-use mathlib.Core.Bool.{true, false}
+use mathlib.Core.Bool.{Bool, true, false}
 use mathlib.Core.List.{List, [], _∷_, _++_}
 use lib.Dec.{eqb}
 use lib.ListN.{length, take}
@@ -15,53 +15,97 @@ use Rattle.basics.specs.Bounded.{all}
 use Rattle.basics.specs.Bytes.{bytesOf}
 use Rattle.basics.specs.Limits.{kindLimit}
 use Rattle.basics.specs.Text.{decimal, line}
+use Rattle.basics.specs.declared.order.Order.{Order}
 use Rattle.basics.proofs.Booleans.{test, clash}
 use Rattle.basics.proofs.BoundedLaws.{all-at, all-of}
 use Rattle.basics.proofs.ListsLaws.{tabulate-ext}
 use Rattle.basics.proofs.TextLaws.{flat-ext}
 use Rattle.play.specs.Limits.{sideLimit}
-use Rattle.play.specs.Cells.{rowSize, stopCell, firstCell, isStop, nextCell}
-use Rattle.play.proofs.CellsLaws.{first-taken, next-taken}
-use Rattle.printer.specs.Text.{nextFields, rowFields, rowText, tableText}
-use Rattle.printer.specs.WellFormed.{IsAnswer, Unused, Printable}
+use Rattle.play.specs.Cells.{choiceAt, nextAt, rowSize, stopCell, cell, firstCell, isStop, nextCell}
+use Rattle.play.proofs.CellsLaws.{choice-inside, next-inside, first-inside, cell-taken, same-cells}
+use Rattle.printer.specs.Text.{shownFrom, shownCount, shownFields, rowFields, rowText, tableWord, tableText}
+use Rattle.printer.specs.WellFormed.{IsFirst, GoesOn, Unused, Printable}
+use Rattle.printer.proofs.TextLaws.{shown-inside}
 use Rattle.printer.proofs.WellFormedLaws.{side-le}
 use Rattle.tables.specs.declared.shape.Shape.{Shape}
 use Rattle.loader.specs.LoadedAs.{TableOf, toldShape}
+use Rattle.loader.proofs.ShownCells.{own-inside, blank-own, blank-by}
+use Rattle.loader.proofs.RowBack.{withObserved}
 
--- the first n rows of two tables say the same
-pub record SameRows (n : ℕ) (t u : List ℕ) : Type 0 where
-  pub first : (i : ℕ) → i < n → firstCell u i ≡ firstCell t i
-  pub next : (i : ℕ) → i < n → (s : ℕ) → s < sideLimit → nextCell u i s ≡ nextCell t i s
+-- ---- rows with the same cells
 
--- a table u with the rows of t, and with as many observed signals as every row that goes on shows
-module _ (t u : List ℕ) (shape : Shape) (worst : ℕ) (p : Printable t shape worst) (same : SameRows (shape .rows) t u)
-    (room : shape .rows * rowSize ≤ length u) (o : ℕ) (few : o ≤ kindLimit)
-    (shown : (i : ℕ) → i < shape .rows → isStop t i ≡ false → o ≡ shape .observed) where
+-- row i of two tables
+abbrev pub SameRow : Order → List ℕ → List ℕ → ℕ → Type 0
+SameRow o t u i = (k : ℕ) → k < rowSize o → cell o u i k ≡ cell o t i k
+
+-- tables of such rows, and of no more cells, are the same
+pub same-tables : (o : Order) (n : ℕ) (t u : List ℕ) → length t ≡ n * rowSize o → length u ≡ n * rowSize o → ((i : ℕ) → i < n → SameRow o t u i) → u ≡ t
+same-tables o n t u long short same =
+    same-cells o n u t short long (λ i h. same i h 0 (first-inside o)) (λ i h s b. same i h (choiceAt o s) (choice-inside o s b))
+    (λ i h s b. same i h (nextAt o s) (next-inside o s b))
+
+-- such rows are printed alike, with as many observed signals if the row goes on
+module _ (t u : List ℕ) (shape : Shape) (x i : ℕ) (seen : shape .observed ≤ kindLimit) (same : SameRow (shape .order) t u i)
+    (shown : isStop (shape .order) t i ≡ false → x ≡ shape .observed) where
+  abbrev o : Order
+  o = shape .order
+
+  same-stop : isStop o u i ≡ isStop o t i
+  same-stop = ap (λ c. eqb c stopCell) (same 0 (first-inside o))
+
+  pub same-fields : rowFields u (withObserved shape x) i ≡ rowFields t shape i
+  same-fields =
+      elim (test (isStop o t i)) [
+        | inl e ↦ let q : isStop o u i ≡ true = same-stop ∙ e in rw (q, e) refl
+        | inr e ↦
+            let q : isStop o u i ≡ false = same-stop ∙ e in
+            let n = 2 ^ (shape .observed) in
+            rw (q, e)
+            (ap (λ (m : ℕ). shownFields o u i (2 ^ m)) (shown e)
+            ∙ tabulate-ext (shownCount o n) (λ j. decimal (cell o u i (shownFrom o + j))) (λ j. decimal (cell o t i (shownFrom o + j)))
+            (λ j b. ap decimal (same (shownFrom o + j) (shown-inside o n j (side-le (shape .observed) seen) b))))
+      ]
+
+-- ---- a table u with the rows of t, and with as many observed signals as every row that goes on shows
+
+module _ (t u : List ℕ) (shape : Shape) (worst : ℕ) (p : Printable t shape worst)
+    (same : (i : ℕ) → i < shape .rows → SameRow (shape .order) t u i) (room : shape .rows * rowSize (shape .order) ≤ length u)
+    (x : ℕ) (few : x ≤ kindLimit) (shown : (i : ℕ) → i < shape .rows → isStop (shape .order) t i ≡ false → x ≡ shape .observed) where
+  abbrev order : Order
+  order = shape .order
+
   abbrev n : ℕ
   n = shape .rows
 
   abbrev told : Shape
-  told = record { rows = n; observed = o }
+  told = withObserved shape x
 
-  goes : (i : ℕ) → i < n → ¬ (firstCell u i ≡ stopCell) → ¬ (firstCell t i ≡ stopCell)
-  goes i h m e = m (same .first i h ∙ e)
+  same-first : (i : ℕ) → i < n → firstCell order u i ≡ firstCell order t i
+  same-first i h = same i h 0 (first-inside order)
 
-  answer : (i : ℕ) → i < n → IsAnswer (firstCell u i)
-  answer i h = subst IsAnswer (sym (same .first i h)) (p .each i h .good .answer)
+  goes : (i : ℕ) → i < n → ¬ (firstCell order u i ≡ stopCell) → ¬ (firstCell order t i ≡ stopCell)
+  goes i h m e = m (same-first i h ∙ e)
 
-  next : (i : ℕ) → i < n → ¬ (firstCell u i ≡ stopCell) → (s : ℕ) → s < 2 ^ o → (nextCell u i s < n) × IsAnswer (firstCell u (nextCell u i s))
-  next i h m s b =
-      let shows = shown i h (ne-eqb (firstCell t i) stopCell (goes i h m)) in
-      let count : 2 ^ o ≡ 2 ^ (shape .observed) = ap (λ k. 2 ^ k) shows in
-      let q = same .next i h s (omega (arith, b, side-le o few)) in
-      let low : nextCell u i s < n = subst (λ k. k < n) (sym q) (p .each i h .good .next (goes i h m) s (omega arith) .0) in
-      (low, answer (nextCell u i s) low)
+  first : (i : ℕ) → i < n → IsFirst order (firstCell order u i)
+  first i h = subst (IsFirst order) (sym (same-first i h)) (p .each i h .good .first)
+
+  goes-on : (i : ℕ) → i < n → ¬ (firstCell order u i ≡ stopCell) → (s : ℕ) → s < 2 ^ x → GoesOn u told i s
+  goes-on i h m s b =
+      let count : 2 ^ x ≡ 2 ^ (shape .observed) = ap (λ k. 2 ^ k) (shown i h (ne-eqb (firstCell order t i) stopCell (goes i h m))) in
+      let side : s < sideLimit = omega (arith, b, side-le x few) in
+      let g = p .each i h .good .goes (goes i h m) s (omega arith) in
+      let low : nextCell order u i s < n = subst (λ k. k < n) (sym (same i h (nextAt order s) (next-inside order s side))) (g .next) in
+      record {
+        choice = subst (λ k. k < sideLimit) (sym (same i h (choiceAt order s) (choice-inside order s side))) (g .choice);
+        next = low;
+        first = first (nextCell order u i s) low;
+      }
 
   unused : (i : ℕ) → i < n → (s : ℕ) → Unused u told i s → Unused t shape i s
-  unused i h s x =
-      elim (test (isStop t i)) [
-        | inl e ↦ inl (eqb-true (firstCell t i) stopCell e)
-        | inr e ↦ elim x [ inl z ↦ inl (sym (same .first i h) ∙ z) | inr b ↦ inr (subst (λ k. 2 ^ k ≤ s) (shown i h e) b) ]
+  unused i h s y =
+      elim (test (isStop order t i)) [
+        | inl e ↦ inl (eqb-true (firstCell order t i) stopCell e)
+        | inr e ↦ elim y [ inl z ↦ inl (sym (same-first i h) ∙ z) | inr b ↦ inr (subst (λ k. 2 ^ k ≤ s) (shown i h e) b) ]
       ]
 
   rows-printable : Printable u told worst
@@ -71,72 +115,61 @@ module _ (t u : List ℕ) (shape : Shape) (worst : ℕ) (p : Printable t shape w
         below = p .below;
         each = λ i h.
             record {
-              good = record { answer = answer i h; next = next i h };
-              blank = λ s b x. same .next i h s b ∙ p .each i h .blank s b (unused i h s x);
+              good = record { first = first i h; goes = goes-on i h };
+              blank = λ s b y.
+                  blank-by order u i s
+                  (λ j own. same i h j (own-inside order s j b own) ∙ blank-own order t i s j (p .each i h .blank s b (unused i h s y)) own);
             };
       }
 
-  same-stop : (i : ℕ) → i < n → isStop u i ≡ isStop t i
-  same-stop i h = ap (λ c. eqb c stopCell) (same .first i h)
-
-  same-fields : (i : ℕ) → i < n → rowFields u told i ≡ rowFields t shape i
-  same-fields i h =
-      elim (test (isStop t i)) [
-        | inl e ↦ let q : isStop u i ≡ true = same-stop i h ∙ e in rw (q, e) refl
-        | inr e ↦
-            let q : isStop u i ≡ false = same-stop i h ∙ e in
-            rw (q, e)
-            (ap₂ (λ c l. decimal c ∷ l) (same .first i h)
-            (tabulate-ext (2 ^ o) (λ s. decimal (nextCell u i s)) (λ s. decimal (nextCell t i s))
-            (λ s b. ap decimal (same .next i h s (omega (arith, b, side-le o few))))
-            ∙ ap (λ k. nextFields t i (2 ^ k)) (shown i h e)))
-      ]
-
   rows-print : tableText u told worst ≡ tableText t shape worst
   rows-print =
-      ap (λ l. line (bytesOf "table") (decimal n ∷ decimal worst ∷ []) ++ l)
-      (flat-ext (rowText u told) (rowText t shape) n (λ i. i) (λ i h. ap (λ fs. line (bytesOf "row") (decimal i ∷ fs)) (same-fields i h)))
+      ap (λ l. line (tableWord order) (decimal n ∷ decimal worst ∷ []) ++ l)
+      (flat-ext (rowText u told) (rowText t shape) n (λ i. i)
+      (λ i h. ap (λ fs. line (bytesOf "row") (decimal i ∷ fs)) (same-fields t u shape x i (p .sized .seen) (same i h) (shown i h))))
 
 -- ---- a table behind whose rows more cells stand
 
-taken : (n : ℕ) (t : List ℕ) → SameRows n t (take (n * rowSize) t)
-taken n t = record { first = λ i h. first-taken n t i h; next = λ i h s b. next-taken n t i h s b }
-
-untaken : (n : ℕ) (t : List ℕ) → SameRows n (take (n * rowSize) t) t
-untaken n t = record { first = λ i h. sym (first-taken n t i h); next = λ i h s b. sym (next-taken n t i h s b) }
-
 -- is printed as its rows are
-pub behind-rows : (t : List ℕ) (shape : Shape) (worst : ℕ) → shape .rows * rowSize ≤ length t → Printable (take (shape .rows * rowSize) t) shape worst
-    → Printable t shape worst × (tableText t shape worst ≡ tableText (take (shape .rows * rowSize) t) shape worst)
+pub behind-rows : (t : List ℕ) (shape : Shape) (worst : ℕ) → shape .rows * rowSize (shape .order) ≤ length t
+    → Printable (take (shape .rows * rowSize (shape .order)) t) shape worst
+    → Printable t shape worst × (tableText t shape worst ≡ tableText (take (shape .rows * rowSize (shape .order)) t) shape worst)
 behind-rows t shape worst room p =
-    let same = untaken (shape .rows) t in (
-      rows-printable (take (shape .rows * rowSize) t) t shape worst p same room (shape .observed) (p .sized .seen) (λ i h e. refl),
-      rows-print (take (shape .rows * rowSize) t) t shape worst p same room (shape .observed) (p .sized .seen) (λ i h e. refl),
+    let used = take (shape .rows * rowSize (shape .order)) t in
+    let same : (i : ℕ) → i < shape .rows → SameRow (shape .order) used t i =
+    λ i h k b. sym (cell-taken (shape .order) (shape .rows) t i h k b) in (
+      rows-printable used t shape worst p same room (shape .observed) (p .sized .seen) (λ i h e. refl),
+      rows-print used t shape worst p same room (shape .observed) (p .sized .seen) (λ i h e. refl),
     )
 
 module _ (t : List ℕ) (shape : Shape) (worst : ℕ) (p : Printable t shape worst) where
-  abbrev used : List ℕ
-  used = take (shape .rows * rowSize) t
+  abbrev size : ℕ
+  size = shape .rows * rowSize (shape .order)
 
-  used-length : length used ≡ shape .rows * rowSize
-  used-length = length-take-le (shape .rows * rowSize) t (p .sized .room)
+  abbrev stops : ℕ → Bool
+  stops = isStop (shape .order) t
 
-  told-table : (o : ℕ) → o ≤ kindLimit → ((i : ℕ) → i < shape .rows → isStop t i ≡ false → o ≡ shape .observed)
-      → (((i : ℕ) → i < shape .rows → isStop t i ≡ true) → o ≡ 0)
-      → TableOf (tableText t shape worst) (record { rows = shape .rows; observed = o }) worst used
-  told-table o few shown none =
-      let same = taken (shape .rows) t in
-      let room : shape .rows * rowSize ≤ length used = omega (arith, used-length) in
+  used-length : length (take size t) ≡ size
+  used-length = length-take-le size t (p .sized .room)
+
+  told-table : (x : ℕ) → x ≤ kindLimit → ((i : ℕ) → i < shape .rows → stops i ≡ false → x ≡ shape .observed)
+      → (((i : ℕ) → i < shape .rows → stops i ≡ true) → x ≡ 0)
+      → TableOf (tableText t shape worst) (withObserved shape x) worst (take size t)
+  told-table x few shown none =
+      let same : (i : ℕ) → i < shape .rows → SameRow (shape .order) t (take size t) i =
+      λ i h k b. cell-taken (shape .order) (shape .rows) t i h k b in
+      let room : size ≤ length (take size t) = omega (arith, used-length) in
       record {
-        printable = rows-printable t used shape worst p same room o few shown;
-        prints = rows-print t used shape worst p same room o few shown;
+        printable = rows-printable t (take size t) shape worst p same room x few shown;
+        prints = rows-print t (take size t) shape worst p same room x few shown;
         exact = used-length;
-        untold = λ stop. none (λ i h. eq-eqb (firstCell t i) stopCell (sym (same .first i h) ∙ stop i h));
+        untold = λ stop. none (λ i h.
+            eq-eqb (firstCell (shape .order) t i) stopCell (sym (same i h 0 (first-inside (shape .order))) ∙ stop i h));
       }
 
-  pub table-of-print : TableOf (tableText t shape worst) (toldShape t shape) worst used
+  pub table-of-print : TableOf (tableText t shape worst) (toldShape t shape) worst (take size t)
   table-of-print =
-      elim (test (all (shape .rows) (isStop t))) [
-        | inl e ↦ rw e (told-table 0 (omega arith) (λ i h f. clash (all-at (shape .rows) (isStop t) e i h) f) (λ stop. refl))
-        | inr e ↦ rw e (told-table (shape .observed) (p .sized .seen) (λ i h f. refl) (λ stop. clash (all-of (shape .rows) (isStop t) stop) e))
+      elim (test (all (shape .rows) stops)) [
+        | inl e ↦ rw e (told-table 0 (omega arith) (λ i h f. clash (all-at (shape .rows) stops e i h) f) (λ stop. refl))
+        | inr e ↦ rw e (told-table (shape .observed) (p .sized .seen) (λ i h f. refl) (λ stop. clash (all-of (shape .rows) stops stop) e))
       ]

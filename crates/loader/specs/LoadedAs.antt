@@ -9,6 +9,7 @@ use lib.ListN.{length, take}
 use Rattle.basics.specs.Bounded.{all}
 use Rattle.basics.specs.Bytes.{notLineEnd}
 use Rattle.basics.specs.Lists.{written}
+use Rattle.basics.specs.Order.{orderNumber}
 use Rattle.basics.specs.Pieces.{Unparted}
 use Rattle.lines.specs.declared.refusal.Refusal.the-variants.{ShortMemory, BadText}
 use Rattle.lines.specs.Refusal.{Told, values, refused, toldRefusal}
@@ -45,14 +46,15 @@ cellsBy room s = cond (ltb room tableSize) [] (cellsAt (difference 1 s (printIn 
 abbrev pub tableAfter : List ℕ → List ℕ → List ℕ
 tableAfter s table = written (cellsBy (length table) s) table
 
--- in the reference's terms: the row count, the number of observed signals and the worst case; or a refusal's number and place
+-- in the reference's terms: the row count, the number of observed signals, the order's number and the worst case; or a refusal's number and
+-- place
 abbrev pub toldLoaded : Loaded → Told
-toldLoaded (Table shape r) = values (shape .rows ∷ shape .observed ∷ r ∷ [])
+toldLoaded (Table shape r) = values (shape .rows ∷ shape .observed ∷ orderNumber (shape .order) ∷ r ∷ [])
 toldLoaded (Refused x) = toldRefusal x
 
 -- the used rows of a table, by the answer
 abbrev pub usedRows : Loaded → List ℕ → List ℕ
-usedRows (Table shape r) table = take (shape .rows * rowSize) table
+usedRows (Table shape r) table = take (shape .rows * rowSize (shape .order)) table
 usedRows (Refused x) table = []
 
 -- ---- what is due
@@ -66,12 +68,13 @@ IsPrint s = (t : List ℕ) × (shape : Shape) × (worst : ℕ) × Printable t sh
 pub record TableOf (s : List ℕ) (shape : Shape) (worst : ℕ) (cells : List ℕ) : Type 0 where
   pub printable : Printable cells shape worst
   pub prints : tableText cells shape worst ≡ s
-  pub exact : length cells ≡ shape .rows * rowSize
-  pub untold : ((i : ℕ) → i < shape .rows → firstCell cells i ≡ stopCell) → shape .observed ≡ 0
+  pub exact : length cells ≡ shape .rows * rowSize (shape .order)
+  pub untold : ((i : ℕ) → i < shape .rows → firstCell (shape .order) cells i ≡ stopCell) → shape .observed ≡ 0
 
 -- the shape that the print of a table tells
 abbrev pub toldShape : List ℕ → Shape → Shape
-toldShape t shape = record { rows = shape .rows; observed = cond (all (shape .rows) (isStop t)) 0 (shape .observed) }
+toldShape t shape =
+    record { rows = shape .rows; observed = cond (all (shape .rows) (isStop (shape .order) t)) 0 (shape .observed); order = shape .order }
 
 -- k lines, each ended by byte 10: none, or one and k - 1 more
 abbrev pub Lines : ℕ → List ℕ → Type 0
@@ -100,4 +103,4 @@ pub data LoadedAs (room : ℕ) (s : List ℕ) : Told → List ℕ → Type 0 whe
   short-memory : room < tableSize → LoadedAs room s (refused 12 0) []
   bad-text : tableSize ≤ room → (place : ℕ) → FaultAt s place → LoadedAs room s (refused 17 place) []
   table : tableSize ≤ room → (shape : Shape) (worst : ℕ) (cells : List ℕ) → TableOf s shape worst cells
-      → LoadedAs room s (values (shape .rows ∷ shape .observed ∷ worst ∷ [])) cells
+      → LoadedAs room s (values (shape .rows ∷ shape .observed ∷ orderNumber (shape .order) ∷ worst ∷ [])) cells

@@ -1,10 +1,8 @@
 // The table that a text is compared with: what stands where a table's text has its numbers, brought within the limits. It is the text's own
 // table if the text has one, and one that can be printed in any case.
 ghost use mathlib.Core.Path.{_≡_};
-ghost use mathlib.Core.Bool.{cond};
 ghost use Prim.Native.Nat.{suc, _+_, _*_, _≤_, _<_};
-ghost use lib.Dec.{ltb};
-ghost use lib.ListN.{length, drop};
+ghost use lib.ListN.{length, getD, drop};
 ghost use lib.Seq.{sets};
 ghost use Rattle.basics.specs.Bytes.{notLineEnd};
 ghost use Rattle.basics.specs.Limits.{kindLimit};
@@ -13,27 +11,27 @@ ghost use Rattle.basics.specs.Pieces.{behindAll};
 ghost use Rattle.basics.specs.Bounded.{firstThat};
 ghost use Rattle.play.specs.Limits.{beliefLimit, sideLimit};
 ghost use Rattle.play.specs.Cells.{rowSize};
-ghost use Rattle.loader.specs.Candidate.{saysStop, firstIn, countIn, nextIn, rowIn, observedIn, rowsIn, worstIn, shapeIn, cellsIn, goesOn};
+ghost use Rattle.loader.specs.Candidate.{saysStop, limitAt, moveIn, rowIn, observedIn, orderIn, rowsIn, worstIn, shapeIn, cellsIn, goesOn};
 use basics::Class;
 use basics::KIND_LIMIT;
+use basics::Order;
 use basics::behind;
 use basics::field;
 use basics::number_below;
 use basics::piece;
 use basics::same;
+use printer::shown_count;
+use printer::shown_from;
 use tables::BELIEF_LIMIT;
 use tables::SIDE_LIMIT;
 use tables::STOP;
 use tables::Shape;
-use tables::set_first;
-use tables::set_next;
+use tables::row_size;
 
 // ---- a row, from its line
 
-// Where the fields of a row's line stand: `stop` or the choice, then the next rows.
+// The field of a row's line where `stop` or the first printed cell stands.
 const FIRST: usize = 2;
-
-const NEXT: usize = 3;
 
 // Whether it stops.
 fn says_stop(line: &[u8]) -> bool
@@ -42,62 +40,74 @@ fn says_stop(line: &[u8]) -> bool
     same(field(line, FIRST), b"stop")
 }
 
-// Its first cell: stop, or the choice.
-fn first_in(line: &[u8]) -> u16
-    ensures { λ r. ⌜ r ≡ firstIn (now (line .entry)) ⌝ }
+// What the number in cell i is below, for a choice and for a next row.
+fn limit_at(order: Order, rows: usize, i: usize) -> usize
+    ensures { λ r. ⌜ r ≡ limitAt order rows i ⌝ }
 {
-    if says_stop(line) {
-        return STOP;
+    match order {
+        Order::Set => { if i == 0 { SIDE_LIMIT } else { rows } }
+        Order::Read => { if i % 2 == 1 { SIDE_LIMIT } else { rows } }
     }
-    number_below(field(line, FIRST), SIDE_LIMIT) as u16
 }
 
-// How many next rows it has.
-fn count_in(line: &[u8], observed: usize) -> usize
-    requires { ⌜ observed ≤ kindLimit ⌝ }
-    ensures { λ r. ⌜ r ≡ countIn observed (now (line .entry)) ⌝ }
-{
-    if says_stop(line) {
-        return 0;
-    }
-    1 << observed
-}
-
-// Its next row for observation s, of n observations; an unused cell is 0.
-fn next_in(line: &[u8], rows: usize, n: usize, s: usize) -> u16
+// Cell i of a row that goes on, for n observations; a cell that is not printed is 0.
+fn move_in(line: &[u8], order: Order, n: usize, rows: usize, i: usize) -> u16
+    requires { ⌜ n ≤ sideLimit ⌝ }
     requires { ⌜ rows ≤ beliefLimit ⌝ }
-    requires { ⌜ s < sideLimit ⌝ }
-    ensures { λ r. ⌜ r ≡ cond (ltb s n) (nextIn rows (now (line .entry)) s) 0 ⌝ }
+    requires { ⌜ i < rowSize order ⌝ }
+    ensures { λ r. ⌜ r ≡ moveIn order n rows (now (line .entry)) i ⌝ }
 {
-    if s >= n {
+    let from = shown_from(order);
+    let count = shown_count(order, n);
+    if (i < from) | (i >= from + count) {
         return 0;
     }
-    number_below(field(line, NEXT + s), rows) as u16
+    let limit = limit_at(order, rows, i);
+    number_below(field(line, FIRST + (i - from)), limit) as u16
+}
+
+// Its cell i.
+fn cell_in(line: &[u8], shape: Shape, i: usize) -> u16
+    requires { ⌜ shape .observed ≤ kindLimit ⌝ }
+    requires { ⌜ shape .rows ≤ beliefLimit ⌝ }
+    requires { ⌜ i < rowSize (shape .order) ⌝ }
+    ensures { λ r. ⌜ r ≡ getD (rowIn shape (now (line .entry))) i 0 ⌝ }
+{
+    if says_stop(line) {
+        if i == 0 {
+            return STOP;
+        }
+        return 0;
+    }
+    let order = shape.order;
+    move_in(line, order, 1 << shape.observed, shape.rows, i)
 }
 
 // Writes its cells.
 fn put_row(line: &[u8], shape: Shape, row: usize, cells: &mut [u16])
     requires { ⌜ shape .observed ≤ kindLimit ⌝ }
     requires { ⌜ shape .rows ≤ beliefLimit ⌝ }
-    requires { ⌜ row * rowSize + rowSize ≤ length (now cells) ⌝ }
-    ensures { λ _. ⌜ now (cells .exit) ≡ sets (now (cells .entry)) (row * rowSize) (rowIn shape (now (line .entry))) ⌝ }
+    requires { ⌜ row * rowSize (shape .order) + rowSize (shape .order) ≤ length (now cells) ⌝ }
+    ensures { λ _. ⌜ now (cells .exit) ≡ sets (now (cells .entry)) (row * rowSize (shape .order)) (rowIn shape (now (line .entry))) ⌝ }
 {
-    set_first(cells, row, first_in(line));
-    let n = count_in(line, shape.observed);
-    let mut s = 0;
-    while s < SIDE_LIMIT {
-        set_next(cells, row, s, next_in(line, shape.rows, n, s));
-        s += 1;
+    let order = shape.order;
+    let size = row_size(order);
+    let at = row * size;
+    let mut i = 0;
+    while i < size {
+        cells[at + i] = cell_in(line, shape, i);
+        i += 1;
     }
 }
 
-// The number of observed signals, by how many next rows there are.
-fn observed_in(line: &[u8]) -> usize
-    ensures { λ r. ⌜ r ≡ observedIn kindLimit (now (line .entry)) ⌝ }
+// The number of observed signals, by how many fields there are.
+fn observed_in(line: &[u8], order: Order) -> usize
+    ensures { λ r. ⌜ r ≡ observedIn order kindLimit (now (line .entry)) ⌝ }
 {
     let mut k = KIND_LIMIT;
     while k > 0 {
-        if field(line, FIRST + (1 << k)).len() > 0 {
+        let last = 1 + shown_count(order, 1 << k);
+        if field(line, last).len() > 0 {
             return k;
         }
         k -= 1;
@@ -106,6 +116,16 @@ fn observed_in(line: &[u8]) -> usize
 }
 
 // ---- the table
+
+// The order, from the first line.
+fn order_in(line: &[u8]) -> Order
+    ensures { λ r. ⌜ r ≡ orderIn (now (line .entry)) ⌝ }
+{
+    if same(field(line, 0), b"rtable") {
+        return Order::Read;
+    }
+    Order::Set
+}
 
 // The row count, from the first line.
 fn rows_in(line: &[u8]) -> usize
@@ -135,14 +155,20 @@ fn first_move(text: &[u8], rows: usize) -> usize
     at
 }
 
-// The row count, and the number of observed signals by the first row that goes on.
+// The row count and the order, and the number of observed signals by the first row that goes on.
 pub(crate) fn shape_in(text: &[u8]) -> Shape
     ensures { λ r. ⌜ r ≡ shapeIn (now (text .entry)) ⌝ }
 {
-    let rows = rows_in(piece(text, 0, Class::Line));
+    let head = piece(text, 0, Class::Line);
+    let rows = rows_in(head);
+    let order = order_in(head);
     let at = first_move(text, rows);
-    let observed = observed_in(piece(text, at, Class::Line));
-    Shape { rows, observed }
+    let observed = observed_in(piece(text, at, Class::Line), order);
+    Shape {
+        rows,
+        observed,
+        order,
+    }
 }
 
 // The worst case, from the first line.
@@ -156,7 +182,7 @@ pub(crate) fn worst_in(text: &[u8], rows: usize) -> usize
 pub(crate) fn put_rows(text: &[u8], shape: Shape, cells: &mut [u16])
     requires { ⌜ shape .observed ≤ kindLimit ⌝ }
     requires { ⌜ shape .rows ≤ beliefLimit ⌝ }
-    requires { ⌜ shape .rows * rowSize ≤ length (now cells) ⌝ }
+    requires { ⌜ shape .rows * rowSize (shape .order) ≤ length (now cells) ⌝ }
     ensures { λ _. ⌜ now (cells .exit) ≡ written (cellsIn shape (now (text .entry))) (now (cells .entry)) ⌝ }
 {
     let rows = shape.rows;

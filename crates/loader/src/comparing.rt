@@ -36,7 +36,7 @@ fn first_difference(a: &[u8], b: &[u8]) -> usize
 // The same of a text and the print of a table.
 pub(crate) fn compare_print(text: &[u8], table: &[u16], shape: Shape, worst: usize) -> usize
     requires { ⌜ shape .observed ≤ kindLimit ⌝ }
-    requires { ⌜ shape .rows * rowSize ≤ length (now table) ⌝ }
+    requires { ⌜ shape .rows * rowSize (shape .order) ≤ length (now table) ⌝ }
     requires { ⌜ length (tableText (now table) shape worst) ≤ textSize ⌝ }
     ensures { λ r. ⌜ r ≡ difference 1 (now (text .entry)) (tableText (now (table .entry)) shape worst) ⌝ }
 {

@@ -11,9 +11,9 @@ use crate::candidate::shape_in;
 use crate::candidate::worst_in;
 use crate::comparing::compare_print;
 use lines::Refusal;
-use tables::ROW;
 use tables::Shape;
 use tables::TABLE_SIZE;
+use tables::row_size;
 
 // A table's shape and worst case, or one refusal.
 pub enum Loaded {
@@ -69,7 +69,8 @@ pub fn load(text: &[u8], table: &mut [u16]) -> Loaded
     let worst = worst_in(text, shape.rows);
     let mut cells = [0u16; TABLE_SIZE];
     put_rows(text, shape, &mut cells);
-    let end = shape.rows * ROW;
+    let order = shape.order;
+    let end = shape.rows * row_size(order);
     let place = compare_print(text, &cells[..end], shape, worst);
     let n = count_at(place, end);
     copy(&cells[..n], table);

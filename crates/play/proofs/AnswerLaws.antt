@@ -18,18 +18,18 @@ use Rattle.basics.proofs.MemberLaws.{in-tabulate}
 use Rattle.basics.proofs.ReachLaws.{closed-lists}
 use Rattle.play.specs.Limits.{sideLimit}
 use Rattle.play.specs.Cells.{stopCell}
-use Rattle.play.specs.Game.{Game, set}
-use Rattle.play.specs.Rank.{Arena, best}
+use Rattle.basics.specs.declared.order.Order.{Order}
+use Rattle.play.specs.Game.{Game}
+use Rattle.play.specs.Rank.{Arena, bestAnswer, best}
 use Rattle.play.specs.History.{Knows}
 use Rattle.play.specs.Table.{Laid, listOf, rows, rowOf, tableStrategy, tableCells}
 use Rattle.play.specs.Answer.{moves, positions, startRank, Verdict, verdictOf, Right}
 use Rattle.basics.proofs.BoundedLaws.{first-passes, first-least}
 use Rattle.play.proofs.RankLaws.{In, HasRank}
 use Rattle.play.proofs.FiniteArena.{Closed}
-use Rattle.play.proofs.Optimality.{ordered, answer, descends, best-optimal, no-rank-unrealizable, verdict}
-use Rattle.play.proofs.SmallestChoice.{takes-smallest}
-use Rattle.play.proofs.SameStrategy.{optimal-agree}
-use Rattle.play.proofs.RankedRows.{rows-listed, rows-ranked, rows-le, rank-lt-rows}
+use Rattle.play.proofs.Optimality.{ordered, descends, best-optimal, no-rank-unrealizable, verdict}
+use Rattle.play.proofs.SameStrategy.{optimal-alike}
+use Rattle.play.proofs.RankedRows.{ranked-answer, rows-listed, rows-ranked, rows-le, rank-lt-rows}
 use Rattle.play.proofs.TableLaws.{table-laid, table-is-best}
 
 -- the moves have every pair of a choice and an observation
@@ -43,60 +43,61 @@ moves-cover A same choices observations k c s cb sb =
     )
 
 -- for a list of positions that has the start and is closed under moves
-module _ (G : Game) (some-observation : 0 < G .observations) (some-hidden : 0 < G .hiddens) (few-choices : G .choices < stopCell)
+module _ (o : Order) (G : Game) (some-observation : 0 < G .observations) (some-hidden : 0 < G .hiddens) (few-choices : G .choices < stopCell)
     (few-observations : G .observations ≤ sideLimit)
     (A : Arena) (knows : Knows G A) (same : A .K → A .K → Bool) (says : (a b : A .K) → Says (same a b) (a ≡ b))
-    (all : List (A .K)) (closed-all : Closed (ordered set G) A some-observation all) (start-in : A .start ∈ all) (n : ℕ) (fits : length all ≡ n) (limit : ℕ)
+    (all : List (A .K)) (closed-all : Closed (ordered o G) A some-observation all) (start-in : A .start ∈ all) (n : ℕ) (fits : length all ≡ n) (limit : ℕ)
     (within : n ≤ limit) where
   abbrev small : length all ≤ n
   small = omega (arith, fits)
 
   abbrev r : ℕ
-  r = startRank A same (G .choices) (G .observations) n
+  r = startRank o A same (G .choices) (G .observations) n
 
   abbrev cells : List ℕ
-  cells = tableCells A same (G .choices) (G .observations) n
+  cells = tableCells o A same (G .choices) (G .observations) n
 
   abbrev rowCount : ℕ
-  rowCount = length (rows A same (G .choices) (G .observations) n)
+  rowCount = length (rows o A same (G .choices) (G .observations) n)
 
-  answer-optimal : r < n → Right limit G (Verdict.solved rowCount r cells)
+  answer-optimal : r < n → Right limit o G (Verdict.solved rowCount r cells)
   answer-optimal ranked =
-      let start-rank : HasRank (ordered set G) A (A .start) r = (
-        first-passes (λ q. In (ordered set G) A q (A .start)) n ranked,
-        first-least (λ q. In (ordered set G) A q (A .start)) n,
+      let start-rank : HasRank (ordered o G) A (A .start) r = (
+        first-passes (λ q. In (ordered o G) A q (A .start)) n ranked,
+        first-least (λ q. In (ordered o G) A q (A .start)) n,
       ) in
-      let (ks, e) = rows-listed (ordered set G) A same says some-observation all closed-all start-in n small (answer A (G .choices) (G .observations) n)
-      (descends A (G .choices) (G .observations) n) r ranked start-rank in
-      let ranked-rows = rows-ranked (ordered set G) A same says some-observation all closed-all start-in n small (answer A (G .choices) (G .observations) n)
-      (descends A (G .choices) (G .observations) n) r ranked start-rank ks e in
-      let fewer = rows-le (ordered set G) A same says some-observation all closed-all start-in n small (answer A (G .choices) (G .observations) n)
-      (descends A (G .choices) (G .observations) n) r ranked start-rank ks e in
+      let (ks, e) = rows-listed (ordered o G) A same says some-observation all closed-all start-in n small (bestAnswer o A (G .choices) (G .observations) n)
+      (descends o A (G .choices) (G .observations) n) r ranked start-rank in
+      let ranked-rows = rows-ranked (ordered o G) A same says some-observation all closed-all start-in n small (bestAnswer o A (G .choices) (G .observations) n)
+      (descends o A (G .choices) (G .observations) n) r ranked start-rank ks e in
+      let fewer = rows-le (ordered o G) A same says some-observation all closed-all start-in n small (bestAnswer o A (G .choices) (G .observations) n)
+      (descends o A (G .choices) (G .observations) n) r ranked start-rank ks e in
       record {
         optimal =
-            optimal-agree G (tableStrategy cells) (best A (G .choices) (G .observations) n (A .start))
-            (table-is-best A same says (G .choices) (G .observations) n few-choices few-observations ks e)
-            r (best-optimal G some-observation some-hidden A knows n r ranked start-rank);
+            optimal-alike G (tableStrategy o cells) (best o A (G .choices) (G .observations) n (A .start))
+            (table-is-best o A same says (G .choices) (G .observations) n some-observation few-choices few-observations ks e)
+            r (best-optimal G o some-observation some-hidden A knows n r ranked start-rank);
         below =
             subst (λ l. r < length (listOf l)) (sym e)
-            (rank-lt-rows (ordered set G) A same says some-observation all closed-all start-in n small (answer A (G .choices) (G .observations) n)
-            (descends A (G .choices) (G .observations) n) r ranked start-rank ks e);
+            (rank-lt-rows (ordered o G) A same says some-observation all closed-all start-in n small (bestAnswer o A (G .choices) (G .observations) n)
+            (descends o A (G .choices) (G .observations) n) r ranked start-rank ks e);
         within = subst (λ l. length (listOf l) ≤ limit) (sym e) (omega (arith, fewer));
         laid =
-            subst (λ l. Laid (G .choices) (G .observations) (length (listOf l))
-            (flatMap (rowOf A same (G .choices) (G .observations) n (listOf l)) (listOf l))) (sym e)
-            (table-laid A same says (G .choices) (G .observations) n few-choices few-observations ks e
-            (λ k m f. let (i, q, b, a) = ranked-rows k m in takes-smallest A (G .choices) (G .observations) some-observation n k q b f a .0));
+            subst (λ l. Laid o (G .choices) (G .observations) (length (listOf l))
+            (flatMap (rowOf o A same (G .choices) (G .observations) n (listOf l)) (listOf l))) (sym e)
+            (table-laid o A same says (G .choices) (G .observations) n some-observation few-choices few-observations ks e
+            (λ k m f s sb. ranked-answer (ordered o G) A (λ k. k ∈ all) closed-all n (bestAnswer o A (G .choices) (G .observations) n)
+            (descends o A (G .choices) (G .observations) n) k (ranked-rows k m) f s sb .0));
       }
 
-  pub verdict-right : Right limit G (verdictOf A same (G .choices) (G .observations) n)
+  pub verdict-right : Right limit o G (verdictOf o A same (G .choices) (G .observations) n)
   verdict-right = at (ltb r n) refl
     where
       at : (b : Bool) → ltb r n ≡ b
-          → Right limit G (cond b (Verdict.solved rowCount r cells) Verdict.unrealizable)
+          → Right limit o G (cond b (Verdict.solved rowCount r cells) Verdict.unrealizable)
       at true e = answer-optimal (ltb-true r n e)
-      at false e = no-rank-unrealizable G set some-observation some-hidden A knows all closed-all start-in n small
-          (none (verdict G set some-observation some-hidden A knows all closed-all start-in n small))
+      at false e = no-rank-unrealizable G o some-observation some-hidden A knows all closed-all start-in n small
+          (none (verdict G o some-observation some-hidden A knows all closed-all start-in n small))
         where
           none : (r < length all) ⊎ (r ≡ n) → r ≡ n
           none (inl l) = absurd (omega (arith, ltb-false r n e))
@@ -116,12 +117,12 @@ module _ (A : Arena) (same : A .K → A .K → Bool) (says : (a b : A .K) → Sa
   move-counted k m c cb s sb = exact (A .move k c s) .1 (reached-step (exact k .0 m) (moves-cover A same choices observations k c s cb sb))
 
 -- what is answered is right
-pub answer-right : (G : Game) (A : Arena) (same : A .K → A .K → Bool) (says : (a b : A .K) → Says (same a b) (a ≡ b)) (limit : ℕ)
+pub answer-right : (o : Order) (G : Game) (A : Arena) (same : A .K → A .K → Bool) (says : (a b : A .K) → Says (same a b) (a ≡ b)) (limit : ℕ)
     (all : List (A .K)) → positions A same (G .choices) (G .observations) limit ≡ closed all → Knows G A
     → 0 < G .observations → 0 < G .hiddens → G .choices < stopCell → G .observations ≤ sideLimit
-    → Right limit G (verdictOf A same (G .choices) (G .observations) (length all))
-answer-right G A same says limit all counted knows some-observation some-hidden few-choices few-observations =
-    verdict-right G some-observation some-hidden few-choices few-observations A knows same says all
+    → Right limit o G (verdictOf o A same (G .choices) (G .observations) (length all))
+answer-right o G A same says limit all counted knows some-observation some-hidden few-choices few-observations =
+    verdict-right o G some-observation some-hidden few-choices few-observations A knows same says all
     (λ k m f. move-counted A same says (G .choices) (G .observations) limit all counted k m)
     (start-counted A same says (G .choices) (G .observations) limit all counted) (length all) refl limit
     (closed-lists same says (moves A same (G .choices) (G .observations)) (A .start) limit all counted .1)

@@ -98,7 +98,7 @@ module _ {choices observations : ℕ} (O : StepOrder choices observations) (A : 
 
     -- observations that lead the positions without a rank to such positions, for every allowed answer, make a trap of them
     abbrev pub lost-trap : (n : ℕ) → length ks ≤ n → (foil : A .K → (ℕ → ℕ) → ℕ)
-        → ((k : A .K) (g : ℕ → ℕ) → O .Allowed g → O .can (λ c s. In O A n (A .move k c s)) ≡ false
+        → ((k : A .K) (g : ℕ → ℕ) → O .Allowed g → O .able (λ c s. In O A n (A .move k c s)) ≡ false
         → (foil k g < observations) × (In O A n (A .move k (g (foil k g)) (foil k g)) ≡ false))
         → Trap O A Lost
     lost-trap n fits foil foils =

@@ -1,4 +1,4 @@
--- There is only one table as the reference lays it down (`IsTable`), and a belief has only one rank and only one choice.
+-- There is only one table as the reference lays it down (`IsTable`).
 -- Assumes nothing.
 use Prim.Native.Nat.{ℕ, zero, suc, _*_, _-_, _≤_, _<_}
 use native.Mathlib.Nat.{le-refl}
@@ -7,13 +7,15 @@ use native.Mathlib.Omega.{arith}
 use mathlib.Core.Path.{_≡_, sym, ap, ap₂, _∙_, subst}
 use mathlib.Core.Logic.{_⊎_, inl, inr}
 use mathlib.Core.List.{List, []}
+use Rattle.basics.specs.declared.order.Order.{Order}
+use Rattle.basics.specs.declared.order.Order.the-variants.{Set, Read}
 use Rattle.play.specs.Limits.{sideLimit}
-use Rattle.play.specs.Cells.{rowSize, firstCell, nextCell}
+use Rattle.play.specs.Cells.{rowSize, firstCell, choiceCell, nextCell, Blank}
 use Rattle.play.specs.History.{History, Possible, onward}
-use Rattle.play.specs.IsTable.{RankBelow, RankIs, Takes, Before, MetFrom, IsTable}
-use Rattle.play.proofs.CellsLaws.{same-cells}
+use Rattle.play.specs.IsTable.{Before, MetFrom, IsTable}
 use Rattle.play.proofs.HistoryLaws.{possible-onward}
-use Rattle.play.proofs.IsTableLaws.{below-le}
+use Rattle.play.proofs.CellsLaws.{first-same, blank-next, same-cells}
+use Rattle.play.proofs.OneChoice.{Congruence, takes-choice, one-choice}
 
 -- one pair of a row and an observation comes before the other, or they are equal
 either-before : (k u i s : ℕ) → Before k u i s ⊎ (Before i s k u ⊎ ((k ≡ i) × (u ≡ s)))
@@ -35,76 +37,34 @@ either-before k u i s =
           ]
     ]
 
--- what beliefs meet, whatever they are, among the histories that can be: equal beliefs stay equal with equal steps, and are final alike,
--- which is decided
-pub record Congruence (choices observations : ℕ) (Same : History → History → Type 0) (Final : History → Type 0) : Type 0 where
-  pub reflexive : (h : History) → Possible choices observations h → Same h h
-  pub symmetric : (h k : History) → Possible choices observations h → Possible choices observations k → Same h k → Same k h
-  pub transitive : (h k l : History) → Possible choices observations h → Possible choices observations k → Possible choices observations l
-      → Same h k → Same k l → Same h l
-  pub steps : (h k : History) → Possible choices observations h → Possible choices observations k → Same h k
-      → (c s : ℕ) → c < choices → s < observations → Same (onward h c s) (onward k c s)
-  pub finals : (h k : History) → Possible choices observations h → Possible choices observations k → Same h k → Final h → Final k
-  pub decided : (h : History) → Possible choices observations h → Final h ⊎ (¬ Final h)
+-- ---- cells that follow from others, of two tables
 
-module _ (choices observations : ℕ) (Same : History → History → Type 0) (Final : History → Type 0) (C : Congruence choices observations Same Final) where
+blank-choice : (o : Order) (t u : List ℕ) (i s : ℕ) → firstCell o t i ≡ firstCell o u i → Blank o t i s → Blank o u i s
+    → choiceCell o t i s ≡ choiceCell o u i s
+blank-choice Set t u i s first b c = first
+blank-choice Read t u i s first b c = b .0 ∙ sym (c .0)
+
+module _ (o : Order) (choices observations : ℕ) (Same : History → History → Type 0) (Final : History → Type 0)
+    (C : Congruence choices observations Same Final) where
   abbrev Can : History → Type 0
   Can h = Possible choices observations h
-
-  abbrev Below : ℕ → History → Type 0
-  Below = RankBelow choices observations Final
 
   abbrev can-onward : (h : History) (c s : ℕ) → Can h → c < choices → s < observations → Can (onward h c s)
   can-onward = possible-onward choices observations
 
-  -- ---- ranks and choices
-
-  below-same : (r : ℕ) (h k : History) → Can h → Can k → Same h k → Below r h → Below r k
-  below-same zero h k p q e b = b
-  below-same (suc r) h k p q e (inl f) = inl (C .finals h k p q e f)
-  below-same (suc r) h k p q e (inr (c, cb, l)) =
-      inr (
-        c,
-        cb,
-        λ s sb.
-            below-same r (onward h c s) (onward k c s) (can-onward h c s p cb sb) (can-onward k c s q cb sb) (C .steps h k p q e c s cb sb) (l s sb),
-      )
-
-  rank-le : (h k : History) (r q : ℕ) → Can h → Can k → Same h k → RankIs choices observations Final h r → RankIs choices observations Final k q → q ≤ r
-  rank-le h k r q p p′ e a b =
-      elim (decLe q r) [ yes l ↦ l | no n ↦ absurd (b .1 (below-le choices observations Final (suc r) q k (omega arith) (below-same (suc r) h k p p′ e (a .0)))) ]
-
-  -- the same belief has one rank
-  pub one-rank : (h k : History) (r q : ℕ) → Can h → Can k → Same h k → RankIs choices observations Final h r → RankIs choices observations Final k q → r ≡ q
-  one-rank h k r q p p′ e a b =
-      let up = rank-le h k r q p p′ e a b in
-      let down = rank-le k h q r p′ p (C .symmetric h k p p′ e) b a in
-      omega arith
-
-  takes-le : (h k : History) (c d : ℕ) → Can h → Can k → Same h k → Takes choices observations Final h c → Takes choices observations Final k d → d ≤ c
-  takes-le h k c d p p′ e (cb, r, a, l, least) (db, q, b, m, least′) =
-      elim (decLe d c) [
-        | yes u ↦ u
-        | no u ↦
-            absurd (least′ c (omega arith) (λ s sb.
-            subst (λ (n : ℕ). Below n (onward k c s)) (one-rank h k r q p p′ e a b)
-            (below-same r (onward h c s) (onward k c s) (can-onward h c s p cb sb) (can-onward k c s p′ cb sb)
-            (C .steps h k p p′ e c s cb sb) (l s sb))))
-      ]
-
-  -- and takes one choice
-  pub one-choice : (h k : History) (c d : ℕ) → Can h → Can k → Same h k → Takes choices observations Final h c → Takes choices observations Final k d → c ≡ d
-  one-choice h k c d p p′ e a b =
-      let up = takes-le h k c d p p′ e a b in
-      let down = takes-le k h d c p′ p (C .symmetric h k p p′ e) b a in
-      omega arith
-
   -- ---- one table
 
   abbrev Table : ℕ → List ℕ → Type 0
-  Table n t = IsTable choices observations Same Final n t
+  Table n t = IsTable o choices observations Same Final n t
 
   module _ {n : ℕ} {t : List ℕ} (T : Table n t) where
+    row-choice : (i : ℕ) → i < n → (¬ Final (T .history i)) → (s : ℕ) → s < observations → choiceCell o t i s < choices
+    row-choice i b f = takes-choice o choices observations Final (T .history i) (choiceCell o t i) (T .goes i b f .choice)
+
+    -- the history of row i, and one step more by its choice
+    abbrev next : ℕ → ℕ → History
+    next i s = onward (T .history i) (choiceCell o t i s) s
+
     -- the histories of rows can occur
     rows-below : (m i : ℕ) → i < m → i < n → Can (T .history i)
     rows-below zero i h b = absurd (omega arith)
@@ -113,23 +73,20 @@ module _ (choices observations : ℕ) (Same : History → History → Type 0) (F
         let (k, s, f) = T .met (suc i) (omega arith) b in
         let kb : k < n = omega (arith, f .earlier) in
         subst Can (sym (f .followed))
-        (can-onward (T .history k) (firstCell t k) s (rows-below m k (omega (arith, f .earlier)) kb) (T .goes k kb (f .unstopped) .choice .0) (f .observed))
+        (can-onward (T .history k) (choiceCell o t k s) s (rows-below m k (omega (arith, f .earlier)) kb)
+        (row-choice k kb (f .unstopped) s (f .observed)) (f .observed))
 
     row-possible : (i : ℕ) → i < n → Can (T .history i)
     row-possible i b = rows-below (suc i) i (le-refl (suc i)) b
 
-    -- the history of row i, and one step more by its choice
-    abbrev next : ℕ → ℕ → History
-    next i s = onward (T .history i) (firstCell t i) s
-
     next-possible : (i s : ℕ) → i < n → (¬ Final (T .history i)) → s < observations → Can (next i s)
-    next-possible i s b f sb = can-onward (T .history i) (firstCell t i) s (row-possible i b) (T .goes i b f .choice .0) sb
+    next-possible i s b f sb = can-onward (T .history i) (choiceCell o t i s) s (row-possible i b) (row-choice i b f s sb) sb
 
     -- the pair by which a row is first met leads to it
-    met-next : (j i s : ℕ) → j < n → MetFrom choices observations Same Final t (T .history) j i s → nextCell t i s ≡ j
+    met-next : (j i s : ℕ) → j < n → MetFrom o choices observations Same Final t (T .history) j i s → nextCell o t i s ≡ j
     met-next j i s b f =
         let (nb, e) = T .goes i (omega (arith, f .earlier)) (f .unstopped) .next s (f .observed) in
-        T .one-row (nextCell t i s) j nb b (subst (Same (T .history (nextCell t i s))) (sym (f .followed)) e)
+        T .one-row (nextCell o t i s) j nb b (subst (Same (T .history (nextCell o t i s))) (sym (f .followed)) e)
 
   -- ---- two tables
 
@@ -154,22 +111,23 @@ module _ (choices observations : ℕ) (Same : History → History → Type 0) (F
       also-unstopped g =
           f (C .finals (U .history i) (T .history i) (row-possible U i (a .right)) (row-possible T i (a .left)) (shared-sym i a .same) g)
 
-      same-choice : firstCell t i ≡ firstCell u i
+      same-choice : (s : ℕ) → s < observations → choiceCell o t i s ≡ choiceCell o u i s
       same-choice =
-          one-choice (T .history i) (U .history i) (firstCell t i) (firstCell u i) (row-possible T i (a .left)) (row-possible U i (a .right)) (a .same)
-          (T .goes i (a .left) f .choice) (U .goes i (a .right) also-unstopped .choice)
+          one-choice o choices observations Same Final C (T .history i) (U .history i)
+          (row-possible T i (a .left)) (row-possible U i (a .right)) (a .same)
+          (choiceCell o t i) (choiceCell o u i) (T .goes i (a .left) f .choice) (U .goes i (a .right) also-unstopped .choice)
 
       same-step : (s : ℕ) → s < observations → Same (next T i s) (next U i s)
       same-step s sb =
-          subst (λ (c : ℕ). Same (next T i s) (onward (U .history i) c s)) same-choice
+          subst (λ (c : ℕ). Same (next T i s) (onward (U .history i) c s)) (same-choice s sb)
           (C .steps (T .history i) (U .history i) (row-possible T i (a .left)) (row-possible U i (a .right)) (a .same)
-          (firstCell t i) s (T .goes i (a .left) f .choice .0) sb)
+          (choiceCell o t i s) s (row-choice T i (a .left) f s sb) sb)
 
       -- an observation that leads to a shared row leads to it in both
-      same-next : (s : ℕ) → s < observations → Shared T U (nextCell t i s) → nextCell u i s ≡ nextCell t i s
+      same-next : (s : ℕ) → s < observations → Shared T U (nextCell o t i s) → nextCell o u i s ≡ nextCell o t i s
       same-next s sb b =
-          let j = nextCell t i s in
-          let j′ = nextCell u i s in
+          let j = nextCell o t i s in
+          let j′ = nextCell o u i s in
           let (jb, p) = T .goes i (a .left) f .next s sb in
           let (jb′, p′) = U .goes i (a .right) also-unstopped .next s sb in
           let x-can = next-possible T i s (a .left) f sb in
@@ -185,10 +143,10 @@ module _ (choices observations : ℕ) (Same : History → History → Type 0) (F
 
   module _ {n m : ℕ} {t u : List ℕ} (T : Table n t) (U : Table m u) (k : ℕ) (a : (i : ℕ) → i < k → Shared T U i) where
     -- what leads to row k in one table leads to no row before it in the other
-    not-before : k < m → (i s : ℕ) → MetFrom choices observations Same Final u (U .history) k i s → nextCell t i s < k → ⊥
+    not-before : k < m → (i s : ℕ) → MetFrom o choices observations Same Final u (U .history) k i s → nextCell o t i s < k → ⊥
     not-before b i s f l =
         let shared = a i (f .earlier) in
-        let same = same-next T U i shared (also-unstopped U T i (shared-sym T U i shared) (f .unstopped)) s (f .observed) (a (nextCell t i s) l) in
+        let same = same-next T U i shared (also-unstopped U T i (shared-sym T U i shared) (f .unstopped)) s (f .observed) (a (nextCell o t i s) l) in
         omega (arith, met-next U k i s b f)
 
   module _ {n m : ℕ} {t u : List ℕ} (T : Table n t) (U : Table m u) where
@@ -202,7 +160,7 @@ module _ (choices observations : ℕ) (Same : History → History → Type 0) (F
           let (i, s, f) = T .met k pos b in
           let shared = a i (f .earlier) in
           let (jb, p) = U .goes i (shared .right) (also-unstopped T U i shared (f .unstopped)) .next s (f .observed) in
-          elim (decLe k (nextCell u i s)) [ yes l ↦ omega arith | no l ↦ absurd (not-before U T k back b i s f (omega arith)) ]
+          elim (decLe k (nextCell o u i s)) [ yes l ↦ omega arith | no l ↦ absurd (not-before U T k back b i s f (omega arith)) ]
 
       shared-next : 0 < k → k < n → Shared T U k
       shared-next pos b =
@@ -244,39 +202,56 @@ module _ (choices observations : ℕ) (Same : History → History → Type 0) (F
     rows-le = let last = shared-rows n (le-refl n) (n - 1) (omega (arith, T .start .0)) in omega (arith, last .right)
 
     -- the cells of row i
-    module _ (i : ℕ) (b : i < n) where
+    module _ (some-observation : 0 < observations) (i : ℕ) (b : i < n) where
       abbrev shared : Shared T U i
       shared = shared-rows n (le-refl n) i b
 
       abbrev also-final : Final (T .history i) → Final (U .history i)
       also-final = C .finals (T .history i) (U .history i) (row-possible T i b) (row-possible U i (shared .right)) (shared .same)
 
-      same-first : firstCell t i ≡ firstCell u i
+      same-first : firstCell o t i ≡ firstCell o u i
       same-first =
           elim (C .decided (T .history i) (row-possible T i b)) [
             | inl g ↦ T .stops i b g .stop ∙ sym (U .stops i (shared .right) (also-final g) .stop)
-            | inr f ↦ same-choice T U i shared f
+            | inr f ↦
+                T .goes i b f .first
+                ∙ first-same o (choiceCell o t i) (choiceCell o u i) (same-choice T U i shared f 0 some-observation)
+                ∙ sym (U .goes i (shared .right) (also-unstopped T U i shared f) .first)
           ]
 
-      same-nextCell : (s : ℕ) → s < sideLimit → nextCell t i s ≡ nextCell u i s
-      same-nextCell s l =
+      -- an observation is used in both or in none
+      blank-or-used : (s : ℕ) → s < sideLimit → (Blank o t i s × Blank o u i s) ⊎ ((¬ Final (T .history i)) × (s < observations))
+      blank-or-used s l =
           elim (C .decided (T .history i) (row-possible T i b)) [
-            | inl g ↦ T .stops i b g .unused s l ∙ sym (U .stops i (shared .right) (also-final g) .unused s l)
+            | inl g ↦ inl (T .stops i b g .unused s l, U .stops i (shared .right) (also-final g) .unused s l)
             | inr f ↦
                 elim (decLe observations s) [
-                  | yes o ↦ T .goes i b f .unused s o l ∙ sym (U .goes i (shared .right) (also-unstopped T U i shared f) .unused s o l)
-                  | no o ↦
-                      let sb : s < observations = omega arith in
-                      sym (same-next T U i shared f s sb (shared-rows n (le-refl n) (nextCell t i s) (T .goes i b f .next s sb .0)))
+                  | yes m ↦ inl (T .goes i b f .unused s m l, U .goes i (shared .right) (also-unstopped T U i shared f) .unused s m l)
+                  | no m ↦ inr (f, omega arith)
                 ]
           ]
 
+      same-choiceCell : (s : ℕ) → s < sideLimit → choiceCell o t i s ≡ choiceCell o u i s
+      same-choiceCell s l =
+          elim (blank-or-used s l) [
+            | inl (x, y) ↦ blank-choice o t u i s same-first x y
+            | inr (f, sb) ↦ same-choice T U i shared f s sb
+          ]
+
+      same-nextCell : (s : ℕ) → s < sideLimit → nextCell o t i s ≡ nextCell o u i s
+      same-nextCell s l =
+          elim (blank-or-used s l) [
+            | inl (x, y) ↦ blank-next o t i s x ∙ sym (blank-next o u i s y)
+            | inr (f, sb) ↦ sym (same-next T U i shared f s sb (shared-rows n (le-refl n) (nextCell o t i s) (T .goes i b f .next s sb .0)))
+          ]
+
   -- there is only one table
-  pub one-table : (n m : ℕ) (t u : List ℕ) → Table n t → Table m u → (n ≡ m) × (t ≡ u)
-  one-table n m t u T U =
+  pub one-table : 0 < observations → (n m : ℕ) (t u : List ℕ) → Table n t → Table m u → (n ≡ m) × (t ≡ u)
+  one-table some n m t u T U =
       let less = rows-le T U in
       let more = rows-le U T in
       let e : n ≡ m = omega arith in (
         e,
-        same-cells n t u (T .long) (U .long ∙ ap (λ (k : ℕ). k * rowSize) (sym e)) (λ i l. same-first T U i l) (λ i l. same-nextCell T U i l),
+        same-cells o n t u (T .long) (U .long ∙ ap (λ (k : ℕ). k * rowSize o) (sym e))
+            (same-first T U some) (same-choiceCell T U some) (same-nextCell T U some),
       )

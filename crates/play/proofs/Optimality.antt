@@ -1,23 +1,27 @@
--- The game, for either order of a step, by the theory of plans; and its best strategy for the order `set`.
+-- The game, for either order of a step, by the theory of plans; and its best strategy.
 -- Assumes nothing.
-use Prim.Native.Nat.{ℕ, zero, suc, _≤_, _<_, pred}
+use Prim.Native.Nat.{ℕ, zero, suc, _≤_, _<_}
 use native.Mathlib.Omega.{arith}
 use mathlib.Core.Path.{_≡_, refl, sym, ap, subst, fun-ext}
 use mathlib.Core.Logic.{_⊎_, inl, inr}
-use mathlib.Core.Bool.{Bool, true, false, not}
+use mathlib.Core.Bool.{Bool, false, not}
 use mathlib.Core.Option.{Option, none, some, Option·none-ne-some}
 use mathlib.Core.List.{List, [], _∷_, List·Memᴰ}
 use lib.ListN.{length}
 use borrow.Author.Tests.{not-true}
 use Rattle.basics.specs.Lists.{tabulate}
-use Rattle.basics.specs.Bounded.{all, firstThat}
-use Rattle.play.specs.Game.{Game, Order, set, read, Play, seen, Answer, chosen, Decision, choose, stop, AllBelow, Strategy, IsStrategy, Steps, choiceOf, run, Wins, WorstCase, Optimal, Unrealizable}
-use Rattle.play.specs.Rank.{Arena, rankBelow, choiceWithin, bestChoice, best}
+use Rattle.basics.specs.Bounded.{firstThat}
+use Rattle.basics.specs.declared.order.Order.{Order}
+use Rattle.basics.specs.declared.order.Order.the-variants.{Set, Read}
+use Rattle.play.specs.Game.{Game, Play, seen, Answer, chosen, Decision, choose, stop, AllBelow, Strategy, IsStrategy}
+use Rattle.play.specs.Game.{Steps, choiceOf, run, Wins, WorstCase, Optimal, Unrealizable}
+use Rattle.play.specs.Rank.{Arena, rankBelow, RankOf, answerOf, bestAnswer, best}
 use Rattle.play.specs.History.{Knows}
-use Rattle.basics.proofs.BoundedLaws.{any-at, all-at, first-of, none-first}
+use Rattle.basics.proofs.BoundedLaws.{first-of, none-first}
 use Rattle.basics.proofs.Booleans.{test, clash}
-use Rattle.play.proofs.StepOrder.{StepOrder, setOrder, orderOf}
-use Rattle.play.proofs.RankLaws.{In, HasRank, goes-on, rank-searched}
+use Rattle.play.proofs.StepOrder.{StepOrder, AllowedIn, orderOf}
+use Rattle.play.proofs.RankLaws.{In, HasRank, unstopped, rank-searched}
+use Rattle.play.proofs.SmallestChoice.{ranked-iff, takes-below, best-leads, best-chosen}
 use Rattle.play.proofs.Plans.{Plan, respond, Goes, stuck, PlanSteps, planRun, WinsFor, Tracks, Legal, steps-unique}
 use Rattle.play.proofs.UpperBound.{follow, Descends}
 use Rattle.play.proofs.BestPlan.{BestPlan, plan-least, plan-best}
@@ -47,8 +51,8 @@ module _ (o : Order) where
 
 -- what is asked of an answer is what the order allows
 answer-allowed : (o : Order) (n m : ℕ) → 0 < m → (a : Answer o) → ((s : ℕ) → s < m → chosen o a s < n) → orderOf o n m .Allowed (chosen o a)
-answer-allowed set n m positive c l = (c, l 0 positive, λ s. refl)
-answer-allowed read n m positive g l = l
+answer-allowed Set n m positive c l = (c, l 0 positive, λ s. refl)
+answer-allowed Read n m positive g l = l
 
 lift-legal : (o : Order) (n m : ℕ) → 0 < m → (d : Decision o) → ((a : Answer o) → d ≡ choose a → (s : ℕ) → s < m → chosen o a s < n)
     → (g : ℕ → ℕ) → lift d ≡ some g → orderOf o n m .Allowed g
@@ -56,31 +60,36 @@ lift-legal o n m some-observation (choose a) l g e =
     subst (orderOf o n m .Allowed) (fun-ext (λ s. ap (λ (d : Option (ℕ → ℕ)). respond d s) e)) (answer-allowed o n m some-observation a (l a refl))
 lift-legal o n m some-observation stop l g e = absurd (Option·none-ne-some g e)
 
--- the strategy that takes the smallest choice that works is a plan that follows answers which descend
-module _ (A : Arena) (choices observations n : ℕ) where
-  abbrev S : StepOrder choices observations
-  S = setOrder choices observations
+-- ---- best answers descend
 
-  abbrev pub answer : A .K → ℕ → ℕ
-  answer k s = bestChoice A choices observations n k
+best-allowed : (o : Order) (A : Arena) (choices observations n : ℕ) (k : A .K) (r : ℕ) → r < n → A .final k ≡ false
+    → RankOf o A choices observations k r → AllowedIn o choices observations (bestAnswer o A choices observations n k)
+best-allowed Set A choices observations n k r h f a =
+    (bestAnswer Set A choices observations n k 0, takes-below A choices observations n k r h f a .0, λ s. refl)
+best-allowed Read A choices observations n k r h f a = λ s sb. best-leads Read A choices observations n k r h f a s sb .0
 
-  best-follows : (h : List ℕ) (k : A .K) → planOf (best A choices observations n k) h ≡ follow A answer k h
+pub descends : (o : Order) (A : Arena) (choices observations n : ℕ)
+    → Descends (orderOf o choices observations) A (bestAnswer o A choices observations n) n
+descends o A choices observations n k r small a =
+    let f = unstopped (orderOf o choices observations) A k r a in (
+      best-allowed o A choices observations n k (suc r) small f a,
+      λ s sb. ranked-iff o A choices observations r (A .move k (bestAnswer o A choices observations n k s) s) .1
+          (best-leads o A choices observations n k (suc r) small f a s sb .1),
+    )
+
+-- the strategy that takes the best answers is a plan that follows them
+module _ (o : Order) (A : Arena) (choices observations n : ℕ) where
+  abbrev answer : A .K → ℕ → ℕ
+  answer = bestAnswer o A choices observations n
+
+  best-follows : (h : List ℕ) (k : A .K) → planOf (best o A choices observations n k) h ≡ follow A answer k h
   best-follows [] k =
-      elim (test (A .final k)) [ inl t ↦ rw (t, best, follow) | inr f ↦ rw (f, best, follow) ]
+      elim (test (A .final k)) [
+        | inl t ↦ rw (t, best, follow)
+        | inr f ↦ rw (f, best, follow) (ap some (fun-ext (best-chosen o A choices observations n k)))
+      ]
   best-follows (s ∷ h) k =
       elim (test (A .final k)) [ inl t ↦ rw (t, best, follow) | inr f ↦ rw (f, best, follow) (best-follows h (A .move k (answer k s) s)) ]
-
-  pub descends : Descends S A answer n
-  descends k r small a =
-      let works : ℕ → Bool = λ c. all observations (λ s. In S A r (A .move k c s)) in
-      let (c, b, t) = any-at choices works (goes-on S A k r a) in
-      let (cb, right) = first-of works choices c b t in
-      let e : answer k 0 ≡ firstThat works choices = ap (λ (q : ℕ). choiceWithin A choices observations (pred q) k)
-      (rank-searched S A n (suc r) k small a) in (
-        (firstThat works choices, cb, λ s. e),
-        λ s h. subst (λ (c : ℕ). In S A r (A .move k c s) ≡ true) (sym e)
-            (all-at observations (λ s. In S A r (A .move k (firstThat works choices) s)) right s h),
-      )
 
 -- the order of a game's steps
 abbrev pub ordered : (o : Order) (G : Game) → StepOrder (G .choices) (G .observations)
@@ -162,7 +171,7 @@ module _ (G : Game) (o : Order) (some-observation : 0 < G .observations) (some-h
   module _ (ks : List (A .K)) (closed : Closed O A some-observation ks) (listed : List·Memᴰ (A .start) ks) (n : ℕ) (fits : length ks ≤ n) where
     -- the rank of the start, searched below n
     abbrev start-rank : ℕ
-    start-rank = rankBelow A (O .can) n (A .start)
+    start-rank = rankBelow A (O .able) n (A .start)
 
     no-rank : start-rank ≡ n → (r : ℕ) → In O A r (A .start) ≡ false
     no-rank e =
@@ -197,20 +206,20 @@ module _ (G : Game) (o : Order) (some-observation : 0 < G .observations) (some-h
           | inr l ↦ inr (none-first (λ r. In O A r (A .start)) n (λ r h. l .1 r))
         ]
 
--- ---- the order `set`: the strategy of the smallest choices that work
+-- ---- the strategy of the best answers
 
-module _ (G : Game) (some-observation : 0 < G .observations) (some-hidden : 0 < G .hiddens) (A : Arena) (knows : Knows G A) (n : ℕ) where
-  abbrev σ : Strategy set
-  σ = best A (G .choices) (G .observations) n (A .start)
+module _ (G : Game) (o : Order) (some-observation : 0 < G .observations) (some-hidden : 0 < G .hiddens) (A : Arena) (knows : Knows G A) (n : ℕ) where
+  abbrev σ : Strategy o
+  σ = best o A (G .choices) (G .observations) n (A .start)
 
-  best-plan : (r : ℕ) → r < n → HasRank (ordered set G) A (A .start) r → BestPlan G (ordered set G) (TrueRun G) (planOf σ) r
+  best-plan : (r : ℕ) → r < n → HasRank (ordered o G) A (A .start) r → BestPlan G (ordered o G) (TrueRun G) (planOf σ) r
   best-plan r small a =
-      subst (λ (τ : Plan). BestPlan G (ordered set G) (TrueRun G) τ r) (sym (fun-ext (λ h. best-follows A (G .choices) (G .observations) n h (A .start))))
-      (plan-best G (ordered set G) A some-observation some-hidden (A .start) (TrueRun G) (tracks G set some-observation some-hidden A knows)
-      (answer A (G .choices) (G .observations) n) n (descends A (G .choices) (G .observations) n) r small a)
+      subst (λ (τ : Plan). BestPlan G (ordered o G) (TrueRun G) τ r) (sym (fun-ext (λ h. best-follows o A (G .choices) (G .observations) n h (A .start))))
+      (plan-best G (ordered o G) A some-observation some-hidden (A .start) (TrueRun G) (tracks G o some-observation some-hidden A knows)
+      (bestAnswer o A (G .choices) (G .observations) n) n (descends o A (G .choices) (G .observations) n) r small a)
 
   -- if the start has a rank below n it wins, its worst case is that rank, and no worst case is smaller
-  pub best-optimal : (r : ℕ) → r < n → HasRank (ordered set G) A (A .start) r → Optimal G σ r
+  pub best-optimal : (r : ℕ) → r < n → HasRank (ordered o G) A (A .start) r → Optimal G σ r
   best-optimal r small a =
-      plan-optimal G set some-observation some-hidden A knows σ
-      (answer A (G .choices) (G .observations) n (A .start) 0, rw (knows .starts, best)) r a (best-plan r small a)
+      plan-optimal G o some-observation some-hidden A knows σ
+      (answerOf o (bestAnswer o A (G .choices) (G .observations) n (A .start)), rw (knows .starts, best)) r a (best-plan r small a)

@@ -16,10 +16,10 @@ use Rattle.play.proofs.StepOrder.{StepOrder, can-mono}
 module _ {choices observations : ℕ} (O : StepOrder choices observations) (A : Arena) where
   -- the ranks of this section
   abbrev pub In : ℕ → A .K → Bool
-  In r k = within A (O .can) r k
+  In r k = within A (O .able) r k
 
   abbrev pub HasRank : A .K → ℕ → Type 0
-  HasRank k r = Rank A (O .can) k r
+  HasRank k r = Rank A (O .able) k r
 
   pub within-suc : (r : ℕ) (k : A .K) → In r k ≡ true → In (suc r) k ≡ true
   within-suc zero k t = or-intro-left _ t
@@ -43,14 +43,14 @@ module _ {choices observations : ℕ} (O : StepOrder choices observations) (A : 
       let (b, o) = first-of (λ q. In q k) (suc r) r (le-refl (suc r)) t in
       (firstThat (λ q. In q k) (suc r), le-of-suc-le-suc b, (o, first-least (λ q. In q k) (suc r)))
 
-  pub rank-searched : (n r : ℕ) (k : A .K) → r < n → HasRank k r → rankBelow A (O .can) n k ≡ r
+  pub rank-searched : (n r : ℕ) (k : A .K) → r < n → HasRank k r → rankBelow A (O .able) n k ≡ r
   rank-searched n r k h a = first-is (λ q. In q k) n r h (a .0) (a .1)
 
   -- a rank over 0: no final position, and the controller can go on to ranks below
   pub unstopped : (k : A .K) (r : ℕ) → HasRank k (suc r) → A .final k ≡ false
   unstopped k r a = a .1 0 (suc-le-suc zero-le)
 
-  pub goes-on : (k : A .K) (r : ℕ) → HasRank k (suc r) → O .can (λ c s. In r (A .move k c s)) ≡ true
+  pub goes-on : (k : A .K) (r : ℕ) → HasRank k (suc r) → O .able (λ c s. In r (A .move k c s)) ≡ true
   goes-on k r a = elim (or-cases (A .final k) _ (a .0)) [ inl s ↦ clash s (unstopped k r a) | inr c ↦ c ]
 
   pub rank-suc : (k : A .K) (r : ℕ) → In r k ≡ false → In (suc r) k ≡ true → HasRank k (suc r)

@@ -1,4 +1,4 @@
--- Positions by another name have the same answer: the same ranks, choices, rows and cells, so the same verdict.
+-- Positions by another name have the same answer, under either order: the same ranks, choices, rows and cells, so the same verdict.
 -- Assumes nothing.
 use Prim.Native.Nat.{ℕ, zero, suc, pred, _<_}
 use mathlib.Core.Path.{_≡_, refl, sym, ap, ap₂, _∙_}
@@ -8,18 +8,20 @@ use mathlib.Core.List.{List, map, flatMap}
 use lib.Dec.{ltb}
 use lib.ListN.{length, length-map}
 use borrow.Author.Tests.{ltb-true}
+use Rattle.basics.specs.Bounded.{all, firstThat}
 use Rattle.basics.specs.Reach.{Listing, closed, over, indexIn, reachable}
 use Rattle.basics.proofs.Booleans.{test}
-use Rattle.basics.proofs.BoundedLaws.{all-ext, first-ext, first-passes, first-least}
+use Rattle.basics.proofs.BoundedLaws.{all-ext, any-ext, first-ext, first-passes, first-least}
 use Rattle.basics.proofs.ListsLaws.{map-table, tabulate-ext}
 use Rattle.basics.proofs.SameSearch.{Each, each-tabulate, EachListed, mapListing, index-image, flat-image, reachable-image}
-use Rattle.play.specs.Rank.{Arena, within, rankBelow, choiceWithin, bestChoice}
-use Rattle.play.specs.Cells.{choiceRow}
+use Rattle.basics.specs.declared.order.Order.{Order}
+use Rattle.basics.specs.declared.order.Order.the-variants.{Set, Read}
+use Rattle.play.specs.Rank.{Arena, can, within, rankBelow, rankFrom, leadsWithin, nextRank, bestAnswer}
 use Rattle.play.specs.Table.{listOf, followersBy, rowsBy, rows, rowOf, tableCells}
 use Rattle.play.specs.Answer.{Verdict, solved, unrealizable, startRank, verdictOf}
-use Rattle.play.proofs.StepOrder.{StepOrder, can-ext, setOrder}
+use Rattle.play.proofs.StepOrder.{StepOrder, can-ext, orderOf}
 use Rattle.play.proofs.RankLaws.{In}
-use Rattle.play.proofs.Optimality.{answer, descends}
+use Rattle.play.proofs.Optimality.{descends}
 use Rattle.play.proofs.RankedRows.{MetRanked, ranked-answer}
 use Rattle.play.proofs.CellsLaws.{choice-ext}
 
@@ -65,16 +67,32 @@ module _ {A B : Arena} {sameA : A .K → A .K → Bool} {sameB : B .K → B .K �
     pub rank-image : (n : ℕ) (k : A .K) → Met k → rankBelow A can n k ≡ rankBelow B can n (named k)
     rank-image n k m = first-ext n _ _ (λ r l. within-image r k m)
 
-  abbrev O : StepOrder choices observations
-  O = setOrder choices observations
+  -- ---- best answers
 
-  pub choice-image : (n : ℕ) (k : A .K) → Met k → A .final k ≡ false
-      → bestChoice A choices observations n k ≡ bestChoice B choices observations n (named k)
-  choice-image n k m f =
-      let q : ℕ = pred (rankBelow B (O .can) n (named k)) in
-      ap (λ r. choiceWithin A choices observations (pred r) k) (rank-image (O .can) (can-ext O) n k m)
-      ∙ first-ext choices _ _ (λ c cb. all-ext observations _ _ (λ s sb.
-      within-image (O .can) (can-ext O) q (A .move k c s) (R .met-next k m f c cb s sb) ∙ ap (In O B q) (sym (R .named-move k m f c cb s sb))))
+  module _ (o : Order) where
+    abbrev O : StepOrder choices observations
+    O = orderOf o choices observations
+
+    leads-image : (k : A .K) → Met k → A .final k ≡ false → (r c s : ℕ) → c < choices → s < observations
+        → leadsWithin o A choices observations r k c s ≡ leadsWithin o B choices observations r (named k) c s
+    leads-image k m f r c s cb sb =
+        within-image (can o choices observations) (can-ext O) r (A .move k c s) (R .met-next k m f c cb s sb)
+        ∙ ap (within B (can o choices observations) r) (sym (R .named-move k m f c cb s sb))
+
+    from-image : (n : ℕ) (k : A .K) → Met k → rankFrom o A choices observations n k ≡ rankFrom o B choices observations n (named k)
+    from-image = rank-image (can o choices observations) (can-ext O)
+
+  pub answer-image : (o : Order) (n : ℕ) (k : A .K) → Met k → A .final k ≡ false → (s : ℕ) → s < observations
+      → bestAnswer o A choices observations n k s ≡ bestAnswer o B choices observations n (named k) s
+  answer-image Set n k m f s sb =
+      let r : ℕ = pred (rankFrom Set B choices observations n (named k)) in
+      ap (λ q. firstThat (λ c. all observations (λ t. leadsWithin Set A choices observations (pred q) k c t)) choices) (from-image Set n k m)
+      ∙ first-ext choices _ _ (λ c cb. all-ext observations _ _ (λ t tb. leads-image Set k m f r c t cb tb))
+  answer-image Read n k m f s sb =
+      let next : nextRank Read A choices observations n k s ≡ nextRank Read B choices observations n (named k) s =
+      first-ext n _ _ (λ r l. any-ext choices _ _ (λ c cb. leads-image Read k m f r c s cb sb)) in
+      ap (λ q. firstThat (λ c. leadsWithin Read A choices observations q k c s) choices) next
+      ∙ first-ext choices _ _ (λ c cb. leads-image Read k m f (nextRank Read B choices observations n (named k) s) c s cb sb)
 
   -- ---- rows, by any answers that are choices and the same under either name, on the positions that they lead to
 
@@ -114,64 +132,66 @@ module _ {A B : Arena} {sameA : A .K → A .K → Bool} {sameB : B .K → B .K �
           each-listed Followed l each,
         )
 
-  -- ---- the table of the smallest choices, where the start has a rank
+  -- ---- the table of the best answers, where the start has a rank
 
-  module _ (n : ℕ) where
+  module _ (o : Order) (some-observation : 0 < observations) (n : ℕ) where
     abbrev r : ℕ
-    r = startRank A sameA choices observations n
+    r = startRank o A sameA choices observations n
+
+    abbrev answer : A .K → ℕ → ℕ
+    answer = bestAnswer o A choices observations n
 
     module _ (ranked : r < n) where
       abbrev Ranked : A .K → Type 0
-      Ranked = MetRanked O A Met (R .met-next) n (answer A choices observations n) (descends A choices observations n)
+      Ranked = MetRanked (O o) A Met (R .met-next) n answer (descends o A choices observations n)
 
       next-ranked : (k : A .K) → Ranked k → A .final k ≡ false → (s : ℕ) → s < observations
-          → (bestChoice A choices observations n k < choices) × Ranked (A .move k (bestChoice A choices observations n k) s)
-      next-ranked = ranked-answer O A Met (R .met-next) n (answer A choices observations n) (descends A choices observations n)
+          → (answer k s < choices) × Ranked (A .move k (answer k s) s)
+      next-ranked = ranked-answer (O o) A Met (R .met-next) n answer (descends o A choices observations n)
 
       start-ranked : Ranked (A .start)
       start-ranked =
-          (R .met-start, r, ranked, (first-passes (λ q. In O A q (A .start)) n ranked, first-least (λ q. In O A q (A .start)) n))
+          (R .met-start, r, ranked, (first-passes (λ q. In (O o) A q (A .start)) n ranked, first-least (λ q. In (O o) A q (A .start)) n))
 
-      table-rows : (rows B sameB choices observations n ≡ map named (rows A sameA choices observations n))
-          × Each Ranked (rows A sameA choices observations n)
+      table-rows : (rows o B sameB choices observations n ≡ map named (rows o A sameA choices observations n))
+          × Each Ranked (rows o A sameA choices observations n)
       table-rows =
-          rows-image (answer A choices observations n) (answer B choices observations n) Ranked start-ranked (λ k p. p .0) next-ranked
-          (λ k p f s sb. choice-image n k (p .0) f) n
+          rows-image answer (bestAnswer o B choices observations n) Ranked start-ranked (λ k p. p .0) next-ranked
+          (λ k p f s sb. answer-image o n k (p .0) f s sb) n
 
       row-image : (l : List (A .K)) → Each Ranked l → (k : A .K) → Ranked k
-          → rowOf A sameA choices observations n l k ≡ rowOf B sameB choices observations n (map named l) (named k)
+          → rowOf o A sameA choices observations n l k ≡ rowOf o B sameB choices observations n (map named l) (named k)
       row-image l each k p =
           elim (test (A .final k)) [
             | inl t ↦ rw (t, rowOf, R .named-final k (p .0) ∙ t)
             | inr f ↦
-                let c : ℕ = bestChoice A choices observations n k in
                 rw (f, rowOf, R .named-final k (p .0) ∙ f)
-                (choice-ext observations c _ _ (λ s sb.
+                (choice-ext o observations _ _ _ _ some-observation (λ s sb. answer-image o n k (p .0) f s sb) (λ s sb.
                 let (cb, q) = next-ranked k p f s sb in
-                sym (index-image sameA sameB named Ranked (λ i j u v. R .one i j (u .0) (v .0)) (A .move k c s) l q each)
-                ∙ ap (λ j. indexIn sameB j (map named l)) (sym (R .named-move k (p .0) f c cb s sb)))
-                ∙ ap (λ d. choiceRow observations d (λ s. indexIn sameB (B .move (named k) d s) (map named l))) (choice-image n k (p .0) f))
+                sym (index-image sameA sameB named Ranked (λ i j u v. R .one i j (u .0) (v .0)) (A .move k (answer k s) s) l q each)
+                ∙ ap (λ j. indexIn sameB j (map named l)) (sym (R .named-move k (p .0) f (answer k s) cb s sb)
+                ∙ ap (λ c. B .move (named k) c s) (answer-image o n k (p .0) f s sb))))
           ]
 
-      pub cells-image : tableCells A sameA choices observations n ≡ tableCells B sameB choices observations n
+      pub cells-image : tableCells o A sameA choices observations n ≡ tableCells o B sameB choices observations n
       cells-image =
-          let l : List (A .K) = rows A sameA choices observations n in
-          flat-image named Ranked (rowOf A sameA choices observations n l) (rowOf B sameB choices observations n (map named l))
+          let l : List (A .K) = rows o A sameA choices observations n in
+          flat-image named Ranked (rowOf o A sameA choices observations n l) (rowOf o B sameB choices observations n (map named l))
           (row-image l (table-rows .1)) l (table-rows .1)
-          ∙ ap (λ m. flatMap (rowOf B sameB choices observations n m) m) (sym (table-rows .0))
+          ∙ ap (λ m. flatMap (rowOf o B sameB choices observations n m) m) (sym (table-rows .0))
 
     -- the verdict is the same
-    pub verdict-image : verdictOf A sameA choices observations n ≡ verdictOf B sameB choices observations n
+    pub verdict-image : verdictOf o A sameA choices observations n ≡ verdictOf o B sameB choices observations n
     verdict-image =
-        at (ltb r n) refl ∙ ap pick (rank-image (O .can) (can-ext O) n (A .start) (R .met-start) ∙ ap (rankBelow B (O .can) n) (R .named-start))
+        at (ltb r n) refl ∙ ap pick (from-image o n (A .start) (R .met-start) ∙ ap (rankFrom o B choices observations n) (R .named-start))
       where
         pick : ℕ → Verdict
-        pick q = cond (ltb q n) (solved (length (rows B sameB choices observations n)) q (tableCells B sameB choices observations n)) unrealizable
+        pick q = cond (ltb q n) (solved (length (rows o B sameB choices observations n)) q (tableCells o B sameB choices observations n)) unrealizable
 
         at : (b : Bool) → ltb r n ≡ b
-            → cond (ltb r n) (solved (length (rows A sameA choices observations n)) r (tableCells A sameA choices observations n)) unrealizable ≡ pick r
+            → cond (ltb r n) (solved (length (rows o A sameA choices observations n)) r (tableCells o A sameA choices observations n)) unrealizable ≡ pick r
         at true e =
             let low = ltb-true r n e in
-            let count = sym (length-map (rows A sameA choices observations n) named) ∙ ap length (sym (table-rows low .0)) in
+            let count = sym (length-map (rows o A sameA choices observations n) named) ∙ ap length (sym (table-rows low .0)) in
             rw e (ap₂ (λ l t. solved l r t) count (cells-image low))
         at false e = rw e

@@ -1,6 +1,6 @@
 -- A table read as a strategy is the strategy whose rows it holds.
 -- Assumes nothing.
-use Prim.Native.Nat.{ℕ, _≤_, _<_}
+use Prim.Native.Nat.{ℕ, suc, _≤_, _<_}
 use native.Mathlib.Omega.{arith}
 use mathlib.Core.Path.{_≡_, sym, ap, _∙_, subst}
 use mathlib.Core.Logic.{inl, inr}
@@ -15,127 +15,162 @@ use Rattle.basics.specs.Reach.{closed, indexIn, reachable}
 use Rattle.basics.proofs.EqualRows.{length-rows, getD-rows}
 use Rattle.basics.proofs.MemberLaws.{getD-in}
 use Rattle.play.specs.Limits.{sideLimit}
-use Rattle.play.specs.Cells.{choiceAt, nextAt, rowSize, stopCell, cell, firstCell, isStop, nextCell, stopRow, choiceRow}
-use Rattle.play.specs.Game.{choose, AllBelow}
-use Rattle.play.specs.Rank.{Arena, bestChoice, best}
+use Rattle.play.specs.Cells.{choiceAt, nextAt, rowSize, stopCell, firstOf, cell, firstCell, isStop, choiceCell, nextCell}
+use Rattle.play.specs.Cells.{Blank, stopRow, choiceRow}
+use Rattle.basics.specs.declared.order.Order.{Order}
+use Rattle.basics.specs.declared.order.Order.the-variants.{Set, Read}
+use Rattle.play.specs.Game.{AllBelow}
+use Rattle.play.specs.Rank.{Arena, bestAnswer, best}
 use Rattle.play.specs.Table.{readFrom, tableStrategy, Laid, listOf, followers, rowOf, tableCells}
 use Rattle.basics.proofs.Booleans.{test}
 use Rattle.basics.proofs.BoundedLaws.{first-le}
 use Rattle.play.proofs.RankedRows.{some-row, first-row, next-place}
-use Rattle.play.proofs.CellsLaws.{stop-length, stop-first, stop-next, choice-length, choice-first, choice-next, choice-unused}
+use Rattle.play.proofs.SmallestChoice.{best-chosen}
+use Rattle.play.proofs.SameStrategy.{Alike, answers-alike}
+use Rattle.play.proofs.CellsLaws.{first-inside, choice-inside, next-inside, stop-length, stop-first, stop-rest, blank-of, blank-in, first-same}
+use Rattle.play.proofs.CellsLaws.{choice-length, choice-first, choice-at, choice-next}
 
 -- ---- one row
 
-module _ (A : Arena) (same : A .K → A .K → Bool) (choices observations n : ℕ) (ks : List (A .K)) (k : A .K) where
-  pub row-stop : A .final k ≡ true → rowOf A same choices observations n ks k ≡ stopRow
+module _ (o : Order) (A : Arena) (same : A .K → A .K → Bool) (choices observations n : ℕ) (ks : List (A .K)) (k : A .K) where
+  pub row-stop : A .final k ≡ true → rowOf o A same choices observations n ks k ≡ stopRow o
   row-stop t = rw (t, rowOf)
 
   pub row-goes : A .final k ≡ false
-      → let c = bestChoice A choices observations n k in rowOf A same choices observations n ks k
-      ≡ choiceRow observations c (λ s. indexIn same (A .move k c s) ks)
+      → let answer = bestAnswer o A choices observations n k in rowOf o A same choices observations n ks k
+      ≡ choiceRow o observations answer (λ s. indexIn same (A .move k (answer s) s) ks)
   row-goes f = rw (f, rowOf)
 
   -- every row has as many cells
-  pub row-width : length (rowOf A same choices observations n ks k) ≡ rowSize
+  pub row-width : length (rowOf o A same choices observations n ks k) ≡ rowSize o
   row-width =
-      elim (test (A .final k)) [ inl t ↦ ap length (row-stop t) ∙ stop-length | inr f ↦ ap length (row-goes f) ∙ choice-length observations _ _ ]
+      elim (test (A .final k)) [ inl t ↦ ap length (row-stop t) ∙ stop-length o | inr f ↦ ap length (row-goes f) ∙ choice-length observations _ _ o ]
+
+-- the first cell of a row that goes on is not that of a stop row
+goes-first : (o : Order) (A : Arena) (choices observations n : ℕ) → choices < stopCell → (k : A .K)
+    → ¬ (firstOf o (bestAnswer o A choices observations n k) ≡ stopCell)
+goes-first Set A choices observations n few k e =
+    let b : bestAnswer Set A choices observations n k 0 ≤ choices = first-le _ choices in
+    absurd (omega arith)
+goes-first Read A choices observations n few k e = absurd (omega arith)
 
 -- ---- the table
 
-module _ (A : Arena) (same : A .K → A .K → Bool) (says : (a b : A .K) → Says (same a b) (a ≡ b)) (choices observations n : ℕ)
-    (few-choices : choices < stopCell) (few-observations : observations ≤ sideLimit)
-    (ks : List (A .K)) (listed : reachable same (followers A same choices observations n) (A .start) n ≡ closed ks) where
+module _ (o : Order) (A : Arena) (same : A .K → A .K → Bool) (says : (a b : A .K) → Says (same a b) (a ≡ b)) (choices observations n : ℕ)
+    (some : 0 < observations) (few-choices : choices < stopCell) (few-observations : observations ≤ sideLimit)
+    (ks : List (A .K)) (listed : reachable same (followers o A same choices observations n) (A .start) n ≡ closed ks) where
   abbrev table : List ℕ
-  table = flatMap (rowOf A same choices observations n ks) ks
+  table = flatMap (rowOf o A same choices observations n ks) ks
 
-  abbrev choice : A .K → ℕ
-  choice k = bestChoice A choices observations n k
+  abbrev answer : A .K → ℕ → ℕ
+  answer = bestAnswer o A choices observations n
 
   abbrev row : A .K → List ℕ
-  row k = rowOf A same choices observations n ks k
+  row k = rowOf o A same choices observations n ks k
 
   abbrev pub at : ℕ → A .K
   at i = getD ks i (A .start)
 
-  cell-is : (i j : ℕ) → i < length ks → j < rowSize → cell table i j ≡ getD (row (at i)) j 0
-  cell-is i j h b = getD-rows rowSize row (row-width A same choices observations n ks) ks (A .start) i j h b
+  -- the row of a position that is not final
+  abbrev goes : A .K → List ℕ
+  goes k = choiceRow o observations (answer k) (λ s. indexIn same (A .move k (answer k s) s) ks)
 
-  pub stop-row : (i : ℕ) → i < length ks → A .final (at i) ≡ true → isStop table i ≡ true
-  stop-row i h t =
-      ap (λ (c : ℕ). eqb c stopCell) (cell-is i choiceAt h (omega arith) ∙ ap (λ (r : List ℕ). getD r choiceAt 0)
-      (row-stop A same choices observations n ks (at i) t) ∙ stop-first)
+  cell-is : (i j : ℕ) → i < length ks → j < rowSize o → cell o table i j ≡ getD (row (at i)) j 0
+  cell-is i j h b = getD-rows (rowSize o) row (row-width o A same choices observations n ks) ks (A .start) i j h b
 
-  pub choice-cell : (i : ℕ) → i < length ks → A .final (at i) ≡ false → firstCell table i ≡ choice (at i)
-  choice-cell i h f = cell-is i choiceAt h (omega arith) ∙ ap (λ (r : List ℕ). getD r choiceAt 0) (row-goes A same choices observations n ks (at i) f)
-      ∙ choice-first observations _ _
+  -- ---- where it stops
 
-  goes-row : (i : ℕ) → i < length ks → A .final (at i) ≡ false → isStop table i ≡ false
+  stop-cell : (i j : ℕ) → i < length ks → A .final (at i) ≡ true → j < rowSize o → cell o table i j ≡ getD (stopRow o) j 0
+  stop-cell i j h t b = cell-is i j h b ∙ ap (λ (r : List ℕ). getD r j 0) (row-stop o A same choices observations n ks (at i) t)
+
+  pub stop-row : (i : ℕ) → i < length ks → A .final (at i) ≡ true → isStop o table i ≡ true
+  stop-row i h t = ap (λ (c : ℕ). eqb c stopCell) (stop-cell i 0 h t (first-inside o) ∙ stop-first o)
+
+  pub stop-blank : (i : ℕ) → i < length ks → A .final (at i) ≡ true → (s : ℕ) → s < sideLimit → Blank o table i s
+  stop-blank i h t s b = blank-of o table i s (λ j l. stop-cell i (suc j) h t l ∙ stop-rest o j) b
+
+  -- ---- where it goes on
+
+  goes-cell : (i j : ℕ) → i < length ks → A .final (at i) ≡ false → j < rowSize o → cell o table i j ≡ getD (goes (at i)) j 0
+  goes-cell i j h f b = cell-is i j h b ∙ ap (λ (r : List ℕ). getD r j 0) (row-goes o A same choices observations n ks (at i) f)
+
+  first-cell : (i : ℕ) → i < length ks → A .final (at i) ≡ false → firstCell o table i ≡ firstOf o (answer (at i))
+  first-cell i h f = goes-cell i 0 h f (first-inside o) ∙ choice-first observations _ _ o
+
+  pub choice-cell : (i : ℕ) → i < length ks → A .final (at i) ≡ false → (s : ℕ) → s < observations → choiceCell o table i s ≡ answer (at i) s
+  choice-cell i h f s b =
+      goes-cell i (choiceAt o s) h f (choice-inside o s (omega arith)) ∙ choice-at observations _ _ o s (omega arith) b
+      ∙ best-chosen o A choices observations n (at i) s
+
+  goes-row : (i : ℕ) → i < length ks → A .final (at i) ≡ false → isStop o table i ≡ false
   goes-row i h f =
-      elim (test (isStop table i)) [
-        | inl t ↦
-            let e = eqb-true (firstCell table i) stopCell t in
-            let b : choice (at i) ≤ choices = first-le _ choices in
-            absurd (omega (arith, choice-cell i h f))
+      elim (test (isStop o table i)) [
+        | inl t ↦ absurd (goes-first o A choices observations n few-choices (at i) (sym (first-cell i h f) ∙ eqb-true (firstCell o table i) stopCell t))
         | inr g ↦ g
       ]
 
-  pub stop-cell : (i : ℕ) → i < length ks → A .final (at i) ≡ true → (s : ℕ) → s < sideLimit → nextCell table i s ≡ 0
-  stop-cell i h t s b = cell-is i (nextAt s) h (omega arith) ∙ ap (λ (r : List ℕ). getD r (nextAt s) 0) (row-stop A same choices observations n ks (at i) t)
-      ∙ stop-next s
-
-  goes-cell : (i j : ℕ) → i < length ks → A .final (at i) ≡ false → j < rowSize
-      → cell table i j ≡ getD (choiceRow observations (choice (at i)) (λ s. indexIn same (A .move (at i) (choice (at i)) s) ks)) j 0
-  goes-cell i j h f b = cell-is i j h b ∙ ap (λ (r : List ℕ). getD r j 0) (row-goes A same choices observations n ks (at i) f)
-
   next-cell : (i : ℕ) → i < length ks → A .final (at i) ≡ false → (s : ℕ) → s < observations
-      → nextCell table i s ≡ indexIn same (A .move (at i) (choice (at i)) s) ks
-  next-cell i h f s b = goes-cell i (nextAt s) h f (omega arith) ∙ choice-next observations _ _ s (omega arith) b
+      → nextCell o table i s ≡ indexIn same (A .move (at i) (answer (at i) s) s) ks
+  next-cell i h f s b = goes-cell i (nextAt o s) h f (next-inside o s (omega arith)) ∙ choice-next observations _ _ o s (omega arith) b
 
-  pub unused-cell : (i : ℕ) → i < length ks → A .final (at i) ≡ false → (s : ℕ) → observations ≤ s → s < sideLimit → nextCell table i s ≡ 0
-  unused-cell i h f s o b = goes-cell i (nextAt s) h f (omega arith) ∙ choice-unused observations _ _ s b o
+  pub unused-blank : (i : ℕ) → i < length ks → A .final (at i) ≡ false → (s : ℕ) → observations ≤ s → s < sideLimit → Blank o table i s
+  unused-blank i h f s e b = blank-in o observations (answer (at i)) _ table i (λ j l. goes-cell i j h f l) s b e
 
   -- the row that an observation leads to is that of the next position
   pub next-row : (i : ℕ) → i < length ks → A .final (at i) ≡ false → (s : ℕ) → s < observations
-      → (nextCell table i s < length ks) × (at (nextCell table i s) ≡ A .move (at i) (choice (at i)) s)
+      → (nextCell o table i s < length ks) × (at (nextCell o table i s) ≡ A .move (at i) (answer (at i) s) s)
   next-row i h f s b =
-      subst (λ (j : ℕ). (j < length ks) × (getD ks j (A .start) ≡ A .move (at i) (choice (at i)) s)) (sym (next-cell i h f s b))
-      (next-place A same says (λ k s. choice k) observations n ks listed i h f s b)
+      let (l, e) = next-place A same says answer observations n ks listed i h f s b in
+      let q = next-cell i h f s b in
+      (subst (λ (j : ℕ). j < length ks) (sym q) l, ap at q ∙ e)
 
-  -- the rows are laid out as they should, where they take choices
-  pub table-laid : ((k : A .K) → k ∈ ks → A .final k ≡ false → choice k < choices) → Laid choices observations (length ks) table
-  table-laid chosen =
+  -- under `Set` the first cell is the choice for every observation
+  pub first-choice : (i : ℕ) → i < length ks → A .final (at i) ≡ false → firstCell o table i ≡ firstOf o (choiceCell o table i)
+  first-choice i h f = first-cell i h f ∙ first-same o (answer (at i)) (choiceCell o table i) (sym (choice-cell i h f 0 some))
+
+  pub table-laid : ((k : A .K) → k ∈ ks → A .final k ≡ false → (s : ℕ) → s < observations → answer k s < choices)
+      → Laid o choices observations (length ks) table
+  table-laid small =
       record {
-        long = length-rows rowSize row (row-width A same choices observations n ks) ks;
+        long = length-rows (rowSize o) row (row-width o A same choices observations n ks) ks;
         row = λ i h.
             elim (test (A .final (at i))) [
-              | inl t ↦ inl (stop-row i h t, stop-cell i h t)
+              | inl t ↦ inl (stop-row i h t, stop-blank i h t)
               | inr f ↦
-                  inr (
-                    subst (λ (c : ℕ). c < choices) (sym (choice-cell i h f)) (chosen (at i) (getD-in ks i (A .start) h) f),
-                    λ s b. next-row i h f s b .0,
-                    unused-cell i h f,
-                  )
+                  inr (record {
+                    first = first-choice i h f;
+                    choice = λ s b. subst (λ (c : ℕ). c < choices) (sym (choice-cell i h f s b)) (small (at i) (getD-in ks i (A .start) h) f s b);
+                    next = λ s b. next-row i h f s b .0;
+                    unused = unused-blank i h f;
+                  })
             ];
       }
 
-  table-reads : (h : List ℕ) → AllBelow observations h → (i : ℕ) → i < length ks → readFrom table i h ≡ best A choices observations n (at i) h
+  table-reads : (h : List ℕ) → AllBelow observations h → (i : ℕ) → i < length ks
+      → Alike observations (readFrom o table i h) (best o A choices observations n (at i) h)
   table-reads [] v i b =
       elim (test (A .final (at i))) [
-        | inl t ↦ rw (stop-row i b t, readFrom, t, best)
-        | inr f ↦ rw (goes-row i b f, readFrom, f, best) (ap choose (choice-cell i b f))
+        | inl t ↦ rw (stop-row i b t, readFrom, t, best) tt
+        | inr f ↦
+            rw (goes-row i b f, readFrom, f, best)
+            (answers-alike o observations (choiceCell o table i) (answer (at i)) some (λ s sb. choice-cell i b f s sb))
       ]
   table-reads (s ∷ h) v i b =
       elim (test (A .final (at i))) [
-        | inl t ↦ rw (stop-row i b t, readFrom, t, best)
+        | inl t ↦ rw (stop-row i b t, readFrom, t, best) tt
         | inr f ↦
-            let (b′, e) = next-row i b f s (v .0) in
-            rw (goes-row i b f, readFrom, f, best) (table-reads h (v .1) (nextCell table i s) b′ ∙ ap (λ (k : A .K). best A choices observations n k h) e)
+            let (c, e) = next-row i b f s (v .0) in
+            rw (goes-row i b f, readFrom, f, best)
+            (subst (λ (k : A .K). Alike observations (readFrom o table (nextCell o table i s) h) (best o A choices observations n k h)) e
+            (table-reads h (v .1) (nextCell o table i s) c))
       ]
 
-  -- the table, read from its first row, is the strategy of the smallest choices that work
+  -- the table, read from its first row, answers as the strategy of the best answers
   pub table-is-best : (h : List ℕ) → AllBelow observations h
-      → tableStrategy (tableCells A same choices observations n) h ≡ best A choices observations n (A .start) h
+      → Alike observations (tableStrategy o (tableCells o A same choices observations n) h) (best o A choices observations n (A .start) h)
   table-is-best h v =
-      ap (λ l. tableStrategy (flatMap (rowOf A same choices observations n l) l) h) (ap listOf listed)
-      ∙ table-reads h v 0 (some-row A same says (λ k s. choice k) observations n ks listed)
-      ∙ ap (λ (k : A .K). best A choices observations n k h) (first-row A same says (λ k s. choice k) observations n ks listed)
+      subst (λ l. Alike observations (tableStrategy o (flatMap (rowOf o A same choices observations n l) l) h) (best o A choices observations n (A .start) h))
+      (sym (ap listOf listed))
+      (subst (λ (k : A .K). Alike observations (readFrom o table 0 h) (best o A choices observations n k h))
+      (first-row A same says answer observations n ks listed)
+      (table-reads h v 0 (some-row A same says answer observations n ks listed)))

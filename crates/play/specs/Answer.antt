@@ -7,8 +7,9 @@ use lib.Dec.{ltb}
 use lib.ListN.{length}
 use Rattle.basics.specs.Lists.{tabulate}
 use Rattle.basics.specs.Reach.{Listing, reachable}
-use Rattle.play.specs.Game.{Game, set, Optimal, Unrealizable}
-use Rattle.play.specs.Rank.{Arena, setFirst, rankBelow}
+use Rattle.basics.specs.declared.order.Order.{Order}
+use Rattle.play.specs.Game.{Game, Optimal, Unrealizable}
+use Rattle.play.specs.Rank.{Arena, rankFrom}
 use Rattle.play.specs.Table.{tableStrategy, Laid, rows, tableCells}
 
 module _ (A : Arena) (same : A .K → A .K → Bool) (choices observations : ℕ) where
@@ -16,24 +17,25 @@ module _ (A : Arena) (same : A .K → A .K → Bool) (choices observations : ℕ
   abbrev pub moves : A .K → List (A .K)
   moves k = tabulate (choices * observations) (λ q. A .move k (q % choices) (q / choices))
 
-  -- the positions that choices and observations can reach, or `over` if there are more than the limit
+  -- the positions that choices and observations can reach, or `over` if there are more than the limit; under either order they are the same
   abbrev pub positions : ℕ → Listing (A .K)
   positions limit = reachable same moves (A .start) limit
-
-  -- the worst case is the start's rank, searched below n; n if there is none
-  abbrev pub startRank : ℕ → ℕ
-  startRank n = rankBelow A (setFirst choices observations) n (A .start)
 
 -- a table with its row count and worst case, or "unrealizable"
 pub data Verdict : Type 0 where
   solved : (rowCount worstCase : ℕ) (cells : List ℕ) → Verdict
   unrealizable : Verdict
 
--- for a game with n positions: a rank is below their number
-abbrev pub verdictOf : (A : Arena) (same : A .K → A .K → Bool) (choices observations n : ℕ) → Verdict
-verdictOf A same choices observations n =
-    cond (ltb (startRank A same choices observations n) n)
-    (solved (length (rows A same choices observations n)) (startRank A same choices observations n) (tableCells A same choices observations n)) unrealizable
+module _ (o : Order) (A : Arena) (same : A .K → A .K → Bool) (choices observations : ℕ) where
+  -- the worst case is the start's rank, searched below n; n if there is none
+  abbrev pub startRank : ℕ → ℕ
+  startRank n = rankFrom o A choices observations n (A .start)
+
+  -- for a game with n positions: a rank is below their number
+  abbrev pub verdictOf : ℕ → Verdict
+  verdictOf n =
+      cond (ltb (startRank n) n)
+      (solved (length (rows o A same choices observations n)) (startRank n) (tableCells o A same choices observations n)) unrealizable
 
 -- what is written for a verdict
 abbrev pub cellsOf : Verdict → List ℕ
@@ -42,13 +44,13 @@ cellsOf unrealizable = []
 
 -- a table of n rows with worst case r: read as a strategy it wins, its worst case is r, and no winning strategy has a smaller one; the
 -- worst case is below the row count, the row count within the limit of positions, and each row has the right cells
-pub record Solves (limit : ℕ) (G : Game) (n r : ℕ) (cells : List ℕ) : Type 0 where
-  pub optimal : Optimal G (tableStrategy cells) r
+pub record Solves (limit : ℕ) (o : Order) (G : Game) (n r : ℕ) (cells : List ℕ) : Type 0 where
+  pub optimal : Optimal G (tableStrategy o cells) r
   pub below : r < n
   pub within : n ≤ limit
-  pub laid : Laid (G .choices) (G .observations) n cells
+  pub laid : Laid o (G .choices) (G .observations) n cells
 
--- what a verdict promises: the table solves the game, or no strategy wins
-abbrev pub Right : ℕ → Game → Verdict → Type 0
-Right limit G (solved n r cells) = Solves limit G n r cells
-Right limit G unrealizable = Unrealizable G set
+-- what a verdict promises: the table solves the game, or no strategy of the order wins
+abbrev pub Right : ℕ → Order → Game → Verdict → Type 0
+Right limit o G (solved n r cells) = Solves limit o G n r cells
+Right limit o G unrealizable = Unrealizable G o

@@ -5,6 +5,8 @@ use Prim.Native.Nat.{ℕ, _≤_, _<_}
 use mathlib.Core.Path.{_≡_}
 use mathlib.Core.List.{List, [], _∷_}
 use Rattle.basics.specs.Lists.{tabulate}
+use Rattle.basics.specs.declared.order.Order.{Order}
+use Rattle.basics.specs.declared.order.Order.the-variants.{Set, Read}
 
 pub record Game : Type 1 where
   -- a choice, an observation and a hidden value are numbers below these
@@ -15,10 +17,6 @@ pub record Game : Type 1 where
   pub letter : ℕ → ℕ → ℕ → ℕ
   -- what makes a trace, the list of its letters, true
   pub IsTrue : List ℕ → Type 0
-
--- the order of a step: the choice is set before the observation is read, or after it
-pub data Order : Type 0 where
-  set read : Order
 
 -- what one step of a play brings: any values of the observed and of the hidden signals
 pub record Reply (G : Game) : Type 0 where
@@ -35,15 +33,16 @@ Play G = ℕ → Reply G
 abbrev pub seen : {G : Game} → Play G → ℕ → List ℕ
 seen p n = tabulate n (λ i. (p i) .observation)
 
--- what a strategy answers at a step that it takes: one choice, which cannot depend on the observation; or one for each observation
+-- what a strategy answers at a step that it takes. Order `Set`: one choice, before the step's observation is read, on which it cannot
+-- depend. Order `Read`: a choice for each observation of the step
 abbrev pub Answer : Order → Type 0
-Answer set = ℕ
-Answer read = ℕ → ℕ
+Answer Set = ℕ
+Answer Read = ℕ → ℕ
 
 -- the choice at an observation
 abbrev pub chosen : (o : Order) → Answer o → ℕ → ℕ
-chosen set c s = c
-chosen read g s = g s
+chosen Set c s = c
+chosen Read g s = g s
 
 pub data Decision (o : Order) : Type 0 where
   choose : Answer o → Decision o
@@ -54,11 +53,11 @@ abbrev pub AllBelow : ℕ → List ℕ → Type 0
 AllBelow n [] = Unit {0}
 AllBelow n (s ∷ h) = (s < n) × AllBelow n h
 
--- a strategy maps each finite list of past observations to a choice or to "stop" ..
+-- a strategy maps each finite list of past observations to an answer or to "stop" ..
 abbrev pub Strategy : Order → Type 0
 Strategy o = List ℕ → Decision o
 
--- .. the empty list gets a choice
+-- .. the empty list gets an answer, and at every observation it is a choice of the game
 pub record IsStrategy (G : Game) {o : Order} (σ : Strategy o) : Type 0 where
   pub opens : (a : Answer o) × (σ [] ≡ choose a)
   pub legal : (h : List ℕ) → AllBelow (G .observations) h → (a : Answer o) → σ h ≡ choose a
@@ -78,8 +77,8 @@ choiceOf {o} (choose a) s = chosen o a s
 choiceOf stop s = 0
 
 module _ (G : Game) {o : Order} (σ : Strategy o) where
-  -- the letters of a play's first n steps: the strategy adds its choice, made from the observations before the step, to each pair.
-  -- The trace of a play that takes n steps is `run p n`
+  -- the letters of a play's first n steps: to each pair the strategy adds its choice, by its answer to the observations before the step,
+  -- which under `Read` has a choice for the step's own observation. The trace of a play that takes n steps is `run p n`
   abbrev pub run : Play G → ℕ → List ℕ
   run p n = tabulate n (λ i. G .letter (choiceOf (σ (seen p i)) ((p i) .observation)) ((p i) .observation) ((p i) .hidden))
 

@@ -2,7 +2,7 @@
 pub mod Limits
 -- the meaning: strategies, plays, winning, the worst case
 pub mod Game
--- the answer: ranks and smallest choices, what positions know, beliefs, the table
+-- the answer: ranks and the choices taken, what positions know, beliefs, the table
 pub mod Rank
 pub mod History
 pub mod Belief

@@ -8,32 +8,38 @@ use mathlib.Core.List.{List, [], _∷_, flatMap}
 use lib.ListN.{length}
 use Rattle.basics.specs.Lists.{tabulate}
 use Rattle.basics.specs.Reach.{Listing, closed, over, indexIn, reachable}
+use Rattle.basics.specs.declared.order.Order.{Order}
 use Rattle.play.specs.Limits.{sideLimit}
-use Rattle.play.specs.Cells.{rowSize, firstCell, isStop, nextCell, stopRow, choiceRow}
-use Rattle.play.specs.Game.{set, choose, stop, Strategy}
-use Rattle.play.specs.Rank.{Arena, bestChoice}
+use Rattle.play.specs.Cells.{rowSize, firstOf, firstCell, isStop, choiceCell, nextCell, Blank, stopRow, choiceRow}
+use Rattle.play.specs.Game.{choose, stop, Strategy}
+use Rattle.play.specs.Rank.{Arena, answerOf, bestAnswer}
 
--- a table as a strategy, from a row on: each observation leads to another row, and the answer is the choice of the row where it ends; behind
+-- a table as a strategy, from a row on: each observation leads to another row, and the answer is that of the row where it ends; behind
 -- a stop row it is "stop"
-abbrev pub readFrom : List ℕ → ℕ → Strategy set
-readFrom t row [] = elim (isStop t row) [ true ↦ stop | false ↦ choose (firstCell t row) ]
-readFrom t row (s ∷ h) = elim (isStop t row) [ true ↦ stop | false ↦ readFrom t (nextCell t row s) h ]
+abbrev pub readFrom : (o : Order) → List ℕ → ℕ → Strategy o
+readFrom o t row [] = elim (isStop o t row) [ true ↦ stop | false ↦ choose (answerOf o (choiceCell o t row)) ]
+readFrom o t row (s ∷ h) = elim (isStop o t row) [ true ↦ stop | false ↦ readFrom o t (nextCell o t row s) h ]
 
 -- row 0 is the start
-abbrev pub tableStrategy : List ℕ → Strategy set
-tableStrategy t = readFrom t 0
+abbrev pub tableStrategy : (o : Order) → List ℕ → Strategy o
+tableStrategy o t = readFrom o t 0
 
--- the cells of row i of n: a stop row has no next rows; another has a choice, and a next row for each observation. Unused cells are 0
-abbrev pub LaidRow : (choices observations n : ℕ) → List ℕ → ℕ → Type 0
-LaidRow choices observations n t i =
-    ((isStop t i ≡ true) × ((s : ℕ) → s < sideLimit → nextCell t i s ≡ 0))
-    ⊎ ((firstCell t i < choices) × ((s : ℕ) → s < observations → nextCell t i s < n)
-    × ((s : ℕ) → observations ≤ s → s < sideLimit → nextCell t i s ≡ 0))
+-- row i of n has for each observation a choice and a next row, and its other cells are 0
+pub record GoesRow (o : Order) (choices observations n : ℕ) (t : List ℕ) (i : ℕ) : Type 0 where
+  pub first : firstCell o t i ≡ firstOf o (choiceCell o t i)
+  pub choice : (s : ℕ) → s < observations → choiceCell o t i s < choices
+  pub next : (s : ℕ) → s < observations → nextCell o t i s < n
+  pub unused : (s : ℕ) → observations ≤ s → s < sideLimit → Blank o t i s
+
+-- row i of n stops, and its other cells are 0; or it goes on
+abbrev pub LaidRow : (o : Order) (choices observations n : ℕ) → List ℕ → ℕ → Type 0
+LaidRow o choices observations n t i =
+    ((isStop o t i ≡ true) × ((s : ℕ) → s < sideLimit → Blank o t i s)) ⊎ GoesRow o choices observations n t i
 
 -- a table of n rows, and no more cells, each row so
-pub record Laid (choices observations n : ℕ) (t : List ℕ) : Type 0 where
-  pub long : length t ≡ n * rowSize
-  pub row : (i : ℕ) → i < n → LaidRow choices observations n t i
+pub record Laid (o : Order) (choices observations n : ℕ) (t : List ℕ) : Type 0 where
+  pub long : length t ≡ n * rowSize o
+  pub row : (i : ℕ) → i < n → LaidRow o choices observations n t i
 
 -- what is listed; nothing if it is too much
 abbrev pub listOf : {K : Type 0} → Listing K → List K
@@ -48,22 +54,22 @@ followersBy A answer observations k = elim (A .final k) [ true ↦ [] | false �
 abbrev pub rowsBy : (A : Arena) → (A .K → A .K → Bool) → (A .K → ℕ → ℕ) → (observations n : ℕ) → List (A .K)
 rowsBy A same answer observations n = listOf (reachable same (followersBy A answer observations) (A .start) n)
 
--- the table of an arena whose ranks are below n, by the smallest choice at each position
-module _ (A : Arena) (same : A .K → A .K → Bool) (choices observations n : ℕ) where
+-- the table of an arena whose ranks are below n, by the best answer at each position
+module _ (o : Order) (A : Arena) (same : A .K → A .K → Bool) (choices observations n : ℕ) where
   abbrev pub followers : A .K → List (A .K)
-  followers = followersBy A (λ k s. bestChoice A choices observations n k) observations
+  followers = followersBy A (bestAnswer o A choices observations n) observations
 
   abbrev pub rows : List (A .K)
-  rows = rowsBy A same (λ k s. bestChoice A choices observations n k) observations n
+  rows = rowsBy A same (bestAnswer o A choices observations n) observations n
 
   -- the row of a position, among the rows given
   abbrev pub rowOf : List (A .K) → A .K → List ℕ
   rowOf l k =
       elim (A .final k) [
-        | true ↦ stopRow
+        | true ↦ stopRow o
         | false ↦
-            let c = bestChoice A choices observations n k in
-            choiceRow observations c (λ s. indexIn same (A .move k c s) l)
+            let answer = bestAnswer o A choices observations n k in
+            choiceRow o observations answer (λ s. indexIn same (A .move k (answer s) s) l)
       ]
 
   abbrev pub tableCells : List ℕ

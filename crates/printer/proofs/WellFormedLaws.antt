@@ -10,23 +10,31 @@ use mathlib.Core.List.{List}
 use lib.Dec.{eqb, leb, ltb}
 use lib.ListN.{length}
 use lib.Pow.{pow-mono}
-use borrow.Author.Tests.{ltb-true, ltb-false, leb-true, leb-false, eqb-true, eqb-false, lt-ltb, le-ltb, le-leb, lt-leb, eq-eqb, ne-eqb, not-true, not-false}
+use borrow.Author.Tests.{ltb-true, ltb-false, leb-true, leb-false, eqb-true, eqb-false, lt-ltb, le-ltb, le-leb, lt-leb, eq-eqb}
+use borrow.Author.Tests.{ne-eqb, not-true, not-false}
 use Rattle.basics.specs.Limits.{kindLimit}
 use Rattle.basics.proofs.BitsLaws.{shl-one}
 use Rattle.play.specs.Limits.{beliefLimit, sideLimit}
-use Rattle.play.specs.Cells.{rowSize, stopCell, firstCell, isStop, nextCell}
+use Rattle.basics.specs.declared.order.Order.{Order}
+use Rattle.basics.specs.declared.order.Order.the-variants.{Set, Read}
+use Rattle.play.specs.Cells.{rowSize, stopCell, firstCell, isStop, choiceCell, nextCell, Blank}
 use Rattle.tables.specs.declared.shape.Shape.{Shape}
 use Rattle.basics.specs.Bounded.{all}
 use Rattle.basics.specs.Says.{Says}
 use Rattle.basics.proofs.BoundedLaws.{all-fails, all-more, all-done, all-says}
 use Rattle.basics.proofs.Booleans.{test, or-cases, or-left, or-right, or-intro-left, or-intro-right}
 use Rattle.basics.proofs.SaysLaws.{says-and, says-or, lt-says, le-says}
-use Rattle.printer.specs.WellFormed.{Sized, IsAnswer, GoodRow, Unused, PrintableRow, Printable}
-use Rattle.printer.specs.WellFormed.{isSized, isAnswer, isNext, nextCount, isRow, isBlank, isPrintableRow, isPrintable}
+use Rattle.printer.specs.WellFormed.{Sized, firstLimit, IsFirst, GoesOn, GoodRow, Unused, PrintableRow, Printable}
+use Rattle.printer.specs.WellFormed.{isSized, isFirst, isNext, nextCount, isPair, isRow, isBlankAt, isBlank, isPrintableRow, isPrintable}
 
 -- the values of four signals at most
 pub side-le : (k : ℕ) → k ≤ kindLimit → 2 ^ k ≤ sideLimit
 side-le k h = pow-mono {i = k} {j = kindLimit} h
+
+-- the cells of a row, where those of all rows have room
+pub row-room : (o : Order) (rows row cells : ℕ) → rows * rowSize o ≤ cells → row < rows → row * rowSize o + rowSize o ≤ cells
+row-room Set rows row cells h b = omega arith
+row-room Read rows row cells h b = omega arith
 
 -- ---- two tests in front of a third: a holds, and k is below n
 
@@ -60,104 +68,126 @@ module _ (cells : ℕ) (shape : Shape) where
         | inr h ↦ let g = ltb-true beliefLimit rows h in rw (lt-ltb 0 rows (omega arith), lt-leb rows beliefLimit g) refl
       ]
 
-  pub sized-left : (eqb rows 0 || ltb beliefLimit rows) ≡ false → (leb (rows * rowSize) cells && leb (shape .observed) kindLimit) ≡ isSized cells shape
-  sized-left e = let (some, few) = few-rows rows e in rw (lt-ltb 0 rows some, le-leb rows beliefLimit few) refl
+  pub sized-left : (size : ℕ) → size ≡ rowSize (shape .order) → (eqb rows 0 || ltb beliefLimit rows) ≡ false
+      → (leb (rows * size) cells && leb (shape .observed) kindLimit) ≡ isSized cells shape
+  sized-left size q e = let (some, few) = few-rows rows e in rw (q, lt-ltb 0 rows some, le-leb rows beliefLimit few) refl
+
+-- the product that the code makes
+pub size-fits : (o : Order) (rows size : ℕ) → rows ≤ beliefLimit → size ≡ rowSize o → rows * size < 2 ^ 64
+size-fits Set rows size h e = rw e (omega arith)
+size-fits Read rows size h e = rw e (omega arith)
 
 -- ---- the first cell of a row
 
-module _ (t : List ℕ) (row x : ℕ) (first : x ≡ firstCell t row) where
-  pub stops : x ≡ stopCell → isStop t row ≡ true
-  stops e = eq-eqb (firstCell t row) stopCell (sym first ∙ e)
+module _ (o : Order) (t : List ℕ) (row x : ℕ) (first : x ≡ firstCell o t row) where
+  pub stops : x ≡ stopCell → isStop o t row ≡ true
+  stops e = eq-eqb (firstCell o t row) stopCell (sym first ∙ e)
 
-  pub moves : (x ≡ stopCell → ⊥) → isStop t row ≡ false
-  moves n = ne-eqb (firstCell t row) stopCell (λ e. n (first ∙ e))
+  pub moves : (x ≡ stopCell → ⊥) → isStop o t row ≡ false
+  moves n = ne-eqb (firstCell o t row) stopCell (λ e. n (first ∙ e))
 
-  module _ (shape : Shape) where
-    pub stop-count : x ≡ stopCell → 0 ≡ nextCount t shape row
-    stop-count e = rw (stops e) refl
+module _ (t : List ℕ) (shape : Shape) (row x : ℕ) (first : x ≡ firstCell (shape .order) t row) where
+  pub stop-count : x ≡ stopCell → 0 ≡ nextCount t shape row
+  stop-count e = rw (stops (shape .order) t row x first e) refl
 
-    pub move-count : (x ≡ stopCell → ⊥) → shape .observed ≤ kindLimit → 1 * 2 ^ (shape .observed) % 18446744073709551616 ≡ nextCount t shape row
-    move-count n h = rw (moves n) (shl-one (shape .observed) (omega arith))
+  pub move-count : (x ≡ stopCell → ⊥) → shape .observed ≤ kindLimit → 1 * 2 ^ (shape .observed) % 18446744073709551616 ≡ nextCount t shape row
+  move-count n h = rw (moves (shape .order) t row x first n) (shl-one (shape .observed) (omega arith))
 
 pub count-le : (t : List ℕ) (shape : Shape) (row : ℕ) → shape .observed ≤ kindLimit → nextCount t shape row ≤ sideLimit
-count-le t shape row h = at (isStop t row)
+count-le t shape row h = at (isStop (shape .order) t row)
   where
     at : (b : Bool) → cond b 0 (2 ^ (shape .observed)) ≤ sideLimit
     at true = omega arith
     at false = side-le (shape .observed) h
 
--- ---- a next row
+-- ---- a next row, and the cells of an observation
 
 module _ (t : List ℕ) (shape : Shape) (next : ℕ) where
   pub next-out : shape .rows ≤ next → false ≡ isNext t shape next
   next-out h = rw (le-ltb next (shape .rows) h) refl
 
-  pub next-in : (a : Bool) → next < shape .rows → (x : ℕ) → x ≡ firstCell t next → a ≡ isAnswer x → a ≡ isNext t shape next
-  next-in a h x first e = rw (lt-ltb next (shape .rows) h) (e ∙ ap isAnswer first)
+  pub next-in : (a : Bool) → next < shape .rows → (x : ℕ) → x ≡ firstCell (shape .order) t next → a ≡ isFirst (shape .order) x
+      → a ≡ isNext t shape next
+  next-in a h x first e = rw (lt-ltb next (shape .rows) h) (e ∙ ap (isFirst (shape .order)) first)
 
--- ---- the next rows of a row
+module _ (t : List ℕ) (shape : Shape) (row s x : ℕ) (choice : x ≡ choiceCell (shape .order) t row s) where
+  pub pair-out : sideLimit ≤ x → false ≡ isPair t shape row s
+  pair-out h = rw (sym choice, le-ltb x sideLimit h) refl
+
+  pub pair-in : (a : Bool) → x < sideLimit → (y : ℕ) → y ≡ nextCell (shape .order) t row s → a ≡ isNext t shape y → a ≡ isPair t shape row s
+  pair-in a h y next e = rw (sym choice, lt-ltb x sideLimit h, sym next) e
+
+-- ---- a row
 
 module _ (t : List ℕ) (shape : Shape) (row : ℕ) where
-  -- the next row for observation s
-  unfoldable pub leadsOn : ℕ → Bool
-  leadsOn s = isNext t shape (nextCell t row s)
-
-  -- told by the tests of two cells
-  module _ (a : Bool) (x : ℕ) (first : x ≡ firstCell t row) (e : a ≡ isAnswer x) where
-    answered : isRow t shape row ≡ (a && all (nextCount t shape row) leadsOn)
-    unfolding isRow leadsOn
+  -- told by the test of its first cell
+  module _ (a : Bool) (x : ℕ) (first : x ≡ firstCell (shape .order) t row) (e : a ≡ isFirst (shape .order) x) where
+    answered : isRow t shape row ≡ (a && all (nextCount t shape row) (isPair t shape row))
+    unfolding isRow
     answered = rw (e, first) refl
 
     pub no-answer : not a ≡ true → false ≡ isRow t shape row
-    no-answer f = sym (answered ∙ ap (λ b. b && all (nextCount t shape row) leadsOn) (not-true a f))
+    no-answer f = sym (answered ∙ ap (λ b. b && all (nextCount t shape row) (isPair t shape row)) (not-true a f))
 
-  module _ (s : ℕ) (b : Bool) (x : ℕ) (next : x ≡ nextCell t row s) (e : b ≡ isNext t shape x) where
-    leads-is : leadsOn s ≡ b
-    unfolding leadsOn
-    leads-is = ap (isNext t shape) (sym next) ∙ sym e
+    -- and then by those of its observations
+    module _ (f : not a ≡ false) (n : ℕ) (m : n ≡ nextCount t shape row) where
+      row-is : isRow t shape row ≡ all n (isPair t shape row)
+      row-is =
+          answered ∙ ap (λ b. b && all (nextCount t shape row) (isPair t shape row)) (not-false a f)
+          ∙ ap (λ k. all k (isPair t shape row)) (sym m)
 
-    pub leads-more : not b ≡ false → all s leadsOn ≡ true → all (s + 1) leadsOn ≡ true
-    leads-more f l = all-more s leadsOn l (leads-is ∙ not-false b f)
+      pub row-fails : (s : ℕ) → s < n → (b : Bool) → b ≡ isPair t shape row s → not b ≡ true → false ≡ isRow t shape row
+      row-fails s h b q g = sym (row-is ∙ all-fails n (isPair t shape row) s h (sym q ∙ not-true b g))
 
-  module _ (a : Bool) (x : ℕ) (first : x ≡ firstCell t row) (e : a ≡ isAnswer x) (f : not a ≡ false) (n : ℕ) (m : n ≡ nextCount t shape row) where
-    row-is : isRow t shape row ≡ all n leadsOn
-    row-is = answered a x first e ∙ ap (λ b. b && all (nextCount t shape row) leadsOn) (not-false a f) ∙ ap (λ k. all k leadsOn) (sym m)
+      pub row-passes : (s : ℕ) → s ≤ n → n ≤ s → all s (isPair t shape row) ≡ true → true ≡ isRow t shape row
+      row-passes s h g l = sym (row-is ∙ all-done s n (isPair t shape row) (omega arith) l)
 
-    pub row-fails : (s : ℕ) → s < n → (b : Bool) (y : ℕ) → y ≡ nextCell t row s → b ≡ isNext t shape y → not b ≡ true → false ≡ isRow t shape row
-    row-fails s h b y next q g = sym (row-is ∙ all-fails n leadsOn s h (leads-is s b y next q ∙ not-true b g))
+  pub pairs-more : (s : ℕ) (b : Bool) → b ≡ isPair t shape row s → not b ≡ false → all s (isPair t shape row) ≡ true
+      → all (s + 1) (isPair t shape row) ≡ true
+  pairs-more s b q f l = all-more s (isPair t shape row) l (sym q ∙ not-false b f)
 
-    pub row-passes : (s : ℕ) → s ≤ n → n ≤ s → all s leadsOn ≡ true → true ≡ isRow t shape row
-    row-passes s h g l = sym (row-is ∙ all-done s n leadsOn (omega arith) l)
+-- ---- the own cells of an observation, by the order
 
--- ---- the unused cells of a row, which has n next rows
+pub blank-set : (o : Order) → o ≡ Set → (t : List ℕ) (row s y : ℕ) → y ≡ nextCell o t row s → eqb y 0 ≡ isBlankAt o t row s
+blank-set o e t row s y next = rw (next, e) refl
 
-module _ (t : List ℕ) (row n : ℕ) where
-  -- the cell for observation s
+pub blank-read : (o : Order) → o ≡ Read → (t : List ℕ) (row s x y : ℕ) → x ≡ choiceCell o t row s → y ≡ nextCell o t row s
+    → (eqb x 0 && eqb y 0) ≡ isBlankAt o t row s
+blank-read o e t row s x y choice next = rw (choice, next, e) refl
+
+-- ---- the unused cells of a row, which has cells for n observations
+
+module _ (o : Order) (t : List ℕ) (row n : ℕ) where
+  -- those of observation s
   unfoldable pub blankAt : ℕ → Bool
-  blankAt s = ltb s n || eqb (nextCell t row s) 0
+  blankAt s = ltb s n || isBlankAt o t row s
 
   -- not both unused and filled
-  blank-test : (s x : ℕ) → x ≡ nextCell t row s → (b : Bool) → (leb n s && not (eqb x 0)) ≡ b → blankAt s ≡ not b
+  blank-test : (s : ℕ) (a : Bool) → a ≡ isBlankAt o t row s → (b : Bool) → (leb n s && not a) ≡ b → blankAt s ≡ not b
   unfolding blankAt
-  blank-test s x next b e = ap (λ c. ltb s n || eqb c 0) (sym next) ∙ at (test (leb n s)) ∙ ap not e
+  blank-test s a q b e = ap (λ c. ltb s n || c) (sym q) ∙ at (test (leb n s)) ∙ ap not e
     where
-      at : (leb n s ≡ true) ⊎ (leb n s ≡ false) → (ltb s n || eqb x 0) ≡ not (leb n s && not (eqb x 0))
-      at (inl l) = rw (l, le-ltb s n (leb-true n s l)) (sym (Bool·not-not (eqb x 0)))
+      at : (leb n s ≡ true) ⊎ (leb n s ≡ false) → (ltb s n || a) ≡ not (leb n s && not a)
+      at (inl l) = rw (l, le-ltb s n (leb-true n s l)) (sym (Bool·not-not a))
       at (inr l) = rw (l, lt-ltb s n (leb-false n s l)) refl
 
-  pub blank-more : (s x : ℕ) → x ≡ nextCell t row s → (leb n s && not (eqb x 0)) ≡ false → all s blankAt ≡ true → all (s + 1) blankAt ≡ true
-  blank-more s x next e l = all-more s blankAt l (blank-test s x next false e)
+  pub blank-more : (s : ℕ) (a : Bool) → a ≡ isBlankAt o t row s → (leb n s && not a) ≡ false → all s blankAt ≡ true → all (s + 1) blankAt ≡ true
+  blank-more s a q e l = all-more s blankAt l (blank-test s a q false e)
 
-  module _ (shape : Shape) (m : n ≡ nextCount t shape row) where
-    blank-is : isBlank t shape row ≡ all sideLimit blankAt
-    unfolding isBlank blankAt
-    blank-is = rw m refl
+module _ (t : List ℕ) (shape : Shape) (row n : ℕ) (m : n ≡ nextCount t shape row) where
+  abbrev tested : ℕ → Bool
+  tested = blankAt (shape .order) t row n
 
-    pub blank-fails : (s x : ℕ) → x ≡ nextCell t row s → s < sideLimit → (leb n s && not (eqb x 0)) ≡ true → false ≡ isBlank t shape row
-    blank-fails s x next h e = sym (blank-is ∙ all-fails sideLimit blankAt s h (blank-test s x next true e))
+  blank-is : isBlank t shape row ≡ all sideLimit tested
+  unfolding isBlank blankAt
+  blank-is = rw m refl
 
-    pub blank-passes : (s : ℕ) → s ≤ sideLimit → sideLimit ≤ s → all s blankAt ≡ true → true ≡ isBlank t shape row
-    blank-passes s h g l = sym (blank-is ∙ all-done s sideLimit blankAt (omega arith) l)
+  pub blank-fails : (s : ℕ) (a : Bool) → a ≡ isBlankAt (shape .order) t row s → s < sideLimit → (leb n s && not a) ≡ true
+      → false ≡ isBlank t shape row
+  blank-fails s a q h e = sym (blank-is ∙ all-fails sideLimit tested s h (blank-test (shape .order) t row n s a q true e))
+
+  pub blank-passes : (s : ℕ) → s ≤ sideLimit → sideLimit ≤ s → all s tested ≡ true → true ≡ isBlank t shape row
+  blank-passes s h g l = sym (blank-is ∙ all-done s sideLimit tested (omega arith) l)
 
 -- ---- all rows
 
@@ -185,9 +215,9 @@ module _ (t : List ℕ) (shape : Shape) where
 
 module _ (cells : ℕ) (shape : Shape) where
   four : Says (isSized cells shape)
-      ((((0 < shape .rows) × (shape .rows ≤ beliefLimit)) × (shape .rows * rowSize ≤ cells)) × (shape .observed ≤ kindLimit))
+      ((((0 < shape .rows) × (shape .rows ≤ beliefLimit)) × (shape .rows * rowSize (shape .order) ≤ cells)) × (shape .observed ≤ kindLimit))
   four =
-      says-and (says-and (says-and (lt-says 0 (shape .rows)) (le-says (shape .rows) beliefLimit)) (le-says (shape .rows * rowSize) cells))
+      says-and (says-and (says-and (lt-says 0 (shape .rows)) (le-says (shape .rows) beliefLimit)) (le-says (shape .rows * rowSize (shape .order)) cells))
       (le-says (shape .observed) kindLimit)
 
   pub sized-says : Says (isSized cells shape) (Sized cells shape)
@@ -196,68 +226,80 @@ module _ (cells : ℕ) (shape : Shape) where
     λ s. four .1 (((s .some, s .few), s .room), s .seen),
   )
 
-answer-says : (c : ℕ) → Says (isAnswer c) (IsAnswer c)
-answer-says c = says-or (lt-says c sideLimit) (eqb-true c stopCell, eq-eqb c stopCell)
+zero-says : (c : ℕ) → Says (eqb c 0) (c ≡ 0)
+zero-says c = (eqb-true c 0, eq-eqb c 0)
+
+first-says : (o : Order) (c : ℕ) → Says (isFirst o c) (IsFirst o c)
+first-says o c = says-or (lt-says c (firstLimit o)) (eqb-true c stopCell, eq-eqb c stopCell)
+
+blank-says : (o : Order) (t : List ℕ) (row s : ℕ) → Says (isBlankAt o t row s) (Blank o t row s)
+blank-says Set t row s = zero-says (nextCell Set t row s)
+blank-says Read t row s = says-and (zero-says (choiceCell Read t row s)) (zero-says (nextCell Read t row s))
 
 module _ (t : List ℕ) (shape : Shape) (row : ℕ) where
-  abbrev Stops : Type 0
-  Stops = firstCell t row ≡ stopCell
+  abbrev o : Order
+  o = shape .order
 
-  -- the next cells that are used, and the others
+  abbrev Stops : Type 0
+  Stops = firstCell o t row ≡ stopCell
+
+  -- the observations that the row has cells for, and the others
   used-says : (s : ℕ) → Says (ltb s (nextCount t shape row)) ((¬ Stops) × (s < 2 ^ (shape .observed)))
   used-says s =
-      elim (test (isStop t row)) [
-        | inl e ↦ rw e (λ l. absurd (not-suc-le-zero (ltb-true s 0 l)), λ u. absurd (u .0 (eqb-true (firstCell t row) stopCell e)))
-        | inr f ↦ rw f (λ l. (eqb-false (firstCell t row) stopCell f, ltb-true s (2 ^ (shape .observed)) l), λ u. lt-ltb s (2 ^ (shape .observed)) (u .1))
+      elim (test (isStop o t row)) [
+        | inl e ↦ rw e (λ l. absurd (not-suc-le-zero (ltb-true s 0 l)), λ u. absurd (u .0 (eqb-true (firstCell o t row) stopCell e)))
+        | inr f ↦ rw f (λ l. (eqb-false (firstCell o t row) stopCell f, ltb-true s (2 ^ (shape .observed)) l), λ u. lt-ltb s (2 ^ (shape .observed)) (u .1))
       ]
 
   unused : (s : ℕ) → ltb s (nextCount t shape row) ≡ false → Unused t shape row s
   unused s e =
-      elim (test (isStop t row)) [
-        | inl i ↦ inl (eqb-true (firstCell t row) stopCell i)
+      elim (test (isStop o t row)) [
+        | inl i ↦ inl (eqb-true (firstCell o t row) stopCell i)
         | inr f ↦ inr (ltb-false s (2 ^ (shape .observed)) (rw f at e))
       ]
 
-  -- where observation s leads
-  abbrev Next : ℕ → Type 0
-  Next s = (nextCell t row s < shape .rows) × IsAnswer (firstCell t (nextCell t row s))
+  pair-says : (s : ℕ) → Says (isPair t shape row s) (GoesOn t shape row s)
+  pair-says s =
+      let next = nextCell o t row s in
+      let p = says-and (lt-says (choiceCell o t row s) sideLimit) (says-and (lt-says next (shape .rows)) (first-says o (firstCell o t next))) in (
+        λ e. let q = p .0 e in record { choice = q .0; next = q .1 .0; first = q .1 .1 },
+        λ g. p .1 (g .choice, (g .next, g .first)),
+      )
 
-  row-tests : Says (isRow t shape row) (IsAnswer (firstCell t row) × ((s : ℕ) → s < nextCount t shape row → Next s))
+  row-tests : Says (isRow t shape row) (IsFirst o (firstCell o t row) × ((s : ℕ) → s < nextCount t shape row → GoesOn t shape row s))
   unfolding isRow
-  row-tests =
-      says-and (answer-says (firstCell t row))
-      (all-says (nextCount t shape row) (λ s. isNext t shape (nextCell t row s)) Next
-      (λ s. says-and (lt-says (nextCell t row s) (shape .rows)) (answer-says (firstCell t (nextCell t row s)))))
+  row-tests = says-and (first-says o (firstCell o t row)) (all-says (nextCount t shape row) (isPair t shape row) (GoesOn t shape row) pair-says)
 
   pub row-says : Says (isRow t shape row) (GoodRow t shape row)
   row-says = (
     λ e. let p = row-tests .0 e in
-        record { answer = p .0; next = λ m s h. p .1 s (ltb-true s (nextCount t shape row) (used-says s .1 (m, h))) },
-    λ g. row-tests .1 (g .answer, λ s h. let u = used-says s .0 (lt-ltb s (nextCount t shape row) h) in g .next (u .0) s (u .1)),
+        record { first = p .0; goes = λ m s h. p .1 s (ltb-true s (nextCount t shape row) (used-says s .1 (m, h))) },
+    λ g. row-tests .1 (g .first, λ s h. let u = used-says s .0 (lt-ltb s (nextCount t shape row) h) in g .goes (u .0) s (u .1)),
   )
 
-  blank-at : (s : ℕ) → Says (ltb s (nextCount t shape row) || eqb (nextCell t row s) 0) (Unused t shape row s → nextCell t row s ≡ 0)
+  abbrev Kept : ℕ → Type 0
+  Kept s = Unused t shape row s → Blank o t row s
+
+  blank-at : (s : ℕ) → Says (ltb s (nextCount t shape row) || isBlankAt o t row s) (Kept s)
   blank-at s = (to, from)
     where
-      to : (ltb s (nextCount t shape row) || eqb (nextCell t row s) 0) ≡ true → Unused t shape row s → nextCell t row s ≡ 0
+      to : (ltb s (nextCount t shape row) || isBlankAt o t row s) ≡ true → Kept s
       to e u =
-          elim (or-cases (ltb s (nextCount t shape row)) (eqb (nextCell t row s) 0) e) [
+          elim (or-cases (ltb s (nextCount t shape row)) (isBlankAt o t row s) e) [
             | inl l ↦ let (m, h) = used-says s .0 l in absurd (elim u [ inl i ↦ m i | inr o ↦ omega arith ])
-            | inr z ↦ eqb-true (nextCell t row s) 0 z
+            | inr z ↦ blank-says o t row s .0 z
           ]
 
-      from : (Unused t shape row s → nextCell t row s ≡ 0) → (ltb s (nextCount t shape row) || eqb (nextCell t row s) 0) ≡ true
+      from : Kept s → (ltb s (nextCount t shape row) || isBlankAt o t row s) ≡ true
       from z =
           elim (test (ltb s (nextCount t shape row))) [
-            | inl l ↦ or-intro-left (eqb (nextCell t row s) 0) l
-            | inr f ↦ or-intro-right (ltb s (nextCount t shape row)) (eq-eqb (nextCell t row s) 0 (z (unused s f)))
+            | inl l ↦ or-intro-left (isBlankAt o t row s) l
+            | inr f ↦ or-intro-right (ltb s (nextCount t shape row)) (blank-says o t row s .1 (z (unused s f)))
           ]
 
-  print-tests : Says (isPrintableRow t shape row) (GoodRow t shape row × ((s : ℕ) → s < sideLimit → Unused t shape row s → nextCell t row s ≡ 0))
+  print-tests : Says (isPrintableRow t shape row) (GoodRow t shape row × ((s : ℕ) → s < sideLimit → Kept s))
   unfolding isPrintableRow isBlank
-  print-tests =
-      says-and row-says
-      (all-says sideLimit (λ s. ltb s (nextCount t shape row) || eqb (nextCell t row s) 0) (λ s. Unused t shape row s → nextCell t row s ≡ 0) blank-at)
+  print-tests = says-and row-says (all-says sideLimit (λ s. ltb s (nextCount t shape row) || isBlankAt o t row s) Kept blank-at)
 
   printable-row-says : Says (isPrintableRow t shape row) (PrintableRow t shape row)
   printable-row-says = (λ e. let p = print-tests .0 e in record { good = p .0; blank = p .1 }, λ g. print-tests .1 (g .good, g .blank))

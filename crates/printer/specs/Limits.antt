@@ -4,4 +4,4 @@ use Prim.Native.Nat.{ℕ}
 
 -- bytes that a text must have room for
 abbrev pub textSize : ℕ
-textSize = 19456
+textSize = 30976

@@ -3,17 +3,21 @@ ghost use mathlib.Core.Path.{_≡_};
 ghost use Prim.Native.Nat.{_+_, _*_, _≤_, _<_};
 ghost use lib.ListN.{length};
 ghost use Rattle.basics.specs.Limits.{kindLimit};
+ghost use Rattle.play.specs.Limits.{sideLimit};
 ghost use Rattle.play.specs.Cells.{rowSize};
 ghost use Rattle.basics.specs.Bounded.{all};
-ghost use Rattle.printer.specs.WellFormed.{isSized, isAnswer, isNext, nextCount, isRow, isBlank, isPrintableRow, isPrintable};
+ghost use Rattle.printer.specs.WellFormed.{firstLimit, isSized, isFirst, isNext, nextCount, isPair, isRow};
+ghost use Rattle.printer.specs.WellFormed.{isBlankAt, isBlank, isPrintableRow, isPrintable};
 use basics::KIND_LIMIT;
+use basics::Order;
 use tables::BELIEF_LIMIT;
-use tables::ROW;
 use tables::SIDE_LIMIT;
 use tables::STOP;
 use tables::Shape;
+use tables::choice_cell;
 use tables::first_cell;
 use tables::next_cell;
+use tables::row_size;
 
 // Whether the row count, the cells and the number of observed signals are within their limits.
 pub fn is_sized(cells: usize, shape: Shape) -> bool
@@ -23,55 +27,84 @@ pub fn is_sized(cells: usize, shape: Shape) -> bool
     if (rows == 0) | (rows > BELIEF_LIMIT) {
         return false;
     }
-    (rows * ROW <= cells) & (shape.observed <= KIND_LIMIT)
+    let order = shape.order;
+    (rows * row_size(order) <= cells) & (shape.observed <= KIND_LIMIT)
 }
 
-// Whether a cell holds a choice, or stop.
-fn is_answer(c: u16) -> bool
-    ensures { λ r. ⌜ r ≡ isAnswer c ⌝ }
+// What the first cell of a row that does not stop is below.
+fn first_limit(order: Order) -> u16
+    ensures { λ r. ⌜ r ≡ firstLimit order ⌝ }
 {
-    (c < SIDE_LIMIT as u16) | (c == STOP)
+    match order {
+        Order::Set => SIDE_LIMIT as u16,
+        Order::Read => 1,
+    }
+}
+
+// Whether a cell may be a row's first.
+fn is_first(order: Order, c: u16) -> bool
+    ensures { λ r. ⌜ r ≡ isFirst order c ⌝ }
+{
+    (c < first_limit(order)) | (c == STOP)
 }
 
 // Whether a cell leads to a row.
 fn is_next(table: &[u16], shape: Shape, next: u16) -> bool
-    requires { ⌜ shape .rows * rowSize ≤ length (now table) ⌝ }
+    requires { ⌜ shape .rows * rowSize (shape .order) ≤ length (now table) ⌝ }
     ensures { λ r. ⌜ r ≡ isNext (now (table .entry)) shape next ⌝ }
 {
     let row = next as usize;
     if row >= shape.rows {
         return false;
     }
-    is_answer(first_cell(table, row))
+    let order = shape.order;
+    is_first(order, first_cell(table, order, row))
 }
 
-// How many next rows a row has.
+// How many observations a row has cells for.
 fn next_count(table: &[u16], shape: Shape, row: usize) -> usize
-    requires { ⌜ row * rowSize + rowSize ≤ length (now table) ⌝ }
+    requires { ⌜ shape .rows * rowSize (shape .order) ≤ length (now table) ⌝ }
+    requires { ⌜ row < shape .rows ⌝ }
     requires { ⌜ shape .observed ≤ kindLimit ⌝ }
     ensures { λ r. ⌜ r ≡ nextCount (now (table .entry)) shape row ⌝ }
 {
-    if first_cell(table, row) == STOP {
+    let order = shape.order;
+    if first_cell(table, order, row) == STOP {
         0
     } else {
         1 << shape.observed
     }
 }
 
-// Whether a row has a choice or stop, and leads to rows.
+// Whether the cells of an observation are a choice, and lead to a row.
+fn is_pair(table: &[u16], shape: Shape, row: usize, s: usize) -> bool
+    requires { ⌜ shape .rows * rowSize (shape .order) ≤ length (now table) ⌝ }
+    requires { ⌜ row < shape .rows ⌝ }
+    requires { ⌜ s < sideLimit ⌝ }
+    ensures { λ r. ⌜ r ≡ isPair (now (table .entry)) shape row s ⌝ }
+{
+    let order = shape.order;
+    if choice_cell(table, order, row, s) >= SIDE_LIMIT as u16 {
+        return false;
+    }
+    is_next(table, shape, next_cell(table, order, row, s))
+}
+
+// Whether the cabinet may stand on a row.
 pub fn is_row(table: &[u16], shape: Shape, row: usize) -> bool
-    requires { ⌜ shape .rows * rowSize ≤ length (now table) ⌝ }
+    requires { ⌜ shape .rows * rowSize (shape .order) ≤ length (now table) ⌝ }
     requires { ⌜ row < shape .rows ⌝ }
     requires { ⌜ shape .observed ≤ kindLimit ⌝ }
     ensures { λ r. ⌜ r ≡ isRow (now (table .entry)) shape row ⌝ }
 {
-    if !is_answer(first_cell(table, row)) {
+    let order = shape.order;
+    if !is_first(order, first_cell(table, order, row)) {
         return false;
     }
     let n = next_count(table, shape, row);
     let mut s = 0;
     while s < n {
-        if !is_next(table, shape, next_cell(table, row, s)) {
+        if !is_pair(table, shape, row, s) {
             return false;
         }
         s += 1;
@@ -79,16 +112,32 @@ pub fn is_row(table: &[u16], shape: Shape, row: usize) -> bool
     true
 }
 
+// Whether an observation's own cells are 0.
+fn is_blank_at(table: &[u16], order: Order, row: usize, s: usize) -> bool
+    requires { ⌜ row * rowSize order + rowSize order ≤ length (now table) ⌝ }
+    requires { ⌜ s < sideLimit ⌝ }
+    ensures { λ r. ⌜ r ≡ isBlankAt order (now (table .entry)) row s ⌝ }
+{
+    match order {
+        Order::Set => next_cell(table, order, row, s) == 0,
+        Order::Read => {
+            (choice_cell(table, order, row, s) == 0) & (next_cell(table, order, row, s) == 0)
+        }
+    }
+}
+
 // Whether the unused cells of a row are 0.
 fn is_blank(table: &[u16], shape: Shape, row: usize) -> bool
-    requires { ⌜ row * rowSize + rowSize ≤ length (now table) ⌝ }
+    requires { ⌜ shape .rows * rowSize (shape .order) ≤ length (now table) ⌝ }
+    requires { ⌜ row < shape .rows ⌝ }
     requires { ⌜ shape .observed ≤ kindLimit ⌝ }
     ensures { λ r. ⌜ r ≡ isBlank (now (table .entry)) shape row ⌝ }
 {
+    let order = shape.order;
     let n = next_count(table, shape, row);
     let mut s = 0;
     while s < SIDE_LIMIT {
-        if (s >= n) & (next_cell(table, row, s) != 0) {
+        if (s >= n) & !is_blank_at(table, order, row, s) {
             return false;
         }
         s += 1;
@@ -98,7 +147,7 @@ fn is_blank(table: &[u16], shape: Shape, row: usize) -> bool
 
 // Whether every row can be printed.
 fn are_rows(table: &[u16], shape: Shape) -> bool
-    requires { ⌜ shape .rows * rowSize ≤ length (now table) ⌝ }
+    requires { ⌜ shape .rows * rowSize (shape .order) ≤ length (now table) ⌝ }
     requires { ⌜ shape .observed ≤ kindLimit ⌝ }
     ensures { λ r. ⌜ r ≡ all (shape .rows) (isPrintableRow (now (table .entry)) shape) ⌝ }
 {

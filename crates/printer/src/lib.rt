@@ -10,3 +10,5 @@ pub use checking::is_sized;
 pub use sizes::TEXT_SIZE;
 pub use writing::put_refusal;
 pub use writing::put_table;
+pub use writing::shown_count;
+pub use writing::shown_from;

@@ -2,21 +2,20 @@
 -- Assumes nothing.
 use Prim.Native.Nat.{ℕ, _≤_, _<_}
 use mathlib.Core.Bool.{cond}
-use mathlib.Core.List.{List, [], _∷_}
+use mathlib.Core.List.{List, []}
 use lib.Dec.{ltb}
 use lib.ListN.{length, replicate}
 use Rattle.basics.specs.Lists.{written}
 use Rattle.formula.specs.Limits.{partLimit}
-use Rattle.formula.specs.Formula.{size, operators}
 use Rattle.formula.specs.declared.parts.Part.{Part}
 use Rattle.lines.specs.declared.problem.Reading.{Reading}
 use Rattle.lines.specs.declared.problem.Reading.the-variants.{Accepted, Refused}
 use Rattle.lines.specs.declared.refusal.Refusal.the-variants.{ShortMemory}
 use Rattle.lines.specs.Memory.{storedFrom}
-use Rattle.lines.specs.Refusal.{Told, values}
+use Rattle.lines.specs.Refusal.{Told}
 use Rattle.lines.specs.Refusal as told
-use Rattle.rules.specs.Problem.{Problem, formulaIn, problemParts, Outcome, accepted, refused, readProblem}
-use Rattle.rules.specs.Reading.{readingOf, toldReading}
+use Rattle.rules.specs.Problem.{Problem, problemParts, Outcome, accepted, refused, readProblem}
+use Rattle.rules.specs.Reading.{readingOf, toldReading, toldProblem}
 use Rattle.rules.specs.Denotes.{Denotes}
 use Rattle.rules.specs.Refuses.{Refuses}
 use Rattle.records.specs.declared.listing.Listing.{Listing}
@@ -47,11 +46,8 @@ pub data ListedAs (source : List ℕ) (old : List Part) : Told → List Part →
   -- 1 to 8: the text denotes no problem
   bad-source : partLimit ≤ length old → (number place : ℕ) → Refuses source number place
       → ListedAs source old (told.refused number place) old
-  -- the formula's parts at the front, with the numbers of signals, parts and temporal operators
-  listed : partLimit ≤ length old → (p : Problem) → Denotes source p
-      → ListedAs source old
-      (values (p .signals .outputs ∷ p .signals .observed ∷ p .signals .hidden ∷ size (formulaIn p) ∷ operators (formulaIn p) ∷ []))
-      (written (problemParts p) old)
+  -- the formula's parts at the front, with the numbers of signals, parts and temporal operators, and the order's
+  listed : partLimit ≤ length old → (p : Problem) → Denotes source p → ListedAs source old (toldProblem p) (written (problemParts p) old)
 
 -- ---- what the code keeps
 

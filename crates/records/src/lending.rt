@@ -48,7 +48,7 @@ pub fn record_at(parts: &[Part], i: usize) -> Part
 
 // Judges a recorded trace by the first of the lent records, as many as s counts: by what `read_parts` left and answered, or by any other
 // parts. Refusals: 12 where fewer are lent; 4 where s counts too many signals, 7 too many parts, 8 none, all with place 0; then 16. The
-// count of operators is not looked at.
+// count of operators and the order are not looked at.
 pub fn judge_parts(parts: &[Part], s: Sizes, trace: &[u16]) -> Verdict
     ensures { λ r. ⌜ (r ≡ judgedIn (length (now (parts .entry))) s (take (s .parts) (now (parts .entry))) (now (trace .entry)))
         × JudgedBy (length (now (parts .entry))) s (take (s .parts) (now (parts .entry))) (now (trace .entry)) (toldVerdict r) ⌝ }

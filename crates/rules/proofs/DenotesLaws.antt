@@ -13,8 +13,11 @@ use Rattle.lines.specs.declared.refusal.Refusal.{Refusal}
 use Rattle.lines.specs.declared.refusal.Refusal.the-variants.{LongSource}
 use Rattle.rules.specs.Limits.{sourceLimit}
 use Rattle.lines.specs.Lines.{SourceLine, ended, unended, lines}
-use Rattle.rules.specs.Problem.{Line, Draft, Problem, Outcome, accepted, refused, finish, after, effectAfter, withDeclared, withFormula, readLines, blank, readProblem}
-use Rattle.lines.specs.Effect.{Signals, Effect, declares, states, refuses}
+use Rattle.lines.specs.declared.problem.OrderSoFar.{OrderSoFar}
+use Rattle.lines.specs.StepOrder.{orderOr}
+use Rattle.rules.specs.Problem.{Line, Draft, Problem, Outcome, accepted, refused, finish, after, effectAfter}
+use Rattle.rules.specs.Problem.{withDeclared, withFormula, withOrder, readLines, blank, readProblem}
+use Rattle.lines.specs.Effect.{Signals, Effect, declares, states, orders, refuses}
 use Rattle.rules.specs.Denotes.{Reads, Make, done, next, Denotes}
 use Rattle.rules.proofs.LineMeaning.{Sound, sound-blank, sound-after, Said, said, read-after}
 
@@ -27,13 +30,14 @@ same-problem p q e = cc
 no-lines : {C : Type 0} {l : Line} {ls : List Line} → l ∷ ls ≡ [] → C
 no-lines e = let z : _≡_ {A = ℕ} 0 1 = cc in absurd (omega arith)
 
-pub finish-some : (g : Signals) (ls : List Line) → ¬ (ls ≡ []) → finish g ls ≡ accepted (record { signals = g; lines = ls })
-finish-some g [] h = absurd (h refl)
-finish-some g (l ∷ ls) h = refl
+pub finish-some : (g : Signals) (o : OrderSoFar) (ls : List Line) → ¬ (ls ≡ [])
+    → finish g o ls ≡ accepted (record { signals = g; order = orderOr o; lines = ls })
+finish-some g o [] h = absurd (h refl)
+finish-some g o (l ∷ ls) h = refl
 
 make-read : {d : Draft} {ls : List SourceLine} {p : Problem} → Sound (d .signals) → Make d ls p → (line : ℕ) → readLines line ls d ≡ accepted p
 unfolding readLines
-make-read s (done {d = d} some) line = finish-some (d .signals) (d .lines) some
+make-read s (done {d = d} some) line = finish-some (d .signals) (d .order) (d .lines) some
 make-read s (next {d = d} {ls = ls} d′ r m) line = read-after d s line (readLines (suc line) ls) r ∙ make-read (sound-after s r) m (suc line)
 
 -- a line with an effect is read
@@ -42,12 +46,13 @@ after-read : (line : ℕ) (l : List ℕ) (d : Draft) (p : Problem) (f : Draft �
     → (d′ : Draft) × Reads d l d′ × (f d′ ≡ accepted p)
 after-read line l d p f s (declares k name) i h = (withDeclared k name d, i, h)
 after-read line l d p f s (states φ) i h = (withFormula φ d, i, h)
+after-read line l d p f s (orders o) i h = (withOrder o d, i, h)
 after-read line l d p f s (refuses r) i h = not-accepted r p h
 
-finish-make : (d : Draft) (p : Problem) (ls : List Line) → d .lines ≡ ls → finish (d .signals) ls ≡ accepted p → Make d [] p
+finish-make : (d : Draft) (p : Problem) (ls : List Line) → d .lines ≡ ls → finish (d .signals) (d .order) ls ≡ accepted p → Make d [] p
 finish-make d p [] e h = not-accepted _ p h
 finish-make d p (l ∷ ls) e h =
-    let is : accepted (record { signals = d .signals; lines = d .lines }) ≡ accepted p = rw e h in
+    let is : accepted (record { signals = d .signals; order = orderOr (d .order); lines = d .lines }) ≡ accepted p = rw e h in
     subst (Make d []) (same-problem _ p is) (done (λ z. no-lines (sym e ∙ z)))
 
 read-make : (ls : List SourceLine) (line : ℕ) (d : Draft) (p : Problem) → Sound (d .signals) → readLines line ls d ≡ accepted p → Make d ls p

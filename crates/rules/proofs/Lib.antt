@@ -4,6 +4,7 @@ pub mod JoinedFormulas
 pub mod LineTests
 pub mod LineMeaning
 pub mod DenotesLaws
+pub mod ProblemOrder
 pub mod RefusesLaws
 pub mod ReadIffDue
 pub mod ProblemLaws

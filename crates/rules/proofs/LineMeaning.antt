@@ -20,13 +20,18 @@ use Rattle.lines.specs.declared.refusal.Refusal.{Refusal}
 use Rattle.lines.specs.declared.refusal.Refusal.the-variants.{BadLine, NameTwice, TooManySignals, BadFormula, UnknownName, TooManyParts}
 use Rattle.lines.specs.declared.problem.Kind.{Kind}
 use Rattle.lines.specs.Refusal.{numberOf, placeOf}
-use Rattle.lines.specs.Lines.{declareLine, ruleLine, isName, isText}
-use Rattle.lines.specs.Effect.{Signals, withSignal, isDeclared, isFull, allDeclared, isLarge, Effect, declares, states, refuses, declareEffect, readEffect, stateEffect}
-use Rattle.lines.proofs.LineCases.{LineCase, same-name, same-text, not-both, line-case, declare-line, rule-line}
+use Rattle.basics.specs.declared.order.Order.{Order}
+use Rattle.lines.specs.declared.problem.OrderSoFar.{OrderSoFar}
+use Rattle.lines.specs.declared.problem.OrderSoFar.the-variants.{Open, Fixed}
+use Rattle.lines.specs.Lines.{declareLine, ruleLine, orderLine, isName, isText}
+use Rattle.lines.specs.Effect.{Signals, withSignal, isDeclared, isFull, allDeclared, isLarge, Effect, declares, states, orders, refuses}
+use Rattle.lines.specs.Effect.{declareEffect, readEffect, stateEffect, orderEffect}
+use Rattle.lines.proofs.LineCases.{LineCase, same-name, same-text, not-both, declare-no-order, rule-no-order, open-fixed}
+use Rattle.lines.proofs.LineCases.{line-case, declare-line, rule-line, order-line}
 use Rattle.lines.proofs.LineCases as case
-use Rattle.rules.specs.Problem.{Draft, partCount, operatorCount, withDeclared, withFormula, Outcome, after, effectAfter, blank}
+use Rattle.rules.specs.Problem.{Draft, partCount, operatorCount, withDeclared, withFormula, withOrder, Outcome, after, effectAfter, blank}
 use Rattle.rules.specs.Within.{Few}
-use Rattle.rules.specs.Denotes.{IsDeclared, AllDeclared, statedFormula, Fits, Reads, declared, stated}
+use Rattle.rules.specs.Denotes.{IsDeclared, AllDeclared, statedFormula, Fits, Reads, declared, stated, ordered}
 use Rattle.rules.specs.Refuses.{LineRefused, bad-line, name-twice, too-many-signals, bad-formula, unknown-name, too-many-parts}
 use Rattle.rules.proofs.LineTests.{names-more, declared-says, all-declared-says, few-more, few-room, small-fits, fits-small}
 
@@ -43,12 +48,14 @@ pub sound-after : {d d′ : Draft} {bytes : List ℕ} → Sound (d .signals) →
 sound-after {d} s (declared k name named new few) =
     record { few = few; all = ap length (names-more k name (d .signals)) ∙ length-set (d .signals .names) _ name ∙ s .all }
 sound-after s (stated text a is derives known fits) = s
+sound-after s (ordered o first) = s
 
 module _ (d : Draft) (s : Sound (d .signals)) (line : ℕ) where
   -- what an effect says of a line
   abbrev pub Said : List ℕ → Effect → Type 0
   Said bytes (declares k name) = Reads d bytes (withDeclared k name d)
   Said bytes (states φ) = Reads d bytes (withFormula φ d)
+  Said bytes (orders o) = Reads d bytes (withOrder o d)
   Said bytes (refuses r) = LineRefused d bytes (numberOf r) × (placeOf r ≡ line)
 
   -- the tests
@@ -65,7 +72,7 @@ module _ (d : Draft) (s : Sound (d .signals)) (line : ℕ) where
       cond-elim S (not (isName name)) _ _
       (λ b. (
         bad-line (λ j x e t. clash (subst (λ y. isName y ≡ true) (sym (same-name k j name x e)) t) (not-true _ b))
-            (λ x e. absurd (not-both k name x e)),
+            (λ x e. absurd (not-both k name x e)) (λ o e. absurd (declare-no-order k name o e)),
         refl,
       ))
       (λ b. cond-elim S (isDeclared (d .signals) name) _ _ (λ t. (name-twice k name (not-false _ b) (declares-says name .0 t), refl))
@@ -92,17 +99,32 @@ module _ (d : Draft) (s : Sound (d .signals)) (line : ℕ) where
   state-said text =
       cond-elim (Said (ruleLine text)) (not (isText text)) _ _
       (λ b. (
-        bad-line (λ k name e. absurd (not-both k name text (sym e))) (λ x e t. clash (subst (λ y. isText y ≡ true) (sym (same-text text x e)) t)
-            (not-true _ b)),
+        bad-line (λ k name e. absurd (not-both k name text (sym e)))
+            (λ x e t. clash (subst (λ y. isText y ≡ true) (sym (same-text text x e)) t) (not-true _ b))
+            (λ o e. absurd (rule-no-order text o e)),
         refl,
       ))
       (λ b. read-said text (not-false _ b) (parseFormula text) refl)
 
+  order-said : (o : Order) → Said (orderLine o) (orderEffect line (d .order) (Fixed o))
+  order-said o = go (d .order) refl
+    where
+      go : (before : OrderSoFar) → d .order ≡ before → Said (orderLine o) (orderEffect line before (Fixed o))
+      go Open e = ordered o e
+      go (Fixed x) e = (
+        bad-line (λ k name q. absurd (declare-no-order k name o (sym q))) (λ text q. absurd (rule-no-order text o (sym q)))
+            (λ _ _ first. open-fixed (sym first ∙ e)),
+        refl,
+      )
+
   abbrev declare-is : (k : Kind) (name : Name) → effectAfter line (declareLine k name) d ≡ declareEffect line k name (d .signals)
-  declare-is k name = declare-line line (d .signals) (partCount d) (operatorCount d) k name
+  declare-is k name = declare-line line (d .signals) (partCount d) (operatorCount d) (d .order) k name
 
   abbrev rule-is : (text : List ℕ) → effectAfter line (ruleLine text) d ≡ stateEffect line text (d .signals) (partCount d) (operatorCount d)
-  rule-is text = rule-line line (d .signals) (partCount d) (operatorCount d) text
+  rule-is text = rule-line line (d .signals) (partCount d) (operatorCount d) (d .order) text
+
+  abbrev order-is : (o : Order) → effectAfter line (orderLine o) d ≡ orderEffect line (d .order) (Fixed o)
+  order-is o = order-line line (d .signals) (partCount d) (operatorCount d) (d .order) o
 
   pub said : (bytes : List ℕ) → Said bytes (effectAfter line bytes d)
   said bytes = go (line-case bytes)
@@ -110,8 +132,10 @@ module _ (d : Draft) (s : Sound (d .signals)) (line : ℕ) where
       go : LineCase bytes → Said bytes (effectAfter line bytes d)
       go (case.declares k name e) = subst (λ l. Said l (effectAfter line l d)) (sym e) (rw (declare-is k name) (declare-said k name))
       go (case.states text e) = subst (λ l. Said l (effectAfter line l d)) (sym e) (rw (rule-is text) (state-said text))
-      go (case.neither f g e) =
-          rw (e line (d .signals) (partCount d) (operatorCount d)) (bad-line (λ k name q. absurd (f k name q)) (λ text q. absurd (g text q)), refl)
+      go (case.orders o e) = subst (λ l. Said l (effectAfter line l d)) (sym e) (rw (order-is o) (order-said o))
+      go (case.neither f g h e) =
+          rw (e line (d .signals) (partCount d) (operatorCount d) (d .order))
+          (bad-line (λ k name q. absurd (f k name q)) (λ text q. absurd (g text q)) (λ o q. absurd (h o q)), refl)
 
   -- ---- and the other way round
 
@@ -123,19 +147,26 @@ module _ (d : Draft) (s : Sound (d .signals)) (line : ℕ) where
   read-after f (declared k name named new few) = rw (declare-is k name, named, new-test name new, few-room (d .signals) k name few)
   read-after f (stated text a is derives known fits) =
       let p = found text a derives in rw (rule-is text, is, p .1, knows-says text .1 known, fits-small d (statedFormula d text a) fits)
+  read-after f (ordered o first) = rw (order-is o, first)
 
   -- a refusal with this number at this line is its effect
   abbrev pub Due : List ℕ → ℕ → Type 0
   Due bytes number = (r : Refusal) × (effectAfter line bytes d ≡ refuses r) × (numberOf r ≡ number) × (placeOf r ≡ line)
 
+  order-twice : (before : OrderSoFar) (o : Order) → ¬ (before ≡ Open) → orderEffect line before (Fixed o) ≡ refuses (BadLine line)
+  order-twice Open o n = absurd (n refl)
+  order-twice (Fixed x) o n = refl
+
   due-bad : (bytes : List ℕ) → ((k : Kind) (name : Name) → bytes ≡ declareLine k name → ¬ (isName name ≡ true))
-      → ((text : List ℕ) → bytes ≡ ruleLine text → ¬ (isText text ≡ true)) → LineCase bytes → effectAfter line bytes d ≡ refuses (BadLine line)
+      → ((text : List ℕ) → bytes ≡ ruleLine text → ¬ (isText text ≡ true)) → ((o : Order) → bytes ≡ orderLine o → ¬ (d .order ≡ Open))
+      → LineCase bytes → effectAfter line bytes d ≡ refuses (BadLine line)
   unfolding declareEffect stateEffect
-  due-bad bytes f g (case.declares k name e) =
+  due-bad bytes f g h (case.declares k name e) =
       elim (test (isName name)) [ inl t ↦ absurd (f k name e t) | inr n ↦ ap (λ l. effectAfter line l d) e ∙ declare-is k name ∙ rw n ]
-  due-bad bytes f g (case.states text e) =
+  due-bad bytes f g h (case.states text e) =
       elim (test (isText text)) [ inl t ↦ absurd (g text e t) | inr n ↦ ap (λ l. effectAfter line l d) e ∙ rule-is text ∙ rw n ]
-  due-bad bytes f g (case.neither _ _ e) = e line (d .signals) (partCount d) (operatorCount d)
+  due-bad bytes f g h (case.orders o e) = ap (λ l. effectAfter line l d) e ∙ order-is o ∙ order-twice (d .order) o (h o e)
+  due-bad bytes f g h (case.neither _ _ _ e) = e line (d .signals) (partCount d) (operatorCount d) (d .order)
 
   full-test : (k : Kind) (name : Name) → ¬ Few (withSignal k name (d .signals)) → isFull k (d .signals) ≡ true
   full-test k name n = elim (test (isFull k (d .signals))) [ inl t ↦ t | inr f ↦ absurd (n (few-more (d .signals) (s .few) k name f)) ]
@@ -148,7 +179,7 @@ module _ (d : Draft) (s : Sound (d .signals)) (line : ℕ) where
 
   pub due : {bytes : List ℕ} {number : ℕ} → LineRefused d bytes number → Due bytes number
   unfolding declareEffect stateEffect
-  due (bad-line {line = bytes} f g) = (BadLine line, due-bad bytes f g (line-case bytes), refl, refl)
+  due (bad-line {line = bytes} f g h) = (BadLine line, due-bad bytes f g h (line-case bytes), refl, refl)
   due (name-twice k name named twice) = (NameTwice line, rw (declare-is k name, named, declares-says name .1 twice), refl, refl)
   due (too-many-signals k name named new full) =
       (TooManySignals line, rw (declare-is k name, named, new-test name new, full-test k name full), refl, refl)

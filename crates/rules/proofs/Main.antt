@@ -16,11 +16,15 @@ use Rattle.formula.specs.Meanings.{AtMostOnce, SometimeBefore, SometimeAfter, A
 use Rattle.formula.specs.Parts.{lastOf}
 use Rattle.formula.specs.Values.{valueOn}
 use Rattle.basics.specs.Limits.{kindLimit}
+use Rattle.basics.specs.Member.{_∈_}
+use Rattle.basics.specs.declared.order.Order.{Order}
 use Rattle.lines.specs.declared.refusal.Refusal.{Refusal}
 use Rattle.lines.specs.declared.refusal.Refusal.the-variants.{BadTrace}
 use Rattle.lines.specs.declared.problem.Kind.{Kind}
 use Rattle.lines.specs.Limits.{nameLimit}
 use Rattle.lines.specs.Refusal.{numberOf, placeOf, Told}
+use Rattle.lines.specs.Lines.{ended, lines, orderLine}
+use Rattle.lines.specs.StepOrder.{defaultOrder}
 use Rattle.lines.specs.Effect.{Signals, count, firstBit, withSignal, planFormula}
 use Rattle.rules.specs.declared.judging.Verdict.the-variants.{True, False, Refused}
 use Rattle.rules.specs.Limits.{workSize}
@@ -39,6 +43,7 @@ use Rattle.lines.proofs.PlanCounts
 use Rattle.rules.proofs.SatisfiesLaws
 use Rattle.rules.proofs.ProblemLaws
 use Rattle.rules.proofs.DenotesLaws
+use Rattle.rules.proofs.ProblemOrder
 use Rattle.rules.proofs.RefusesLaws
 use Rattle.rules.proofs.ReadIffDue
 use Rattle.rules.proofs.WithinLimits
@@ -56,7 +61,7 @@ module _ (source : List ℕ) where
   pub refusing : (r : Refusal) → (readProblem source ≡ refused r) ↔ Refuses source (numberOf r) (placeOf r)
   refusing = RefusesLaws.refused-iff source
 
-  -- both in the reference's terms: the numbers of signals, parts and operators, or a refusal's number and place
+  -- both in the reference's terms: the numbers of signals, parts and operators and the order's, or a refusal's number and place
   pub read-as : (a : Told) → (toldReading (readingOf (readProblem source)) ≡ a) ↔ ReadAs source a
   read-as = ReadIffDue.read-iff source
 
@@ -77,6 +82,14 @@ module _ (source : List ℕ) where
   -- a problem that is read is within the limits
   pub limits : (p : Problem) → readProblem source ≡ accepted p → Within p
   limits = WithinLimits.read-within source
+
+-- the order of a problem is what its line `order` says, wherever that stands, and the default where there is none
+module _ (source : List ℕ) (p : Problem) (denotes : Denotes source p) where
+  pub order-said : (o : Order) → ended (orderLine o) ∈ lines source → p .order ≡ o
+  order-said = ProblemOrder.order-said source p denotes
+
+  pub order-unsaid : ((o : Order) → ¬ (ended (orderLine o) ∈ lines source)) → p .order ≡ defaultOrder
+  order-unsaid = ProblemOrder.order-unsaid source p denotes
 
 -- after each line no signal has a name over 12 bytes, so one in a rule is unknown there
 pub named-first : Named (blank .signals)

@@ -24,9 +24,13 @@ use Rattle.rules.specs.Limits.{sourceLimit}
 use Rattle.formula.specs.Limits.{partLimit}
 use Rattle.formula.specs.Formula.{Formula, size, operators}
 use Rattle.lines.specs.Lines.{lines, tabPlace, hasTab}
-use Rattle.rules.specs.Problem.{rule, joined, joinedLines, sizeIn, operatorsIn, Draft, partCount, operatorCount, Outcome, accepted, refused, finish, withDeclared, withFormula, after, readLines, blank, readProblem}
-use Rattle.lines.specs.Effect.{firstBit, isFull, joint, Effect, declares, states, refuses, withSignal}
-use Rattle.lines.specs.Memory.{signalsIn, countIn, moreSignals, moreParts, addedParts, storedFrom, spanned, readingAfter, spansAfter, partsAfter, Kept, lineEffect, LineRead}
+use Rattle.basics.specs.declared.order.Order.{Order}
+use Rattle.lines.specs.declared.problem.OrderSoFar.the-variants.{Open}
+use Rattle.rules.specs.Problem.{rule, joined, joinedLines, sizeIn, operatorsIn, Draft, partCount, operatorCount, Outcome, accepted, refused}
+use Rattle.rules.specs.Problem.{finish, withDeclared, withFormula, withOrder, after, readLines, blank, readProblem}
+use Rattle.lines.specs.Effect.{firstBit, isFull, joint, Effect, declares, states, orders, refuses, withSignal}
+use Rattle.lines.specs.Memory.{signalsIn, countIn, moreSignals, moreParts, orderIn, fixOrder, addedParts, storedFrom, spanned}
+use Rattle.lines.specs.Memory.{readingAfter, spansAfter, partsAfter, Kept, lineEffect, LineRead}
 use Rattle.rules.specs.Reading.{readingOf, PartsRead, partsOfOutcome}
 use Rattle.basics.proofs.BytesLaws.{past-in}
 use Rattle.lines.proofs.LineFields.{field-is, length-line}
@@ -48,11 +52,12 @@ pub record Going (source p₀ : List ℕ) (at line : ℕ) (s : Sizes) (spans p :
   pub signals : draft .signals ≡ signalsIn source s spans
   pub parts : partCount draft ≡ s .parts
   pub operators : operatorCount draft ≡ s .operators
+  pub order : draft .order ≡ s .order
   pub stored : p ≡ storedFrom (written (joinedLines (draft .lines))) 0 p₀
   pub kept : Kept source s spans p
 
 abbrev pub noSizes : Sizes
-noSizes = record { outputs = 0; observed = 0; hidden = 0; parts = 0; operators = 0 }
+noSizes = record { outputs = 0; observed = 0; hidden = 0; parts = 0; operators = 0; order = Open }
 
 spans-none : (source : List ℕ) → Spans source (replicate (2 * bits) 0)
 spans-none source =
@@ -79,6 +84,7 @@ begin source p h =
       signals = refl;
       parts = refl;
       operators = refl;
+      order = refl;
       stored = refl;
       kept = record {
         spans-in = spans-none source;
@@ -103,10 +109,11 @@ more-few source spans Output s f h = let n = eqb-false (s .outputs) kindLimit (o
 more-few source spans Observed s f h = let n = eqb-false (s .observed) kindLimit (or-left (eqb (s .observed) kindLimit) _ f) in omega (arith, n)
 more-few source spans Hidden s f h = let n = eqb-false (s .hidden) kindLimit (or-left (eqb (s .hidden) kindLimit) _ f) in omega (arith, n)
 
-same-parts : (k : Kind) (s : Sizes) → (moreSignals k s .parts ≡ s .parts) × (moreSignals k s .operators ≡ s .operators)
-same-parts Output s = (refl, refl)
-same-parts Observed s = (refl, refl)
-same-parts Hidden s = (refl, refl)
+same-parts : (k : Kind) (s : Sizes)
+    → (moreSignals k s .parts ≡ s .parts) × (moreSignals k s .operators ≡ s .operators) × (moreSignals k s .order ≡ s .order)
+same-parts Output s = (refl, refl, refl)
+same-parts Observed s = (refl, refl, refl)
+same-parts Hidden s = (refl, refl, refl)
 
 tab-in : (source : List ℕ) (at end : ℕ) → at ≤ end → end ≤ length source → hasTab (between source at end) ≡ true → at + tabPlace
     (between source at end) + 1 ≤ end
@@ -144,7 +151,7 @@ module _ {source p₀ : List ℕ} {at line : ℕ} {s : Sizes} {spans p : List �
       unfolding readLines
       rest-after =
           sym (g .rest) ∙ ap (λ ls. readLines line ls (g .draft)) (lines-ended source at end e (g .inside) l)
-          ∙ rw (g .signals, g .parts, g .operators)
+          ∙ rw (g .signals, g .parts, g .operators, g .order)
 
       module _ {spans′ p′ : List ℕ} {r : Reading} (d : LineRead source at end line s spans p spans′ p′ r) where
         pub refused-line : (x : Refusal) → r ≡ Refused x → whole ≡ refused x
@@ -153,6 +160,7 @@ module _ {source p₀ : List ℕ} {at line : ℕ} {s : Sizes} {spans p : List �
             go : (f : Effect) → effect ≡ f → whole ≡ refused x
             go (declares k name) i = not-refused x _ (sym q ∙ d .reading ∙ ap (λ f. readingAfter f s) i)
             go (states φ) i = not-refused x _ (sym q ∙ d .reading ∙ ap (λ f. readingAfter f s) i)
+            go (orders o) i = not-refused x _ (sym q ∙ d .reading ∙ ap (λ f. readingAfter f s) i)
             go (refuses y) i =
                 rest-after ∙ ap (λ f. after f (g .draft) (readLines (suc line) (lines (drop (end + 1) source)))) i
                 ∙ ap refused (sym (same-refusal x y (sym q ∙ d .reading ∙ ap (λ f. readingAfter f s) i)))
@@ -163,7 +171,7 @@ module _ {source p₀ : List ℕ} {at line : ℕ} {s : Sizes} {spans p : List �
         -- the memory after a signal
         declares-going : (k : Kind) (name : List ℕ) → effect ≡ declares k name → (t : Sizes) → r ≡ Accepted t → Going source p₀ (end + 1) (line + 1) t spans′ p′
         declares-going k name i t q =
-            let b = declaring line (between source at end) (signalsIn source s spans) (s .parts) (s .operators) k name i in
+            let b = declaring line (between source at end) (signalsIn source s spans) (s .parts) (s .operators) (s .order) k name i in
             let kept = g .kept in
             let few = more-few source spans k s (b .room) (kept .outputs-few, kept .observed-few, kept .hidden-few) in
             let place = tab-in source at end (line-in .0) (line-in .1) (b .tab) in
@@ -182,6 +190,7 @@ module _ {source p₀ : List ℕ} {at line : ℕ} {s : Sizes} {spans p : List �
                   ∙ sym (signals-more source spans (kept .spans-in) k s _ end (few .3) ∙ ap (λ x. withSignal k x (signalsIn source s spans)) n);
               parts = g .parts ∙ sym (same-parts k s .0);
               operators = g .operators ∙ sym (same-parts k s .1);
+              order = g .order ∙ sym (same-parts k s .2);
               stored = g .stored;
               kept = record {
                 spans-in = spans-more source spans (kept .spans-in) (firstBit k + countIn k s) _ end (few .3) place (line-in .1);
@@ -200,7 +209,7 @@ module _ {source p₀ : List ℕ} {at line : ℕ} {s : Sizes} {spans p : List �
             let kept = g .kept in
             let f : Option Formula = joinedLines (g .draft .lines) in
             let joined-now : joinedLines (g .draft .lines ++ (rule φ ∷ [])) ≡ some (joined f φ) = joined-more (g .draft .lines) φ in
-            let small = stating line (between source at end) (signalsIn source s spans) (s .parts) (s .operators) φ i in
+            let small = stating line (between source at end) (signalsIn source s spans) (s .parts) (s .operators) (s .order) φ i in
             let sizes : moreParts (size φ) (operators φ) s ≡ t = same-sizes _ t (sym (ap (λ f. readingAfter f s) i) ∙ sym (d .reading) ∙ q) in
             let here : spans′ ≡ spans = d .spans-left ∙ ap (λ f. spansAfter f s (at + tabPlace (between source at end) + 1) end spans) i in
             let left : p′ ≡ storedFrom (addedParts φ (s .parts)) (s .parts) p = d .parts-left ∙ ap (λ f. partsAfter f s p) i in
@@ -213,6 +222,7 @@ module _ {source p₀ : List ℕ} {at line : ℕ} {s : Sizes} {spans p : List �
               signals = g .signals;
               parts = ap sizeIn joined-now ∙ sym (size-joined f φ) ∙ ap (λ n. n + size φ + joint n) (g .parts);
               operators = ap operatorsIn joined-now ∙ sym (operators-joined f φ) ∙ ap (λ n. n + operators φ) (g .operators);
+              order = g .order;
               stored = ap (λ n. storedFrom (addedParts φ n) n p) (sym (g .parts))
                   ∙ ap (storedFrom (addedParts φ (sizeIn f)) (sizeIn f)) (g .stored)
                   ∙ stored-joined f φ p₀ ∙ ap (λ x. storedFrom (written x) 0 p₀) (sym joined-now);
@@ -227,32 +237,63 @@ module _ {source p₀ : List ℕ} {at line : ℕ} {s : Sizes} {spans p : List �
               };
             })
 
+        -- the memory after an order
+        orders-going : (o : Order) → effect ≡ orders o → (t : Sizes) → r ≡ Accepted t → Going source p₀ (end + 1) (line + 1) t spans′ p′
+        orders-going o i t q =
+            let kept = g .kept in
+            let sizes : fixOrder o s ≡ t = same-sizes _ t (sym (ap (λ f. readingAfter f s) i) ∙ sym (d .reading) ∙ q) in
+            let here : spans′ ≡ spans = d .spans-left ∙ ap (λ f. spansAfter f s (at + tabPlace (between source at end) + 1) end spans) i in
+            let left : p′ ≡ p = d .parts-left ∙ ap (λ f. partsAfter f s p) i in
+            rw (← sizes, here, left)
+            (record {
+              draft = withOrder o (g .draft);
+              inside = omega arith;
+              numbered = omega (arith, g .numbered, line-in);
+              rest = rw (add-one line) (goes-on (orders o) i);
+              signals = g .signals;
+              parts = g .parts;
+              operators = g .operators;
+              order = refl;
+              stored = g .stored;
+              kept = record {
+                spans-in = kept .spans-in;
+                outputs-few = kept .outputs-few;
+                observed-few = kept .observed-few;
+                hidden-few = kept .hidden-few;
+                parts-few = kept .parts-few;
+                operators-few = kept .operators-few;
+                parts-long = kept .parts-long;
+              };
+            })
+
         pub accepted-line : (t : Sizes) → r ≡ Accepted t → Going source p₀ (end + 1) (line + 1) t spans′ p′
         accepted-line t q = go effect refl
           where
             go : (f : Effect) → effect ≡ f → Going source p₀ (end + 1) (line + 1) t spans′ p′
             go (declares k name) i = declares-going k name i t q
             go (states φ) i = states-going φ i t q
+            go (orders o) i = orders-going o i t q
             go (refuses x) i = not-refused x t (sym (ap (λ f. readingAfter f s) i) ∙ sym (d .reading) ∙ q)
 
   -- ---- no more lines
 
   module _ (h : length source ≤ at) where
-    finished : whole ≡ finish (g .draft .signals) (g .draft .lines)
+    finished : whole ≡ finish (g .draft .signals) (g .draft .order) (g .draft .lines)
     unfolding readLines
     finished = sym (g .rest) ∙ ap (λ ls. readLines line ls (g .draft)) (lines-none source at h)
 
     pub no-formula : s .parts ≡ 0 → whole ≡ refused NoFormula
-    no-formula z = finished ∙ ap (finish (g .draft .signals)) (no-parts (g .draft .lines) (g .parts ∙ z))
+    no-formula z = finished ∙ ap (finish (g .draft .signals) (g .draft .order)) (no-parts (g .draft .lines) (g .parts ∙ z))
 
-    -- a problem that is read has the counts that are kept, and its parts are stored
-    pub some-formula : (s .parts ≡ 0 → ⊥) → (Accepted s ≡ readingOf whole) × PartsRead whole p₀ p
+    -- a problem that is read has the counts and the order that are kept, and its parts are stored
+    pub some-formula : (s .parts ≡ 0 → ⊥) → (t : Sizes) → t ≡ fixOrder (orderIn s) s → (Accepted t ≡ readingOf whole) × PartsRead whole p₀ p
     unfolding written
-    some-formula z =
+    some-formula z t i =
         let some-line : ¬ (g .draft .lines ≡ []) = λ e. z (sym (g .parts) ∙ ap (λ ls. sizeIn (joinedLines ls)) e) in
         let (φ, e) = joined-some (g .draft .lines) some-line in
-        rw (finished, finish-some (g .draft .signals) (g .draft .lines) some-line)
-        (rw (g .signals, e, sym (ap sizeIn e) ∙ g .parts, sym (ap operatorsIn e) ∙ g .operators) (refl, g .stored ∙ ap (λ f. storedFrom (written f) 0 p₀) e))
+        rw (finished, finish-some (g .draft .signals) (g .draft .order) (g .draft .lines) some-line, i)
+        (rw (g .signals, g .order, e, sym (ap sizeIn e) ∙ g .parts, sym (ap operatorsIn e) ∙ g .operators)
+        (refl, g .stored ∙ ap (λ f. storedFrom (written f) 0 p₀) e))
 
 pub refused-answer : (o : Outcome) (x : Refusal) (q q′ : List ℕ) → o ≡ refused x → (Refused x ≡ readingOf o) × PartsRead o q q′
 refused-answer o x q q′ e = rw e (refl, tt)

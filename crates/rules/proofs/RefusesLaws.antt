@@ -13,10 +13,11 @@ use Rattle.lines.specs.declared.refusal.Refusal.{Refusal}
 use Rattle.lines.specs.declared.refusal.Refusal.the-variants.{LongSource, BadLine, NoFormula}
 use Rattle.lines.specs.Refusal.{numberOf, placeOf}
 use Rattle.lines.specs.Lines.{SourceLine, ended, unended, lines}
-use Rattle.lines.specs.Effect.{Effect, declares, states, refuses}
+use Rattle.lines.specs.Effect.{Effect, declares, states, orders, refuses}
 use Rattle.lines.proofs.RefusalLaws.{same-told}
 use Rattle.rules.specs.Limits.{sourceLimit}
-use Rattle.rules.specs.Problem.{Line, Draft, Problem, Outcome, accepted, refused, finish, after, effectAfter, withDeclared, withFormula, readLines, blank, readProblem}
+use Rattle.rules.specs.Problem.{Line, Draft, Problem, Outcome, accepted, refused, finish, after, effectAfter}
+use Rattle.rules.specs.Problem.{withDeclared, withFormula, withOrder, readLines, blank, readProblem}
 use Rattle.rules.specs.Denotes.{Denotes}
 use Rattle.rules.specs.Refuses.{LineRefused, bad-line, name-twice, too-many-signals, bad-formula, unknown-name, too-many-parts}
 use Rattle.rules.specs.Refuses.{RefusedFrom, not-ended, here, later, no-formula, Refuses, long-source, in-lines}
@@ -37,11 +38,13 @@ after-told : (line : ℕ) (l : List ℕ) (ls : List SourceLine) (d : Draft) (r :
 unfolding DueFrom
 after-told line l ls d r s (declares k name) i ih h = later (withDeclared k name d) i (ih _ (sound-after s i) h)
 after-told line l ls d r s (states φ) i ih h = later (withFormula φ d) i (ih _ (sound-after s i) h)
+after-told line l ls d r s (orders o) i ih h = later (withOrder o d) i (ih _ (sound-after s i) h)
 after-told line l ls d r s (refuses q) i ih h =
     subst (DueFrom line d (ended l ∷ ls)) (same-refused q r h)
     (subst (RefusedFrom line d (ended l ∷ ls) (numberOf q)) (sym (i .1)) (here (i .0)))
 
-finish-told : (line : ℕ) (d : Draft) (r : Refusal) (ls : List Line) → d .lines ≡ ls → finish (d .signals) ls ≡ refused r → DueFrom line d [] r
+finish-told : (line : ℕ) (d : Draft) (r : Refusal) (ls : List Line) → d .lines ≡ ls → finish (d .signals) (d .order) ls ≡ refused r
+    → DueFrom line d [] r
 unfolding DueFrom
 finish-told line d r [] e h = subst (DueFrom line d []) (same-refused NoFormula r h) (no-formula e)
 finish-told line d r (l ∷ ls) e h = not-accepted r _ (sym h)
@@ -67,7 +70,7 @@ from-refused s (here {at = line} {d = d} {ls = ls} l) =
     let r = due d s line l in (r .0, ap (λ e. after e d (readLines (suc line) ls)) (r .1), r .2, r .3)
 from-refused s (later {at = line} {d = d} {ls = ls} d′ l f) =
     let r = from-refused (sound-after s l) f in (r .0, read-after d s line (readLines (suc line) ls) l ∙ r .1, r .2, r .3)
-from-refused s (no-formula {d = d} e) = (NoFormula, ap (finish (d .signals)) e, refl, refl)
+from-refused s (no-formula {d = d} e) = (NoFormula, ap (finish (d .signals) (d .order)) e, refl, refl)
 
 -- ---- a whole text
 
@@ -114,7 +117,7 @@ module _ (source : List ℕ) where
 -- ---- the numbers are 1 to 8
 
 line-number : {d : Draft} {line : List ℕ} {number : ℕ} → LineRefused d line number → number ≤ 8
-line-number (bad-line f g) = omega arith
+line-number (bad-line f g h) = omega arith
 line-number (name-twice k name named twice) = omega arith
 line-number (too-many-signals k name named new full) = omega arith
 line-number (bad-formula text is underived) = omega arith

@@ -18,11 +18,12 @@ use Rattle.formula.specs.Formula.{Formula, size, operators}
 use Rattle.formula.specs.Parts.{partsFrom, partsOf}
 use Rattle.lines.specs.Limits.{nameLimit}
 use Rattle.lines.specs.Lines.{SourceLine}
-use Rattle.rules.specs.Problem.{joined, joinedLines, sizeIn, operatorsIn, Draft, partCount, operatorCount, Problem, problemParts, accepted, blank, readProblem}
+use Rattle.rules.specs.Problem.{joined, joinedLines, sizeIn, operatorsIn, Draft, partCount, operatorCount, Problem, problemParts}
+use Rattle.rules.specs.Problem.{accepted, blank, readProblem}
 use Rattle.lines.specs.Effect.{Signals, count, firstBit, withSignal}
 use Rattle.rules.specs.Within.{Few, Within}
 use Rattle.rules.specs.Within.{Named}
-use Rattle.rules.specs.Denotes.{IsDeclared, Reads, declared, stated, Make, done, next}
+use Rattle.rules.specs.Denotes.{IsDeclared, Reads, declared, stated, ordered, Make, done, next}
 use Rattle.formula.proofs.CodesLaws.{Held, Coded, held-binary}
 use Rattle.lines.proofs.TreeCodes.{derived-stands}
 use Rattle.lines.proofs.LinesLaws.{name-short}
@@ -71,6 +72,7 @@ named-blank = record { all = refl; short = λ name m. empty name m }
 pub named-reads : {d d′ : Draft} {l : List ℕ} → Named (d .signals) → Reads d l d′ → Named (d′ .signals)
 named-reads {d} n (declared k name named new few) = named-more (d .signals) n k name (name-short name named)
 named-reads n (stated text a is derives known fits) = n
+named-reads n (ordered o first) = n
 
 -- ---- formulas
 
@@ -111,6 +113,8 @@ reads-small {d} s (stated text a is derives known fits) =
       parts = fits .0;
       operators = fits .1;
     }
+reads-small s (ordered o first) =
+    record { few = s .few; named = s .named; coded = s .coded; parts = s .parts; operators = s .operators }
 
 -- ---- a whole problem
 

@@ -1,4 +1,5 @@
--- What a problem's text means by the written grammar: its signals, and the formula that each rule derives, with no reader in between.
+-- What a problem's text means by the written grammar: its signals, the order of a step, and the formula that each rule derives, with no
+-- reader in between.
 -- `proofs/DenotesLaws.antt` shows that reading a problem finds exactly this, and hence that it is one.
 -- Assumes nothing.
 use Prim.Native.Nat.{ℕ, _≤_}
@@ -19,8 +20,11 @@ use Rattle.lines.specs.declared.problem.Kind.{Kind}
 use Rattle.rules.specs.Limits.{sourceLimit}
 use Rattle.formula.specs.Limits.{partLimit}
 use Rattle.formula.specs.Formula.{Formula}
-use Rattle.lines.specs.Lines.{SourceLine, ended, lines, declareLine, ruleLine, isName, isText}
-use Rattle.rules.specs.Problem.{partCount, operatorCount, Draft, withDeclared, withFormula, Problem, blank}
+use Rattle.basics.specs.declared.order.Order.{Order}
+use Rattle.lines.specs.declared.problem.OrderSoFar.the-variants.{Open}
+use Rattle.lines.specs.Lines.{SourceLine, ended, lines, declareLine, ruleLine, orderLine, isName, isText}
+use Rattle.lines.specs.StepOrder.{orderOr}
+use Rattle.rules.specs.Problem.{partCount, operatorCount, Draft, withDeclared, withFormula, withOrder, Problem, blank}
 use Rattle.lines.specs.Effect.{Signals, withSignal, formulaOf}
 use Rattle.rules.specs.Within.{Few}
 
@@ -45,10 +49,11 @@ pub data Reads (d : Draft) : List ℕ → Draft → Type 0 where
       → Reads d (declareLine k name) (withDeclared k name d)
   stated : (text : List ℕ) (a : Tree) → isText text ≡ true → Derived text a → AllDeclared (d .signals) text
       → Fits (withFormula (statedFormula d text a) d) → Reads d (ruleLine text) (withFormula (statedFormula d text a) d)
+  ordered : (o : Order) → d .order ≡ Open → Reads d (orderLine o) (withOrder o d)
 
--- the lines that are left make a problem of what was read
+-- the lines that are left make a problem of what was read; its order is the default where no line says it
 pub data Make : Draft → List SourceLine → Problem → Type 0 where
-  done : {d : Draft} → ¬ (d .lines ≡ []) → Make d [] (record { signals = d .signals; lines = d .lines })
+  done : {d : Draft} → ¬ (d .lines ≡ []) → Make d [] (record { signals = d .signals; order = orderOr (d .order); lines = d .lines })
   next : {d : Draft} {l : List ℕ} {ls : List SourceLine} {p : Problem} (d′ : Draft) → Reads d l d′ → Make d′ ls p → Make d (ended l ∷ ls) p
 
 -- the text is a problem

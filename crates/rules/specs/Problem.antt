@@ -14,8 +14,12 @@ use Rattle.rules.specs.Limits.{sourceLimit}
 use Rattle.formula.specs.Formula.{Formula, True, And, size, operators}
 use Rattle.formula.specs.Parts.{partsOf}
 use Rattle.formula.specs.declared.parts.Part.{Part}
+use Rattle.basics.specs.declared.order.Order.{Order}
+use Rattle.lines.specs.declared.problem.OrderSoFar.{OrderSoFar}
+use Rattle.lines.specs.declared.problem.OrderSoFar.the-variants.{Open, Fixed}
 use Rattle.lines.specs.Lines.{SourceLine, ended, unended, lines}
-use Rattle.lines.specs.Effect.{Effect, Signals, declares, effectOf, noSignals, refuses, states, withSignal}
+use Rattle.lines.specs.StepOrder.{orderOr}
+use Rattle.lines.specs.Effect.{Effect, Signals, declares, effectOf, noSignals, orders, refuses, states, withSignal}
 
 -- what a line asks of a trace
 pub data Line : Type 0 where
@@ -44,6 +48,7 @@ operatorsIn (some φ) = operators φ
 -- what has been read so far
 pub record Draft : Type 0 where
   pub signals : Signals
+  pub order : OrderSoFar
   pub lines : List Line
 
 -- its parts and temporal operators
@@ -55,6 +60,7 @@ operatorCount d = operatorsIn (joinedLines (d .lines))
 
 pub record Problem : Type 0 where
   pub signals : Signals
+  pub order : Order
   pub lines : List Line
 
 -- a problem's formula (true where there is no line, which is never read), and its parts
@@ -74,32 +80,37 @@ pub data Outcome : Type 0 where
   accepted : Problem → Outcome
   refused : Refusal → Outcome
 
-abbrev pub finish : Signals → List Line → Outcome
-finish g [] = refused NoFormula
-finish g (l ∷ ls) = accepted (record { signals = g; lines = l ∷ ls })
+-- an order that no line has said is the default
+abbrev pub finish : Signals → OrderSoFar → List Line → Outcome
+finish g o [] = refused NoFormula
+finish g o (l ∷ ls) = accepted (record { signals = g; order = orderOr o; lines = l ∷ ls })
 
 abbrev pub withDeclared : Kind → Name → Draft → Draft
-withDeclared k name d = record { signals = withSignal k name (d .signals); lines = d .lines }
+withDeclared k name d = record { signals = withSignal k name (d .signals); order = d .order; lines = d .lines }
 
 abbrev pub withFormula : Formula → Draft → Draft
-withFormula φ d = record { signals = d .signals; lines = d .lines ++ (rule φ ∷ []) }
+withFormula φ d = record { signals = d .signals; order = d .order; lines = d .lines ++ (rule φ ∷ []) }
+
+abbrev pub withOrder : Order → Draft → Draft
+withOrder o d = record { signals = d .signals; order = Fixed o; lines = d .lines }
 
 abbrev pub after : Effect → Draft → (Draft → Outcome) → Outcome
 after (declares k name) d f = f (withDeclared k name d)
 after (states φ) d f = f (withFormula φ d)
+after (orders o) d f = f (withOrder o d)
 after (refuses r) d f = refused r
 
 abbrev pub effectAfter : ℕ → List ℕ → Draft → Effect
-effectAfter line bytes d = effectOf line bytes (d .signals) (partCount d) (operatorCount d)
+effectAfter line bytes d = effectOf line bytes (d .signals) (partCount d) (operatorCount d) (d .order)
 
 -- the lines from one line on
 unfoldable pub readLines : ℕ → List SourceLine → Draft → Outcome
-readLines line [] d = finish (d .signals) (d .lines)
+readLines line [] d = finish (d .signals) (d .order) (d .lines)
 readLines line (unended l ∷ ls) d = refused (BadLine line)
 readLines line (ended l ∷ ls) d = after (effectAfter line l d) d (readLines (suc line) ls)
 
 abbrev pub blank : Draft
-blank = record { signals = noSignals; lines = [] }
+blank = record { signals = noSignals; order = Open; lines = [] }
 
 unfoldable pub readProblem : List ℕ → Outcome
 readProblem source = cond (ltb sourceLimit (length source)) (refused LongSource) (readLines 1 (lines source) blank)

@@ -9,7 +9,9 @@ use Rattle.lines.specs.declared.problem.Reading.{Reading}
 use Rattle.lines.specs.declared.problem.Reading.the-variants.{Accepted, Refused}
 use Rattle.formula.specs.Formula.{size, operators}
 use Rattle.rules.specs.Problem.{Problem, formulaIn, problemParts, Outcome, accepted, refused}
-use Rattle.lines.specs.Memory.{storedFrom}
+use Rattle.lines.specs.declared.problem.OrderSoFar.the-variants.{Fixed}
+use Rattle.basics.specs.Order.{orderNumber}
+use Rattle.lines.specs.Memory.{storedFrom, orderIn}
 use Rattle.lines.specs.Refusal.{Told, values, toldRefusal}
 use Rattle.lines.specs.Refusal as told
 use Rattle.rules.specs.Denotes.{Denotes}
@@ -23,6 +25,7 @@ sizesOf p =
       hidden = p .signals .hidden;
       parts = size (formulaIn p);
       operators = operators (formulaIn p);
+      order = Fixed (p .order);
     }
 
 abbrev pub readingOf : Outcome → Reading
@@ -41,13 +44,18 @@ partsOfOutcome (refused r) q = replicate (length q) 0
 
 -- ---- what is due
 
--- a reading in the reference's terms: how many output, observed and hidden signals, parts and temporal operators; or a refusal's number
--- and place
+-- a reading in the reference's terms: how many output, observed and hidden signals, parts and temporal operators, and the order's number;
+-- or a refusal's number and place
 abbrev pub toldReading : Reading → Told
-toldReading (Accepted s) = values (s .outputs ∷ s .observed ∷ s .hidden ∷ s .parts ∷ s .operators ∷ [])
+toldReading (Accepted s) = values (s .outputs ∷ s .observed ∷ s .hidden ∷ s .parts ∷ s .operators ∷ orderNumber (orderIn s) ∷ [])
 toldReading (Refused r) = toldRefusal r
 
+-- what is told of a problem
+abbrev pub toldProblem : Problem → Told
+toldProblem p =
+    values
+    (p .signals .outputs ∷ p .signals .observed ∷ p .signals .hidden ∷ size (formulaIn p) ∷ operators (formulaIn p) ∷ orderNumber (p .order) ∷ [])
+
 pub data ReadAs (source : List ℕ) : Told → Type 0 where
-  denoted : (p : Problem) → Denotes source p
-      → ReadAs source (values (p .signals .outputs ∷ p .signals .observed ∷ p .signals .hidden ∷ size (formulaIn p) ∷ operators (formulaIn p) ∷ []))
+  denoted : (p : Problem) → Denotes source p → ReadAs source (toldProblem p)
   bad-source : (number place : ℕ) → Refuses source number place → ReadAs source (told.refused number place)

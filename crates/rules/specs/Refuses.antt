@@ -11,7 +11,9 @@ use Rattle.grammar.specs.Grammar.{Derived}
 use Rattle.grammar.specs.Names.{Name}
 use Rattle.lines.specs.declared.problem.Kind.{Kind}
 use Rattle.rules.specs.Limits.{sourceLimit}
-use Rattle.lines.specs.Lines.{SourceLine, ended, unended, lines, declareLine, ruleLine, isName, isText}
+use Rattle.basics.specs.declared.order.Order.{Order}
+use Rattle.lines.specs.declared.problem.OrderSoFar.the-variants.{Open}
+use Rattle.lines.specs.Lines.{SourceLine, ended, unended, lines, declareLine, ruleLine, orderLine, isName, isText}
 use Rattle.lines.specs.Effect.{withSignal}
 use Rattle.rules.specs.Problem.{Draft, withFormula, blank}
 use Rattle.rules.specs.Within.{Few}
@@ -19,9 +21,10 @@ use Rattle.rules.specs.Denotes.{IsDeclared, AllDeclared, statedFormula, 
 
 -- the number with which a line is refused, after what was read before it
 pub data LineRefused (d : Draft) : List ℕ → ℕ → Type 0 where
-  -- 2: it neither declares a name nor states a formula's text
+  -- 2: it neither declares a name, nor states a formula's text, nor is the first to say the order
   bad-line : {line : List ℕ} → ((k : Kind) (name : Name) → line ≡ declareLine k name → ¬ (isName name ≡ true))
-      → ((text : List ℕ) → line ≡ ruleLine text → ¬ (isText text ≡ true)) → LineRefused d line 2
+      → ((text : List ℕ) → line ≡ ruleLine text → ¬ (isText text ≡ true)) → ((o : Order) → line ≡ orderLine o → ¬ (d .order ≡ Open))
+      → LineRefused d line 2
   -- 3: it declares a name again
   name-twice : (k : Kind) (name : Name) → isName name ≡ true → IsDeclared (d .signals) name → LineRefused d (declareLine k name) 3
   -- 4: it declares the fifth signal of a kind, or the tenth in all

@@ -12,12 +12,15 @@ use basics::Class;
 use basics::clear_words;
 use basics::past;
 use grammar::BITS;
+use lines::OrderSoFar;
 use lines::Reading;
 use lines::Refusal;
 use lines::Sizes;
 use lines::Word;
 use lines::add_formula;
+use lines::add_order;
 use lines::declare;
+use lines::ordered;
 use lines::word_of;
 
 // Reads line `line`, the source's bytes from at up to end.
@@ -40,9 +43,11 @@ fn read_line(
         return Reading::Refused(Refusal::BadLine(line));
     }
     let start = at + tab + 1;
+    let second = &source[start..end];
     match word_of(&bytes[..tab]) {
         Word::Declare(kind) => declare(source, start, end, line, kind, s, spans),
-        Word::Rule => add_formula(source, spans, &source[start..end], line, s, parts),
+        Word::Rule => add_formula(source, spans, second, line, s, parts),
+        Word::Order => add_order(second, line, s),
         Word::Unknown => Reading::Refused(Refusal::BadLine(line)),
     }
 }
@@ -61,6 +66,7 @@ fn read_lines(source: &[u8], parts: &mut [u32]) -> Reading
         hidden: 0,
         parts: 0,
         operators: 0,
+        order: OrderSoFar::Open,
     };
     let mut at = 0;
     let mut line = 1;
@@ -83,7 +89,7 @@ fn read_lines(source: &[u8], parts: &mut [u32]) -> Reading
     if s.parts == 0 {
         return Reading::Refused(Refusal::NoFormula);
     }
-    Reading::Accepted(s)
+    Reading::Accepted(ordered(s))
 }
 
 // The most bytes of a problem's text.
@@ -101,7 +107,7 @@ fn read_source(source: &[u8], parts: &mut [u32]) -> Reading
     read_lines(source, parts)
 }
 
-// Reads a problem: how many signals, parts and operators it has, with the parts of its formula at the front of the
+// Reads a problem: how many signals, parts and operators it has, and its order, with the parts of its formula at the front of the
 // list, or a refusal from 1 to 8, with the list all zero.
 pub fn read(source: &[u8], parts: &mut [u32]) -> Reading
     requires { ⌜ length (now parts) ≡ partLimit ⌝ }

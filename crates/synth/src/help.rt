@@ -16,6 +16,9 @@ A problem is lines of two fields parted by ONE TAB, each ended by a line feed:
   see   NAME       a signal that it reads
   hid   NAME       a signal that it never sees
   rule  FORMULA    what the run must satisfy; rules are joined by \"and\"
+  order set        in each step the controller sets its signals, and then reads;
+                   it does so, too, where no line says the order
+  order read       in each step it reads, and then sets
 A name is a lowercase letter and up to 11 more, digits or _; not true, false or
 a plan word. A formula uses names declared above it. Operators, loosest first:
   p -> q           implies; groups to the right
@@ -32,8 +35,8 @@ a plan word. A formula uses names declared above it. Operators, loosest first:
   within(n,a,b)    where a is, b is then or up to n steps later; n is 0 to 5
   during(m,n,a)    a at steps m to n from here on, if there; 1 <= m <= n <= 7
 
-In each step the controller first sets its signals, and then reads. The answer
-is a table, its fields parted by tabs: here for out a, see s, rule s -> X a.
+The answer is a table, its fields parted by tabs: here for out a, see s, and
+rule s -> X a.
   table  3  2      3 rows; every run stops after 2 steps at the latest
   row  0  0  1  2  row 0, the start: choice 0; then row 1 if s is false, else 2
   row  1  stop     row 1: the run ends
@@ -41,11 +44,15 @@ is a table, its fields parted by tabs: here for out a, see s, rule s -> X a.
 A choice is the sum of the out signals that are set: 1 for the first declared,
 2, 4 and 8 for those after it. An observation is such a sum of the see signals;
 behind the choice stands the next row for observation 0, 1, 2 and so on.
+With order read the first word is rtable, and a row has a choice and a next row
+for observation 0, then for 1, and so on: row  0  0  1  0  2 is choice 0, then
+row 1, if s is false, and choice 0, then row 2, if s is true.
 
 Or the answer is one line: refused, a number, and the line it is about, or 0:
    1  over 4,096 bytes
-   2  the line is not a word, one tab, a name or 1 to 240 bytes of formula, and
-      a line feed. Often a space for the tab, or a carriage return (CRLF)
+   2  the line is not a word, one tab, a name, 1 to 240 bytes of formula or an
+      order, and a line feed; or it is a second order. Often a space for the
+      tab, or a carriage return (CRLF)
    3  the name is declared already
    4  the fifth signal of its kind, or the tenth
    5  the formula breaks the grammar. Often && for &, || for |, or CRLF, or

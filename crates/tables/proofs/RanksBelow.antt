@@ -1,6 +1,6 @@
 -- Ranks searched below a bound, and what entries of an array of ranks say of them.
 -- Assumes nothing.
-use Prim.Native.Nat.{ℕ, zero, suc, pred, _≤_, _<_}
+use Prim.Native.Nat.{ℕ, zero, suc, _≤_, _<_}
 use native.Mathlib.Nat.{not-suc-le-zero, le-of-suc-le-suc, le-refl}
 use native.Mathlib.Decide.{decLt}
 use native.Mathlib.Omega.{arith}
@@ -9,32 +9,31 @@ use mathlib.Core.Logic.{inl, inr}
 use mathlib.Core.Bool.{Bool, true, false, cond, _||_}
 use lib.Dec.{ltb}
 use borrow.Author.Tests.{ltb-true, lt-ltb, le-ltb}
-use Rattle.basics.specs.Bounded.{all, firstThat}
+use Rattle.basics.specs.declared.order.Order.{Order}
 use Rattle.basics.proofs.Booleans.{test, clash}
-use Rattle.basics.proofs.BoundedLaws.{all-ext, any-ext, first-ext, first-of, first-is, first-passes, first-least, none-first}
-use Rattle.play.specs.Rank.{Arena, setFirst, rankBelow, choiceWithin}
-use Rattle.play.proofs.StepOrder.{setOrder}
+use Rattle.basics.proofs.BoundedLaws.{first-of, first-is, first-passes, first-least, none-first}
+use Rattle.play.specs.Rank.{Arena, can, rankFrom}
+use Rattle.play.proofs.StepOrder.{StepOrder, orderOf, can-ext}
 use Rattle.play.proofs.RankLaws.{In, within-le}
 use Rattle.tables.specs.PositionMemory.{noRank, rankIfBelow}
 
-module _ (A : Arena) (choices observations : ℕ) where
+module _ (o : Order) (A : Arena) (choices observations : ℕ) where
+  abbrev O : StepOrder choices observations
+  O = orderOf o choices observations
+
   abbrev rank : ℕ → A .K → ℕ
-  rank r k = rankBelow A (setFirst choices observations) r k
+  rank r k = rankFrom o A choices observations r k
 
   abbrev entry : ℕ → A .K → ℕ
-  entry r k = rankIfBelow A choices observations r k
+  entry r k = rankIfBelow o A choices observations r k
 
   -- the rank of k is at most q
   abbrev Within : ℕ → A .K → Bool
-  Within q k = In (setOrder choices observations) A q k
+  Within q k = In O A q k
 
   -- the rank of k is below r
   abbrev pub Below : ℕ → A .K → Bool
   Below r k = ltb (rank r k) r
-
-  -- after choice c every observation leads to a rank below r
-  abbrev pub leadsBelow : ℕ → A .K → ℕ → Bool
-  leadsBelow r k c = all observations (λ s. Below r (A .move k c s))
 
   pub entry-ranked : (r : ℕ) (k : A .K) → Below r k ≡ true → entry r k ≡ rank r k
   entry-ranked r k t = ap (λ (b : Bool). cond b (rank r k) noRank) t
@@ -79,17 +78,17 @@ module _ (A : Arena) (choices observations : ℕ) where
         | inr f ↦
             let none : rank (suc q) k ≡ suc q =
             none-first (λ i. Within i k) (suc q) (λ i h.
-            elim (test (Within i k)) [ inl t ↦ clash (within-le (setOrder choices observations) A i q k (le-of-suc-le-suc h) t) f | inr g ↦ g ]) in
+            elim (test (Within i k)) [ inl t ↦ clash (within-le O A i q k (le-of-suc-le-suc h) t) f | inr g ↦ g ]) in
             le-ltb (rank (suc q) k) (suc q) (omega arith) ∙ sym f
       ]
 
-  -- the next rank: a final position, or one from which some choice leads below
-  pub below-more : (r : ℕ) (k : A .K) → 0 < r → Below (suc r) k ≡ (A .final k || setFirst choices observations (λ c s. Below r (A .move k c s)))
+  -- the next rank: a final position, or one from which the controller can lead below
+  pub below-more : (r : ℕ) (k : A .K) → 0 < r → Below (suc r) k ≡ (A .final k || can o choices observations (λ c s. Below r (A .move k c s)))
   below-more zero k h = absurd (not-suc-le-zero h)
   below-more (suc q) k h =
       below-suc (suc q) k
-      ∙ ap (λ (b : Bool). A .final k || b) (any-ext choices _ _ (λ c cb. all-ext observations _ _ (λ s sb. sym (below-suc q (A .move k c s)))))
+      ∙ ap (λ (b : Bool). A .final k || b) (can-ext O _ _ (λ c s cb sb. sym (below-suc q (A .move k c s))))
 
-  pub choice-below : (r : ℕ) (k : A .K) → 0 < r → firstThat (leadsBelow r k) choices ≡ choiceWithin A choices observations (pred r) k
-  choice-below zero k h = absurd (not-suc-le-zero h)
-  choice-below (suc q) k h = first-ext choices _ _ (λ c cb. all-ext observations _ _ (λ s sb. below-suc q (A .move k c s)))
+  -- an entry says of every rank below the bound whether the position is within it
+  pub entry-within : (q n : ℕ) (k : A .K) → q < n → n ≤ noRank → Within q k ≡ ltb (entry n k) (suc q)
+  entry-within q n k h small = sym (entry-below (suc q) n k h small ∙ below-suc q k)

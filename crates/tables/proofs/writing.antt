@@ -1,5 +1,6 @@
 -- What the proofs of the functions for the table use.
-pub mod CellLoop
+pub mod RowCells
+pub mod RowNumbers
 pub mod RowLoop
 pub mod SearchTurns
 pub mod TableLoop

@@ -12,6 +12,7 @@ use crate::ranking::rank_all;
 use crate::sizes::BELIEF_LIMIT;
 use crate::sizes::NO_RANK;
 use crate::writing::put_table;
+use basics::Order;
 
 // A table with its row count and worst case, or that no strategy wins.
 pub enum Outcome {
@@ -21,6 +22,7 @@ pub enum Outcome {
 
 // Writes the table of n positions, or answers that there is none. Only the table's used rows change.
 pub fn answer(
+    order: Order,
     moves: &[u8],
     finals: &[u8],
     n: usize,
@@ -30,17 +32,26 @@ pub fn answer(
 ) -> Outcome
     requires { ⌜ Positions n choices observations (now moves) (now finals) ⌝ }
     requires { ⌜ tableSize ≤ length (now table) ⌝ }
-    ensures { λ r. ⌜ r ≡ outcomeOf (verdictOf (arenaIn choices (now (moves .entry)) (now (finals .entry))) eqb choices observations n) ⌝ }
-    ensures { λ _. ⌜ now (table .exit) ≡ written (cellsOf (verdictOf (arenaIn choices (now (moves .entry)) (now (finals .entry))) eqb choices observations n))
-        (now (table .entry)) ⌝ }
+    ensures { λ r. ⌜ r ≡ outcomeOf (verdictOf order (arenaIn choices (now (moves .entry)) (now (finals .entry))) eqb choices observations n) ⌝ }
+    ensures { λ _. ⌜ now (table .exit)
+        ≡ written (cellsOf (verdictOf order (arenaIn choices (now (moves .entry)) (now (finals .entry))) eqb choices observations n)) (now (table .entry)) ⌝ }
 {
     let mut ranks = [0u16; BELIEF_LIMIT];
-    rank_all(moves, finals, n, choices, observations, &mut ranks);
+    rank_all(order, moves, finals, n, choices, observations, &mut ranks);
     let r = ranks[0];
     if r == NO_RANK {
         return Outcome::Unrealizable;
     }
-    let rows = put_table(moves, finals, &ranks, n, choices, observations, table);
+    let rows = put_table(
+        order,
+        moves,
+        finals,
+        &ranks,
+        n,
+        choices,
+        observations,
+        table,
+    );
     Outcome::Table {
         rows,
         worst_case: r as usize,

@@ -10,18 +10,14 @@ pub const SIDE_LIMIT: usize = 1 << KIND_LIMIT;
 // The most pairs of a choice and an observation.
 pub const PAIR_LIMIT: usize = SIDE_LIMIT * SIDE_LIMIT;
 
-// Where the cells of a row stand: its choice, then the next row for each observation.
-pub(crate) const CHOICE_AT: usize = 0;
-
-pub(crate) const NEXT_AT: usize = 1;
-
-// Cells of a row, and the first cell of one where the table stops.
-pub const ROW: usize = NEXT_AT + SIDE_LIMIT;
-
+// The first cell of a row where the table stops.
 pub const STOP: u16 = 65535;
 
 // A number that is no rank.
 pub(crate) const NO_RANK: u16 = 65535;
 
-// The least cells of a table.
-pub const TABLE_SIZE: usize = BELIEF_LIMIT * ROW;
+// The cells of a row of pairs, the longer kind.
+pub(crate) const LONG_ROW: usize = 1 + 2 * SIDE_LIMIT;
+
+// The least cells of a table to be written.
+pub const TABLE_SIZE: usize = BELIEF_LIMIT * LONG_ROW;

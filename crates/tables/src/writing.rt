@@ -2,22 +2,25 @@
 ghost use mathlib.Core.Path.{_≡_};
 ghost use Prim.Native.Nat.{_*_, _≤_, _<_};
 ghost use lib.Dec.{eqb};
-ghost use lib.ListN.{length, take};
+ghost use lib.ListN.{length, getD, set, replicate, take};
 ghost use Rattle.basics.specs.Reach.{indexIn};
 ghost use Rattle.play.specs.Limits.{beliefLimit, sideLimit, pairLimit};
-ghost use Rattle.play.specs.Cells.{rowSize, tableSize, stopRow};
+ghost use Rattle.play.specs.Cells.{rowSize, tableSize, firstOf, stopRow};
 ghost use Rattle.play.specs.Table.{rows, tableCells};
 ghost use Rattle.basics.specs.Lists.{written};
 ghost use Rattle.play.specs.Answer.{startRank};
-ghost use Rattle.tables.specs.PositionMemory.{arenaIn, Positions, ranksBelow, rowsWith, rowWith};
-use crate::ranking::smallest_choice;
+ghost use Rattle.tables.specs.PositionMemory.{arenaIn, Positions, Choices, ranksBelow, rowsWith, rowWith, withPair};
+use crate::cells::clear_cells;
+use crate::cells::row_size;
+use crate::cells::set_choice;
+use crate::cells::set_first;
+use crate::cells::set_next;
+use crate::choosing::put_answers;
 use crate::sizes::BELIEF_LIMIT;
-use crate::sizes::CHOICE_AT;
-use crate::sizes::NEXT_AT;
 use crate::sizes::PAIR_LIMIT;
-use crate::sizes::ROW;
 use crate::sizes::SIDE_LIMIT;
 use crate::sizes::STOP;
+use basics::Order;
 
 // The first of m rows that is position k; m if there is none.
 fn row_of(rows: &[u8], m: usize, k: u8) -> usize
@@ -35,60 +38,82 @@ fn row_of(rows: &[u8], m: usize, k: u8) -> usize
 }
 
 // Writes the row of a position where the table stops.
-fn put_stop(cells: &mut [u16])
-    requires { ⌜ length (now cells) ≡ rowSize ⌝ }
-    ensures { λ _. ⌜ now (cells .exit) ≡ stopRow ⌝ }
+fn put_stop(order: Order, cells: &mut [u16])
+    requires { ⌜ length (now cells) ≡ rowSize order ⌝ }
+    ensures { λ _. ⌜ now (cells .exit) ≡ stopRow order ⌝ }
 {
-    cells[CHOICE_AT] = STOP;
-    let mut s = 0;
-    while s < SIDE_LIMIT {
-        cells[NEXT_AT + s] = 0;
-        s += 1;
+    clear_cells(cells);
+    set_first(cells, order, 0, STOP);
+}
+
+// Writes the first cell of a row that does not stop, and zeros behind it.
+fn put_first(order: Order, answers: &[u8], cells: &mut [u16])
+    requires { ⌜ length (now answers) ≡ sideLimit ⌝ }
+    requires { ⌜ length (now cells) ≡ rowSize order ⌝ }
+    ensures { λ _. ⌜ now (cells .exit) ≡ set (replicate (rowSize order) 0) 0 (firstOf order (λ s. getD (now (answers .entry)) s 0)) ⌝ }
+{
+    clear_cells(cells);
+    match order {
+        Order::Set => set_first(cells, order, 0, answers[0] as u16),
+        Order::Read => set_first(cells, order, 0, 0),
     }
 }
 
-// Writes the row of position k, which takes choice c; its next positions are put behind the m rows where they are new. Answers
-// how many rows there are then.
+// Writes the cells of observation s.
+fn put_pair(order: Order, cells: &mut [u16], s: usize, c: u16, next: u16)
+    requires { ⌜ s < sideLimit ⌝ }
+    requires { ⌜ length (now cells) ≡ rowSize order ⌝ }
+    ensures { λ _. ⌜ now (cells .exit) ≡ withPair order (now (cells .entry)) s c next ⌝ }
+{
+    match order {
+        Order::Set => {}
+        Order::Read => set_choice(cells, order, 0, s, c),
+    }
+    set_next(cells, order, 0, s, next);
+}
+
+// Writes the row of position k, with its choice for each observation; its next positions are put behind the m rows where they are new.
+// Answers how many rows there are then.
 fn put_row(
+    order: Order,
     moves: &[u8],
+    answers: &[u8],
     choices: usize,
     observations: usize,
     k: usize,
-    c: usize,
     m: usize,
     rows: &mut [u8],
     cells: &mut [u16],
 ) -> usize
     requires { ⌜ length (now moves) ≡ beliefLimit * pairLimit ⌝ }
+    requires { ⌜ length (now answers) ≡ sideLimit ⌝ }
     requires { ⌜ choices ≤ sideLimit ⌝ }
     requires { ⌜ observations ≤ sideLimit ⌝ }
+    requires { ⌜ Choices choices observations (now answers) ⌝ }
     requires { ⌜ k < beliefLimit ⌝ }
-    requires { ⌜ c < choices ⌝ }
     requires { ⌜ m ≤ beliefLimit ⌝ }
     requires { ⌜ length (now rows) ≡ beliefLimit ⌝ }
-    requires { ⌜ length (rowsWith (now moves) choices observations k c (take m (now rows))) ≤ beliefLimit ⌝ }
-    requires { ⌜ length (now cells) ≡ rowSize ⌝ }
-    ensures { λ r. ⌜ r ≡ length (rowsWith (now (moves .entry)) choices observations k c (take m (now (rows .entry)))) ⌝ }
-    ensures { λ _. ⌜ now (rows .exit) ≡ written (rowsWith (now (moves .entry)) choices observations k c (take m (now (rows .entry)))) (now (rows .entry)) ⌝ }
-    ensures { λ _. ⌜ now (cells .exit) ≡ rowWith (now (moves .entry)) choices observations k c
-        (rowsWith (now (moves .entry)) choices observations k c (take m (now (rows .entry)))) ⌝ }
+    requires { ⌜ length (rowsWith (now moves) choices observations k (now answers) (take m (now rows))) ≤ beliefLimit ⌝ }
+    requires { ⌜ length (now cells) ≡ rowSize order ⌝ }
+    ensures { λ r. ⌜ r ≡ length (rowsWith (now (moves .entry)) choices observations k (now (answers .entry)) (take m (now (rows .entry)))) ⌝ }
+    ensures { λ _. ⌜ now (rows .exit)
+        ≡ written (rowsWith (now (moves .entry)) choices observations k (now (answers .entry)) (take m (now (rows .entry)))) (now (rows .entry)) ⌝ }
+    ensures { λ _. ⌜ now (cells .exit) ≡ rowWith order (now (moves .entry)) choices observations k (now (answers .entry))
+        (rowsWith (now (moves .entry)) choices observations k (now (answers .entry)) (take m (now (rows .entry)))) ⌝ }
 {
-    cells[CHOICE_AT] = c as u16;
-    let from = k * PAIR_LIMIT + c;
+    put_first(order, answers, cells);
+    let from = k * PAIR_LIMIT;
     let mut n = m;
     let mut s = 0;
-    while s < SIDE_LIMIT {
-        if s < observations {
-            let t = moves[from + s * choices];
-            let j = row_of(rows, n, t);
-            if j == n {
-                rows[n] = t;
-                n += 1;
-            }
-            cells[NEXT_AT + s] = j as u16;
-        } else {
-            cells[NEXT_AT + s] = 0;
+    while s < observations {
+        let c = answers[s];
+        let t = moves[from + s * choices + c as usize];
+        let j = row_of(rows, n, t);
+        if j == n {
+            rows[n] = t;
+            n += 1;
         }
+        put_pair(order, cells, s, c as u16, j as u16);
         s += 1;
     }
     n
@@ -96,6 +121,7 @@ fn put_row(
 
 // Writes the table, and answers how many rows it has.
 pub(crate) fn put_table(
+    order: Order,
     moves: &[u8],
     finals: &[u8],
     ranks: &[u16],
@@ -106,32 +132,36 @@ pub(crate) fn put_table(
 ) -> usize
     requires { ⌜ Positions n choices observations (now moves) (now finals) ⌝ }
     requires { ⌜ length (now ranks) ≡ beliefLimit ⌝ }
-    requires { ⌜ take n (now ranks) ≡ ranksBelow n choices observations n (now moves) (now finals) ⌝ }
-    requires { ⌜ startRank (arenaIn choices (now moves) (now finals)) eqb choices observations n < n ⌝ }
+    requires { ⌜ take n (now ranks) ≡ ranksBelow order n choices observations n (now moves) (now finals) ⌝ }
+    requires { ⌜ startRank order (arenaIn choices (now moves) (now finals)) eqb choices observations n < n ⌝ }
     requires { ⌜ tableSize ≤ length (now table) ⌝ }
-    ensures { λ r. ⌜ r ≡ length (rows (arenaIn choices (now (moves .entry)) (now (finals .entry))) eqb choices observations n) ⌝ }
-    ensures { λ _. ⌜ now (table .exit) ≡ written (tableCells (arenaIn choices (now (moves .entry)) (now (finals .entry))) eqb choices observations n)
-        (now (table .entry)) ⌝ }
+    ensures { λ r. ⌜ r ≡ length (rows order (arenaIn choices (now (moves .entry)) (now (finals .entry))) eqb choices observations n) ⌝ }
+    ensures { λ _. ⌜ now (table .exit)
+        ≡ written (tableCells order (arenaIn choices (now (moves .entry)) (now (finals .entry))) eqb choices observations n) (now (table .entry)) ⌝ }
 {
+    let size = row_size(order);
     let mut rows = [0u8; BELIEF_LIMIT];
+    let mut answers = [0u8; SIDE_LIMIT];
     let mut m = 1;
     let mut i = 0;
     while i < m {
-        let at = i * ROW;
+        let at = i * size;
+        let end = at + size;
         let k = rows[i] as usize;
         if finals[k] == 1 {
-            put_stop(&mut table[at..at + ROW]);
+            put_stop(order, &mut table[at..end]);
         } else {
-            let c = smallest_choice(moves, ranks, choices, observations, ranks[k], k);
+            put_answers(order, moves, ranks, choices, observations, k, &mut answers);
             m = put_row(
+                order,
                 moves,
+                &answers,
                 choices,
                 observations,
                 k,
-                c,
                 m,
                 &mut rows,
-                &mut table[at..at + ROW],
+                &mut table[at..end],
             );
         }
         i += 1;

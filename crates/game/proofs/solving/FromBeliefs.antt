@@ -20,6 +20,7 @@ use Rattle.search.proofs.ReachableSetsLaws.{sameSet-says}
 use Rattle.tables.specs.declared.answering.Outcome.{Outcome}
 use Rattle.game.specs.declared.solving.Solved.{Solved}
 use Rattle.game.specs.declared.solving.Solved.the-variants.{Refused}
+use Rattle.basics.specs.declared.order.Order.{Order}
 use Rattle.play.specs.Limits.{beliefLimit, pairLimit}
 use Rattle.play.specs.Rank.{Arena}
 use Rattle.play.specs.Belief.{Belief}
@@ -136,19 +137,19 @@ module _ (sets successors : List ℕ) (n choices observations hiddens : ℕ) (fe
           one = λ a b m k. index-one sameSet sameSet-says a b bs m k;
         }
 
-    verdict-kept : verdict (verdictOf (arenaIn choices rows finals) eqb choices observations (length bs))
-        ≡ solutionOf A sameSet choices observations (positions A sameSet choices observations limit)
-    verdict-kept = ap verdict (sym (verdict-image renaming (length bs))) ∙ ap (solutionOf A sameSet choices observations) (sym counted)
+    verdict-kept : (o : Order) → 0 < observations → verdict (verdictOf o (arenaIn choices rows finals) eqb choices observations (length bs))
+        ≡ solutionOf o A sameSet choices observations (positions A sameSet choices observations limit)
+    verdict-kept o some = ap verdict (sym (verdict-image renaming o some (length bs))) ∙ ap (solutionOf o A sameSet choices observations) (sym counted)
 
 -- ---- what `solve_states` answers and writes
 
--- a solution is answered, for so many observed signals, and written to the table
-abbrev pub Answered : ℕ → Solution → Solved → List ℕ → List ℕ → Type 0
-Answered observed x r table table′ = (r ≡ solvedOf observed x) × (table′ ≡ written (cellsOf x) table)
+-- a solution is answered, for an order and so many observed signals, and written to the table
+abbrev pub Answered : Order → ℕ → Solution → Solved → List ℕ → List ℕ → Type 0
+Answered o observed x r table table′ = (r ≡ solvedOf o observed x) × (table′ ≡ written (cellsOf x) table)
 
-module _ (sets successors : List ℕ) (n choices observations hiddens observed : ℕ) where
+module _ (o : Order) (sets successors : List ℕ) (n choices observations hiddens observed : ℕ) where
   abbrev solution : Solution
-  solution = memorySolution sets successors n choices observations hiddens
+  solution = memorySolution o sets successors n choices observations hiddens
 
   abbrev counts : Listing Belief
   counts = countedBeliefs successors n (choices * observations) hiddens beliefLimit
@@ -156,26 +157,26 @@ module _ (sets successors : List ℕ) (n choices observations hiddens observed :
   pub solved-verdict : Widths choices observations hiddens → (k : ℕ) → Found k ≡ exploredOf counts
       → (rows : List ℕ) → rows ≡ padded (beliefLimit * pairLimit) (movesOf successors n (choices * observations) hiddens counts)
       → (finals room : List ℕ) → finals ≡ written (finalsOf sets n (listOf counts)) room
-      → (o : Outcome) (table table′ : List ℕ) → o ≡ outcomeOf (verdictOf (arenaIn choices rows finals) eqb choices observations k)
-      → table′ ≡ written (verdictCells (verdictOf (arenaIn choices rows finals) eqb choices observations k)) table
-      → Answered observed solution (solvedWith observed o) table table′
+      → (x : Outcome) (table table′ : List ℕ) → x ≡ outcomeOf (verdictOf o (arenaIn choices rows finals) eqb choices observations k)
+      → table′ ≡ written (verdictCells (verdictOf o (arenaIn choices rows finals) eqb choices observations k)) table
+      → Answered o observed solution (solvedWith o observed x) table table′
   unfolding memorySolution
-  solved-verdict w k got rows rows-are finals room marked o table table′ e f =
-      (ap (solvedWith observed) e ∙ ap (solvedOf observed) same, f ∙ ap (λ r. written (cellsOf r) table) same)
+  solved-verdict w k got rows rows-are finals room marked x table table′ e f =
+      (ap (solvedWith o observed) e ∙ ap (solvedOf o observed) same, f ∙ ap (λ r. written (cellsOf r) table) same)
     where
-      same : verdict (verdictOf (arenaIn choices rows finals) eqb choices observations k) ≡ solution
+      same : verdict (verdictOf o (arenaIn choices rows finals) eqb choices observations k) ≡ solution
       same =
           let (bs, tried, count) = counted-some counts k got in
-          ap (λ m. verdict (verdictOf (arenaIn choices rows finals) eqb choices observations m)) (sym count)
+          ap (λ m. verdict (verdictOf o (arenaIn choices rows finals) eqb choices observations m)) (sym count)
           ∙ verdict-kept sets successors n choices observations hiddens (widths-pairs choices observations hiddens w) beliefLimit bs tried finals _
           (marked ∙ ap (λ r. written (finalsOf sets n (listOf r)) room) tried) (beliefLimit * pairLimit) rows
-          (rows-are ∙ ap (λ r. padded (beliefLimit * pairLimit) (movesOf successors n (choices * observations) hiddens r)) tried)
+          (rows-are ∙ ap (λ r. padded (beliefLimit * pairLimit) (movesOf successors n (choices * observations) hiddens r)) tried) o (w .some-observation)
 
-  pub solved-many : TooMany ≡ exploredOf counts → (table : List ℕ) → Answered observed solution (Refused refusal.TooManyBeliefs) table table
+  pub solved-many : TooMany ≡ exploredOf counts → (table : List ℕ) → Answered o observed solution (Refused refusal.TooManyBeliefs) table table
   unfolding memorySolution
-  solved-many many table = (ap (solvedOf observed) same, ap (λ r. written (cellsOf r) table) same)
+  solved-many many table = (ap (solvedOf o observed) same, ap (λ r. written (cellsOf r) table) same)
     where
       same : tooManyBeliefs ≡ solution
       same =
-          sym (ap (solutionOf (beliefsIn sets successors n choices observations hiddens) sameSet choices observations)
+          sym (ap (solutionOf o (beliefsIn sets successors n choices observations hiddens) sameSet choices observations)
           (sym (counted-same sets successors n choices observations hiddens beliefLimit) ∙ counted-over counts many))

@@ -7,11 +7,11 @@ use mathlib.Core.List.{List}
 use lib.ListN.{length, take}
 use Rattle.lines.specs.declared.refusal.Refusal.{Refusal}
 use Rattle.lines.specs.declared.problem.Sizes.{Sizes}
+use Rattle.lines.specs.Memory.{orderIn}
 use Rattle.lines.specs.declared.problem.Reading.{Reading}
 use Rattle.lines.specs.declared.problem.Reading.the-variants as reading
 use Rattle.formula.specs.Formula.{operators}
 use Rattle.basics.specs.Limits.{operatorLimit}
-use Rattle.rules.specs.Within.{countsIn}
 use Rattle.rules.specs.Reading.{readingOf, sizesOf}
 use Rattle.formula.specs.Codes.{partsIn}
 use Rattle.formula.specs.Parts.{partAt, arity}
@@ -42,9 +42,6 @@ module _ {o : Outcome} {s : Sizes} {codes : List ℕ} (t : Taken o s codes) wher
   abbrev front : List ℕ
   front = take (s .parts) codes
 
-  signals-taken : countsOf s ≡ countsIn (t .problem .signals)
-  signals-taken = ap (λ (z : Sizes). countsOf z) (t .sizes)
-
   operators-taken : operatorsOf (partsIn front) ≡ sizesOf (t .problem) .operators
   operators-taken = ap operatorsOf (taken-parts t) ∙ operators-are (problemParts (t .problem)) ∙ temporals-are (t .problem)
 
@@ -72,11 +69,12 @@ module _ {o : Outcome} {s : Sizes} {codes : List ℕ} (t : Taken o s codes) wher
       }
 
   -- the answer for these parts and signals is that for the text
-  pub source-right : (r : Solved) (table table′ : List ℕ) → r ≡ solvedOf (s .observed) (partsSolution (partsIn front) (countsOf s))
-      → table′ ≡ written (cellsOf (partsSolution (partsIn front) (countsOf s))) table → (r ≡ solvedFrom o) × (table′ ≡ written (cellsFrom o) table)
+  pub source-right : (r : Solved) (table table′ : List ℕ) → r ≡ solvedOf (orderIn s) (s .observed) (partsSolution (orderIn s) (partsIn front) (countsOf s))
+      → table′ ≡ written (cellsOf (partsSolution (orderIn s) (partsIn front) (countsOf s))) table → (r ≡ solvedFrom o) × (table′ ≡ written (cellsFrom o) table)
   source-right r table table′ f g =
-      let same : partsSolution (partsIn front) (countsOf s) ≡ solution (t .problem) = ap₂ partsSolution (taken-parts t) signals-taken in
+      let same : partsSolution (orderIn s) (partsIn front) (countsOf s) ≡ solution (t .problem) =
+      ap₂ (λ (z : Sizes) ps. partsSolution (orderIn z) ps (countsOf z)) (t .sizes) (taken-parts t) in
       rw (t .is) (
-        f ∙ ap₂ (λ (z : Sizes) x. solvedOf (z .observed) x) (t .sizes) same,
+        f ∙ ap₂ (λ (z : Sizes) x. solvedOf (orderIn z) (z .observed) x) (t .sizes) same,
         g ∙ ap (λ x. written (cellsOf x) table) same,
       )

@@ -8,7 +8,9 @@ use mathlib.Core.List.{List}
 use lib.Dec.{lit<}
 use lib.Pow.{pow-pos}
 use lib.ListN.{length}
+use Rattle.basics.specs.declared.order.Order.{Order}
 use Rattle.lines.specs.declared.problem.Sizes.{Sizes}
+use Rattle.lines.specs.Memory.{orderIn}
 use Rattle.lines.specs.declared.refusal.Refusal.the-variants as refusal
 use Rattle.formula.specs.declared.parts.Part.{Part}
 use Rattle.formula.specs.Codes.{partsIn}
@@ -54,9 +56,11 @@ module _ (codes : List ℕ) (s : Sizes) where
   abbrev l : Listing PatternSet
   l = statesOf ps (lettersOf c) stateLimit
 
-  pub solved-many : TooMany ≡ exploredOf l → (table : List ℕ) → Answered (s .observed) (partsSolution ps c) (Refused refusal.TooManyStates) table table
+  pub solved-many : TooMany ≡ exploredOf l → (table : List ℕ)
+      → Answered (orderIn s) (s .observed) (partsSolution (orderIn s) ps c) (Refused refusal.TooManyStates) table table
   solved-many e table =
-      let same = ap (solutionFrom ps c) (sym (counted-over l e)) in (ap (solvedOf (s .observed)) same, ap (λ x. written (cellsOf x) table) same)
+      let same = ap (solutionFrom (orderIn s) ps c) (sym (counted-over l e)) in
+      (ap (solvedOf (orderIn s) (s .observed)) same, ap (λ x. written (cellsOf x) table) same)
 
   -- how many choices, observations and hidden values there are, as the code shifts them
   abbrev choices : ℕ
@@ -117,16 +121,18 @@ module _ (codes : List ℕ) (s : Sizes) where
         omega (arith, sym (found .2) ∙ ap length e)
 
     -- what is answered from memory is what is answered from the parts
-    states-solution : memorySolution sets successors n choices observations hiddens ≡ partsSolution ps c
-    states-solution =
-        ap (λ m. memorySolution sets successors m choices observations hiddens) (sym (found .2))
-        ∙ ap₂ (λ x y. memorySolution sets successors (length xs) x y hiddens) (choices-are sized) (observations-are sized)
-        ∙ ap (memorySolution sets successors (length xs) (2 ^ (s .outputs)) (2 ^ (s .observed))) (hiddens-are sized)
+    states-solution : (o : Order) → memorySolution o sets successors n choices observations hiddens ≡ partsSolution o ps c
+    states-solution o =
+        ap (λ m. memorySolution o sets successors m choices observations hiddens) (sym (found .2))
+        ∙ ap₂ (λ x y. memorySolution o sets successors (length xs) x y hiddens) (choices-are sized) (observations-are sized)
+        ∙ ap (memorySolution o sets successors (length xs) (2 ^ (s .outputs)) (2 ^ (s .observed))) (hiddens-are sized)
         ∙ memory-same (automatonOf ps xs) (2 ^ (s .outputs)) (2 ^ (s .observed)) (2 ^ (s .hidden)) letterFrom sets successors
-        (explored-tables ps c (sized .signals-few) xs (found .1) a sets sets-are b successors successors-of) (pow-pos (s .outputs))
-        ∙ ap (solutionFrom ps c) (sym (found .1))
+        (explored-tables ps c (sized .signals-few) xs (found .1) a sets sets-are b successors successors-of) o (pow-pos (s .outputs)) (pow-pos (s .observed))
+        ∙ ap (solutionFrom o ps c) (sym (found .1))
 
-    pub solved-some : (r : Solved) (table table′ : List ℕ)
-        → Answered (s .observed) (memorySolution sets successors n choices observations hiddens) r table table′
-        → Answered (s .observed) (partsSolution ps c) r table table′
-    solved-some r table table′ = subst (λ x. Answered (s .observed) x r table table′) states-solution
+    pub solved-some : (o : Order) → o ≡ orderIn s → (r : Solved) (table table′ : List ℕ)
+        → Answered o (s .observed) (memorySolution o sets successors n choices observations hiddens) r table table′
+        → Answered (orderIn s) (s .observed) (partsSolution (orderIn s) ps c) r table table′
+    solved-some o is r table table′ a =
+        subst (λ q. Answered q (s .observed) (partsSolution q ps c) r table table′) is
+        (subst (λ x. Answered o (s .observed) x r table table′) (states-solution o) a)

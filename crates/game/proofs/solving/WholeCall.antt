@@ -18,13 +18,15 @@ use Rattle.rules.specs.Problem.{readProblem}
 use Rattle.play.specs.Cells.{rowSize, tableSize}
 use Rattle.game.specs.declared.solving.Solved.{Solved}
 use Rattle.game.specs.declared.solving.Solved.the-variants.{Table, Refused}
-use Rattle.game.specs.SolvedAs.{isShort, solvedFrom, solvedBy, toldSolved, cellsFrom, cellsBy, tableAfter, workAfter, usedRows, SolvedAs, short-memory}
+use Rattle.game.specs.SolvedAs.{isShort, solvedFrom, solvedBy, toldSolved, cellsFrom, cellsBy, tableAfter, workAfter, usedRows}
+use Rattle.game.specs.SolvedAs.{SolvedAs, short-memory}
 use Rattle.game.proofs.SolvedAsLaws.{not-short, short-says, due-read, RowCells, due-cells}
 
 -- ---- the rows that are used are the cells that are due
 
 used-rows : (r : Solved) (cells room : List ℕ) → RowCells (toldSolved r) cells → usedRows r (written cells room) ≡ cells
-used-rows (Table shape q) cells room e = take-at cells (drop (length cells) room) (shape .rows * rowSize) e
+used-rows (Table shape q) cells room e =
+    take-at cells (drop (length cells) room) (shape .rows * rowSize (shape .order)) (e (shape .rows) (shape .observed) q (shape .order) refl)
 used-rows (Refused x) cells room e = sym e
 
 -- ---- memory that is too short

@@ -180,6 +180,7 @@ module _ (cs : List ℕ) (line : ℕ) (s : Sizes) (p : List ℕ) (count all : �
           hidden = s .hidden;
           parts = all;
           operators = s .operators + o;
+          order = s .order;
         }))
     few-operators u q r i l =
         let k : count - s .parts ≡ length cs = omega arith in

@@ -12,13 +12,15 @@ use Rattle.basics.specs.Bytes.{notLineEnd}
 use Rattle.basics.specs.Limits.{kindLimit}
 use Rattle.basics.specs.Lists.{below, written}
 use Rattle.basics.specs.Pieces.{piece, behind, behindAll, lineAt}
+use Rattle.basics.specs.declared.order.Order.{Order}
 use Rattle.basics.proofs.BoundedLaws.{first-found, first-end}
 use Rattle.basics.proofs.PiecesLaws.{behind-more}
 use Rattle.basics.proofs.Stores.{Put, put-front}
 use Rattle.basics.proofs.TextLaws.{turn}
 use Rattle.play.specs.Cells.{rowSize}
+use Rattle.printer.proofs.WellFormedLaws.{row-room as room-of-row}
 use Rattle.tables.specs.declared.shape.Shape.{Shape}
-use Rattle.loader.specs.Candidate.{saysStop, rowIn, observedIn, rowsIn, goesOn, shapeIn, cellsIn}
+use Rattle.loader.specs.Candidate.{saysStop, rowIn, observedIn, orderIn, rowsIn, goesOn, shapeIn, cellsIn}
 use Rattle.loader.proofs.CandidateLaws.{rows-length}
 
 -- ---- their places
@@ -49,15 +51,15 @@ module _ (text : List ℕ) where
       move-none e = subst (RowAt at) (e ∙ first-end (goesOn text) rows i e none) here
 
   -- the shape, from line 0 and that line
-  pub shape-is : (rows observed at : ℕ) (head l : List ℕ) → head ≡ lineAt 0 text → rows ≡ rowsIn head → RowAt at (firstThat (goesOn text) rows)
-      → l ≡ piece notLineEnd (drop at text) → observed ≡ observedIn kindLimit l → record { rows = rows; observed = observed } ≡ shapeIn text
+  pub shape-is : (rows observed at : ℕ) (order : Order) (head l : List ℕ) → head ≡ lineAt 0 text → rows ≡ rowsIn head → order ≡ orderIn head
+      → RowAt at (firstThat (goesOn text) rows) → l ≡ piece notLineEnd (drop at text) → observed ≡ observedIn order kindLimit l
+      → record { rows = rows; observed = observed; order = order } ≡ shapeIn text
   unfolding shapeIn
-  shape-is rows observed at head l first n here is k =
-      let r : rows ≡ rowsIn (lineAt 0 text) = n ∙ ap rowsIn first in
-      let o : observed ≡ observedIn kindLimit (lineAt (suc (firstThat (goesOn text) (rowsIn (lineAt 0 text)))) text) =
-      k ∙ ap (observedIn kindLimit) (row-line at (firstThat (goesOn text) rows) here l is)
-      ∙ ap (λ m. observedIn kindLimit (lineAt (suc (firstThat (goesOn text) m)) text)) r in
-      ap₂ {C = Shape} (λ m j. record { rows = m; observed = j }) r o
+  shape-is rows observed at order head l first n q here is k =
+      let line = row-line at (firstThat (goesOn text) rows) here l is in
+      let seen : ℕ → Order → ℕ = λ m o. observedIn o kindLimit (lineAt (suc (firstThat (goesOn text) m)) text) in
+      ap (λ (j : ℕ). record { rows = rows; observed = j; order = order }) (k ∙ ap (observedIn order kindLimit) line)
+      ∙ ap₂ {C = Shape} (λ m o. record { rows = m; observed = seen m o; order = o }) (n ∙ ap rowsIn first) (q ∙ ap orderIn first)
 
 -- ---- their cells
 
@@ -69,7 +71,7 @@ module _ (shape : Shape) (text : List ℕ) where
   unfoldable pub cellsTo : ℕ → List ℕ
   cellsTo n = flatMap rowOf (below n)
 
-  cells-length : (n : ℕ) → length (cellsTo n) ≡ n * rowSize
+  cells-length : (n : ℕ) → length (cellsTo n) ≡ n * rowSize (shape .order)
   unfolding cellsTo
   cells-length n = rows-length shape text n
 
@@ -82,17 +84,20 @@ module _ (shape : Shape) (text : List ℕ) where
     unfolding cellsTo flatMap
     rows-none = refl
 
-    module _ (room : shape .rows * rowSize ≤ length cells₀) (i : ℕ) (cells : List ℕ) (so-far : RowsTo i cells) where
-      pub row-room : i < shape .rows → i * rowSize + rowSize ≤ length cells
-      row-room h = omega (arith, ap length so-far, length-sets cells₀ 0 (cellsTo i))
+    module _ (room : shape .rows * rowSize (shape .order) ≤ length cells₀) (i : ℕ) (cells : List ℕ) (so-far : RowsTo i cells) where
+      pub row-room : i < shape .rows → i * rowSize (shape .order) + rowSize (shape .order) ≤ length cells
+      row-room h =
+          let all : shape .rows * rowSize (shape .order) ≤ length cells = omega (arith, ap length so-far, length-sets cells₀ 0 (cellsTo i)) in
+          room-of-row (shape .order) (shape .rows) i (length cells) all h
 
-      pub rows-more : i < shape .rows → (l after : List ℕ) → l ≡ lineAt (suc i) text → after ≡ sets cells (i * rowSize) (rowIn shape l)
+      pub rows-more : i < shape .rows → (l after : List ℕ) → l ≡ lineAt (suc i) text → after ≡ sets cells (i * rowSize (shape .order)) (rowIn shape l)
           → RowsTo (i + 1) after
       unfolding cellsTo
       rows-more h l after is e =
-          let p : Put 0 (cellsTo i) cells₀ (i * rowSize) cells = (omega (arith, cells-length i), so-far) in
+          let p : Put 0 (cellsTo i) cells₀ (i * rowSize (shape .order)) cells = (omega (arith, cells-length i), so-far) in
           let r = turn rowOf (λ k. k) 0 (shape .rows) cells₀ (omega (arith, cells-length (shape .rows))) i h p in
-          r .puts (i * rowSize + length (rowOf i)) after (refl, e ∙ ap (λ x. sets cells (i * rowSize) (rowIn shape x)) is) .1
+          let same = e ∙ ap (λ x. sets cells (i * rowSize (shape .order)) (rowIn shape x)) is in
+          r .puts (i * rowSize (shape .order) + length (rowOf i)) after (refl, same) .1
 
       pub rows-all : i ≡ shape .rows → cells ≡ written (cellsIn shape text) cells₀
       unfolding cellsTo cellsIn

@@ -15,21 +15,22 @@ use Rattle.tables.specs.declared.answering.Outcome.the-variants.{Table, 
 use Rattle.play.specs.Rank.{Arena}
 use Rattle.play.specs.Table.{rows, tableCells}
 use Rattle.basics.specs.Lists.{written}
+use Rattle.basics.specs.declared.order.Order.{Order}
 use Rattle.play.specs.Answer.{startRank, verdictOf, cellsOf}
 use Rattle.tables.specs.Outcome.{outcomeOf}
 use Rattle.tables.specs.PositionMemory.{arenaIn, Positions, ranksBelow, noRank}
 use Rattle.tables.proofs.PositionMemoryLaws.{rank-read}
 
-module _ (n choices observations : ℕ) (moves finals ranks : List ℕ) (positions : Positions n choices observations moves finals)
-    (ranked : take n ranks ≡ ranksBelow n choices observations n moves finals) where
+module _ (o : Order) (n choices observations : ℕ) (moves finals ranks : List ℕ) (positions : Positions n choices observations moves finals)
+    (ranked : take n ranks ≡ ranksBelow o n choices observations n moves finals) where
   abbrev A : Arena
   A = arenaIn choices moves finals
 
   abbrev start : ℕ
-  start = startRank A eqb choices observations n
+  start = startRank o A eqb choices observations n
 
   rank-is : getD ranks 0 0 ≡ cond (ltb start n) start noRank
-  rank-is = rank-read n choices observations n moves finals ranks ranked 0 (positions .some)
+  rank-is = rank-read o n choices observations n moves finals ranks ranked 0 (positions .some)
 
   rank-found : start < n → getD ranks 0 0 ≡ start
   rank-found b = rank-is ∙ ap (λ (t : Bool). cond t start noRank) (lt-ltb start n b)
@@ -54,12 +55,12 @@ module _ (n choices observations : ℕ) (moves finals ranks : List ℕ) (positio
 
   -- the two answers
   pub none-answer : (table : List ℕ) → getD ranks 0 0 ≡ noRank
-      → (Unrealizable ≡ outcomeOf (verdictOf A eqb choices observations n)) × (table ≡ written (cellsOf (verdictOf A eqb choices observations n)) table)
+      → (Unrealizable ≡ outcomeOf (verdictOf o A eqb choices observations n)) × (table ≡ written (cellsOf (verdictOf o A eqb choices observations n)) table)
   none-answer table e = rw (start-none e) (refl, refl)
 
-  pub table-answer : (k r : ℕ) (table table′ : List ℕ) → (getD ranks 0 0 ≡ noRank → ⊥) → r ≡ getD ranks 0 0 → k ≡ length (rows A eqb choices observations n)
-      → table′ ≡ tableCells A eqb choices observations n ++ drop (length (tableCells A eqb choices observations n)) table
-      → (Table k r ≡ outcomeOf (verdictOf A eqb choices observations n)) × (table′ ≡ written (cellsOf (verdictOf A eqb choices observations n)) table)
+  pub table-answer : (k r : ℕ) (table table′ : List ℕ) → (getD ranks 0 0 ≡ noRank → ⊥) → r ≡ getD ranks 0 0 → k ≡ length (rows o A eqb choices observations n)
+      → table′ ≡ tableCells o A eqb choices observations n ++ drop (length (tableCells o A eqb choices observations n)) table
+      → (Table k r ≡ outcomeOf (verdictOf o A eqb choices observations n)) × (table′ ≡ written (cellsOf (verdictOf o A eqb choices observations n)) table)
   table-answer k r table table′ ne e l t =
       let b = start-found ne in
       rw (lt-ltb start n b) (ap₂ Table l (e ∙ rank-found b), t)

@@ -12,20 +12,21 @@ use mathlib.Core.Bool.{Bool, true, false, cond, _||_}
 use lib.Dec.{ltb}
 use lib.ListN.{length, getD, set, take, drop, length-set, take-append-drop}
 use lib.Seq.{set-getD, take-at, drop-at}
-use borrow.Author.Tests.{eq-eqb, ne-eqb, ltb-false, lt-ltb, le-ltb}
+use borrow.Author.Tests.{eq-eqb, ne-eqb, ltb-false, le-ltb}
 use Rattle.basics.specs.Lists.{tabulate}
-use Rattle.basics.specs.Bounded.{any, firstThat}
+use Rattle.basics.specs.Bounded.{any}
+use Rattle.basics.specs.declared.order.Order.{Order}
 use Rattle.basics.proofs.Booleans.{test, clash, or-cases, or-intro-right}
-use Rattle.basics.proofs.BoundedLaws.{any-not, any-suc, any-first}
+use Rattle.basics.proofs.BoundedLaws.{any-not, any-suc}
 use Rattle.basics.proofs.Filling.{table-more, front-behind}
 use Rattle.basics.proofs.ListsLaws.{length-tabulate, getD-table, tabulate-ext}
 use Rattle.play.specs.Limits.{beliefLimit}
-use Rattle.play.specs.Rank.{Arena, setFirst, rankBelow}
-use Rattle.play.proofs.StepOrder.{setOrder, can-of}
+use Rattle.play.specs.Rank.{Arena, can, rankFrom}
+use Rattle.play.proofs.StepOrder.{orderOf, can-of}
 use Rattle.play.proofs.RankLaws.{In}
-use Rattle.tables.specs.PositionMemory.{arenaIn, Positions, firstRank, works, rankIfBelow, ranksBelow, hasRank, noRank}
-use Rattle.tables.proofs.RanksBelow.{Below, leadsBelow, entry-none, entry-below, below-of, below-within, below-suc, below-more, rank-kept, rank-from}
-use Rattle.tables.proofs.PositionMemoryLaws.{ranks-taken, ranks-passed, rank-read, choice-read}
+use Rattle.tables.specs.PositionMemory.{arenaIn, Positions, firstRank, canLead, rankIfBelow, ranksBelow, hasRank, noRank}
+use Rattle.tables.proofs.RanksBelow.{Below, entry-none, entry-below, below-of, below-within, below-suc, below-more, rank-kept, rank-from}
+use Rattle.tables.proofs.PositionMemoryLaws.{ranks-taken, ranks-passed, rank-read, lead-read}
 
 -- ---- before any round
 
@@ -37,32 +38,32 @@ pub first-other : (finals : List ℕ) (k : ℕ) → (getD finals k 0 ≡ 1 → �
 unfolding firstRank
 first-other finals k e = sym (rw (ne-eqb (getD finals k 0) 1 e, cond))
 
-module _ (n choices observations : ℕ) (moves finals : List ℕ) where
+module _ (o : Order) (n choices observations : ℕ) (moves finals : List ℕ) where
   abbrev A : Arena
   A = arenaIn choices moves finals
 
   -- the ranks below r
   abbrev ranksTo : ℕ → List ℕ
-  ranksTo r = ranksBelow n choices observations r moves finals
+  ranksTo r = ranksBelow o n choices observations r moves finals
 
   abbrev rank : ℕ → ℕ → ℕ
-  rank r k = rankBelow A (setFirst choices observations) r k
+  rank r k = rankFrom o A choices observations r k
 
   abbrev entry : ℕ → ℕ → ℕ
-  entry r k = rankIfBelow A choices observations r k
+  entry r k = rankIfBelow o A choices observations r k
 
   abbrev has : ℕ → ℕ → Bool
-  has r = hasRank choices observations r moves finals
+  has r = hasRank o choices observations r moves finals
 
   abbrev low : ℕ → ℕ → Bool
-  low r k = Below A choices observations r k
+  low r k = Below o A choices observations r k
 
   -- round r leaves a lower rank as it is ..
   kept-on : (r k : ℕ) → low r k ≡ true → (has r k ≡ false) × (entry (suc r) k ≡ entry r k)
   unfolding hasRank
   kept-on r k t =
-      let (e, kept) = rank-kept A choices observations r (suc r) k (omega arith) t in
-      let b = below-within A choices observations r k t .0 in
+      let (e, kept) = rank-kept o A choices observations r (suc r) k (omega arith) t in
+      let b = below-within o A choices observations r k t .0 in
       (ne-eqb (rank (suc r) k) r (λ q. omega arith), kept)
 
   -- .. and finds rank r where there is none
@@ -71,12 +72,12 @@ module _ (n choices observations : ℕ) (moves finals : List ℕ) where
   found-now r k f =
       elim (test (low (suc r) k)) [
         | inl t ↦
-            let b = below-within A choices observations (suc r) k t .0 in
-            let e : rank (suc r) k ≡ r = omega (arith, rank-from A choices observations r (suc r) k f t) in
+            let b = below-within o A choices observations (suc r) k t .0 in
+            let e : rank (suc r) k ≡ r = omega (arith, rank-from o A choices observations r (suc r) k f t) in
             (eq-eqb (rank (suc r) k) r e ∙ sym t, ap (λ i. cond (low (suc r) k) i noRank) e)
         | inr g ↦
             let b = ltb-false (rank (suc r) k) (suc r) g in
-            let none = entry-none A choices observations (suc r) k g in
+            let none = entry-none o A choices observations (suc r) k g in
             (ne-eqb (rank (suc r) k) r (λ q. omega arith) ∙ sym g, none ∙ sym (ap (λ (b : Bool). cond b r noRank) g))
       ]
 
@@ -85,7 +86,7 @@ module _ (n choices observations : ℕ) (moves finals : List ℕ) where
   unfolding firstRank
   first-is k =
       let (_, e) = found-now 0 k (le-ltb (rank 0 k) 0 zero-le) in
-      sym (e ∙ ap (λ (b : Bool). cond b 0 noRank) (below-suc A choices observations 0 k))
+      sym (e ∙ ap (λ (b : Bool). cond b 0 noRank) (below-suc o A choices observations 0 k))
 
   pub ranks-first : (ranks rest : List ℕ) → ranks ≡ tabulate n (firstRank finals) ++ rest → take n ranks ≡ ranksTo 1
   unfolding ranksBelow
@@ -99,17 +100,18 @@ module _ (n choices observations : ℕ) (moves finals : List ℕ) where
     -- round r has come to position k: those passed have their ranks up to r, the others what they had
     abbrev pub Halfway : ℕ → List ℕ → Bool → Type 0
     Halfway k ranks more =
-        (k ≤ n) × (length ranks ≡ beliefLimit) × (ranks ≡ ranksBelow k choices observations (suc r) moves finals ++ drop k d)
-        × (more ≡ any k (hasRank choices observations r moves finals))
+        (k ≤ n) × (length ranks ≡ beliefLimit) × (ranks ≡ ranksBelow o k choices observations (suc r) moves finals ++ drop k d)
+        × (more ≡ any k (hasRank o choices observations r moves finals))
 
     pub round-begin : length d ≡ beliefLimit → Halfway 0 d false
     unfolding ranksBelow
     round-begin long = (omega arith, long, refl, refl)
 
     -- the round is through
-    pub round-end : (k : ℕ) (ranks : List ℕ) (more : Bool) → k ≡ n → Halfway k ranks more → (ranks ≡ ranksTo (suc r) ++ drop n d) × (more ≡ any n (has r))
+    pub round-end : (k : ℕ) (ranks : List ℕ) (more : Bool) → k ≡ n → Halfway k ranks more
+        → (ranks ≡ ranksTo (suc r) ++ drop n d) × (more ≡ any n (has r))
     round-end k ranks more e H =
-        subst (λ i. (ranks ≡ ranksBelow i choices observations (suc r) moves finals ++ drop i d) × (more ≡ any i (has r))) e (H .2, H .3)
+        subst (λ i. (ranks ≡ ranksBelow o i choices observations (suc r) moves finals ++ drop i d) × (more ≡ any i (has r))) e (H .2, H .3)
 
     module _ (P : Positions n choices observations moves finals) (over : 0 < r) (small : r < noRank) (long : length d ≡ beliefLimit)
         (before : take n d ≡ ranksTo r) (k : ℕ) (inside : k < n) (ranks : List ℕ) (more : Bool) (H : Halfway k ranks more) where
@@ -122,13 +124,13 @@ module _ (n choices observations : ℕ) (moves finals : List ℕ) where
       unfolding ranksBelow
       read-ahead j l h =
           front-behind (tabulate k (entry (suc r))) d ranks k j (length-tabulate k (entry (suc r))) l (H .2)
-          ∙ rank-read n choices observations r moves finals d before j h
+          ∙ rank-read o n choices observations r moves finals d before j h
 
       reads : (j : ℕ) → j < n → ltb (getD ranks j 0) r ≡ low r j
       reads j h =
           elim (decLt j k) [
-            | yes l ↦ ap (λ i. ltb i r) (read-passed j l) ∙ entry-below A choices observations r (suc r) j (omega arith) (omega arith)
-            | no l ↦ ap (λ i. ltb i r) (read-ahead j (omega arith) h) ∙ entry-below A choices observations r r j (le-refl r) (omega arith)
+            | yes l ↦ ap (λ i. ltb i r) (read-passed j l) ∙ entry-below o A choices observations r (suc r) j (omega arith) (omega arith)
+            | no l ↦ ap (λ i. ltb i r) (read-ahead j (omega arith) h) ∙ entry-below o A choices observations r r j (le-refl r) (omega arith)
           ]
 
       -- one turn: entry k becomes v, and b says whether that is rank r
@@ -154,31 +156,31 @@ module _ (n choices observations : ℕ) (moves finals : List ℕ) where
       ranked-stays ne =
           elim (test (low r k)) [
             | inl t ↦ let (h, e) = kept-on r k t in stays (here ∙ sym e) h
-            | inr f ↦ absurd (ne (here ∙ entry-none A choices observations r k f))
+            | inr f ↦ absurd (ne (here ∙ entry-none o A choices observations r k f))
           ]
 
-      module _ (e : getD ranks k 0 ≡ noRank) (c : ℕ) (is : c ≡ firstThat (works moves ranks choices observations r k) choices) where
+      module _ (e : getD ranks k 0 ≡ noRank) (b : Bool) (is : b ≡ canLead o moves ranks choices observations r k) where
         unranked : low r k ≡ false
         unranked = sym (reads k inside) ∙ le-ltb (getD ranks k 0) r (omega arith)
 
         unfinal : A .final k ≡ false
-        unfinal = elim (test (A .final k)) [ inl t ↦ clash (below-of A choices observations r 0 k over t) unranked | inr f ↦ f ]
+        unfinal = elim (test (A .final k)) [ inl t ↦ clash (below-of o A choices observations r 0 k over t) unranked | inr f ↦ f ]
 
-        -- it gets rank r if a choice leads from it below r
-        by-choice : (b : Bool) → ltb c choices ≡ b → (has r k ≡ b) × (entry (suc r) k ≡ cond b r noRank)
-        by-choice b t =
+        -- it gets rank r if the controller can lead from it below r
+        by-lead : (t : Bool) → b ≡ t → (has r k ≡ t) × (entry (suc r) k ≡ cond t r noRank)
+        by-lead t q =
             let (h, new) = found-now r k unranked in
-            let s : low (suc r) k ≡ b =
-            below-more A choices observations r k over ∙ ap (λ (x : Bool). x || any choices (leadsBelow A choices observations r k)) unfinal
-            ∙ any-first (leadsBelow A choices observations r k) choices
-            ∙ ap (λ i. ltb i choices) (sym (is ∙ choice-read n choices observations r moves finals P ranks k inside reads)) ∙ t in
+            let s : low (suc r) k ≡ t =
+            below-more o A choices observations r k over
+            ∙ ap (λ (x : Bool). x || can o choices observations (λ c s. low r (A .move k c s))) unfinal
+            ∙ sym (is ∙ lead-read o n choices observations r moves finals P ranks k inside reads) ∙ q in
             (h ∙ s, new ∙ ap (λ (x : Bool). cond x r noRank) s)
 
-        pub none-stays : choices ≤ c → (ranks′ : List ℕ) (more′ : Bool) → ranks′ ≡ ranks → more′ ≡ more → Halfway (k + 1) ranks′ more′
-        none-stays l = let (h, new) = by-choice false (le-ltb c choices l) in stays (e ∙ sym new) h
+        pub none-stays : b ≡ false → (ranks′ : List ℕ) (more′ : Bool) → ranks′ ≡ ranks → more′ ≡ more → Halfway (k + 1) ranks′ more′
+        none-stays q = let (h, new) = by-lead false q in stays (e ∙ sym new) h
 
-        pub gets-rank : c < choices → (ranks′ : List ℕ) (more′ : Bool) → ranks′ ≡ set ranks k r → more′ ≡ true → Halfway (k + 1) ranks′ more′
-        gets-rank l = let (h, new) = by-choice true (lt-ltb c choices l) in turned r true (sym new) h
+        pub gets-rank : b ≡ true → (ranks′ : List ℕ) (more′ : Bool) → ranks′ ≡ set ranks k r → more′ ≡ true → Halfway (k + 1) ranks′ more′
+        gets-rank q = let (h, new) = by-lead true q in turned r true (sym new) h
 
   -- ---- a round that finds no rank is the last
 
@@ -187,26 +189,26 @@ module _ (n choices observations : ℕ) (moves finals : List ℕ) where
     nothing k h t =
         elim (test (low r k)) [ inl u ↦ u | inr f ↦ clash (found-now r k f .0 ∙ t) (any-not n (has r) none k h) ]
 
-    no-more : (q k : ℕ) → k < n → In (setOrder choices observations) A q k ≡ true → low r k ≡ true
-    no-more zero k h t = below-of A choices observations r 0 k over t
+    no-more : (q k : ℕ) → k < n → In (orderOf o choices observations) A q k ≡ true → low r k ≡ true
+    no-more zero k h t = below-of o A choices observations r 0 k over t
     no-more (suc q) k h t =
         elim (or-cases (A .final k) _ t) [
-          | inl u ↦ below-of A choices observations r 0 k over u
+          | inl u ↦ below-of o A choices observations r 0 k over u
           | inr u ↦
-              let (g, al, right) = setOrder choices observations .answer (λ c s. In (setOrder choices observations) A q (A .move k c s)) u in
-              nothing k h (below-more A choices observations r k over ∙ or-intro-right (A .final k)
-              (can-of (setOrder choices observations) (λ c s. low r (A .move k c s)) g al
-              (λ s l. no-more q (A .move k (g s) s) (P .inside k (g s) s h (setOrder choices observations .below g al s l) l) (right s l))))
+              let (g, al, right) = orderOf o choices observations .answer (λ c s. In (orderOf o choices observations) A q (A .move k c s)) u in
+              nothing k h (below-more o A choices observations r k over ∙ or-intro-right (A .final k)
+              (can-of (orderOf o choices observations) (λ c s. low r (A .move k c s)) g al
+              (λ s l. no-more q (A .move k (g s) s) (P .inside k (g s) s h (orderOf o choices observations .below g al s l) l) (right s l))))
         ]
 
     settled : (m k : ℕ) → k < n → r ≤ m → entry m k ≡ entry r k
     settled m k h l =
         elim (test (low r k)) [
-          | inl t ↦ rank-kept A choices observations r m k l t .1
+          | inl t ↦ rank-kept o A choices observations r m k l t .1
           | inr f ↦
               elim (test (low m k)) [
-                | inl u ↦ clash (no-more (rank m k) k h (below-within A choices observations m k u .1)) f
-                | inr g ↦ entry-none A choices observations m k g ∙ sym (entry-none A choices observations r k f)
+                | inl u ↦ clash (no-more (rank m k) k h (below-within o A choices observations m k u .1)) f
+                | inr g ↦ entry-none o A choices observations m k g ∙ sym (entry-none o A choices observations r k f)
               ]
         ]
 
@@ -217,10 +219,11 @@ module _ (n choices observations : ℕ) (moves finals : List ℕ) where
   -- ---- the rounds one after the other, from the first ranks on
 
   module _ (first ranks : List ℕ) (rest : drop n ranks ≡ drop n first) where
-    pub rounds-on : (r : ℕ) (ranks′ : List ℕ) → ranks′ ≡ ranksTo (suc r) ++ drop n ranks → (take n ranks′ ≡ ranksTo (r + 1)) × (drop n ranks′ ≡ drop n first)
+    pub rounds-on : (r : ℕ) (ranks′ : List ℕ) → ranks′ ≡ ranksTo (suc r) ++ drop n ranks
+        → (take n ranks′ ≡ ranksTo (r + 1)) × (drop n ranks′ ≡ drop n first)
     rounds-on r ranks′ e = (
-      ranks-taken n choices observations (suc r) moves finals ranks′ (drop n ranks) e ∙ ap ranksTo (sym (add-one r)),
-      ranks-passed n choices observations (suc r) moves finals ranks′ (drop n ranks) e ∙ rest,
+      ranks-taken o n choices observations (suc r) moves finals ranks′ (drop n ranks) e ∙ ap ranksTo (sym (add-one r)),
+      ranks-passed o n choices observations (suc r) moves finals ranks′ (drop n ranks) e ∙ rest,
     )
 
     module _ (d : List ℕ) (begun : first ≡ tabulate n (firstRank finals) ++ drop n d) where

@@ -2,7 +2,7 @@
 -- Assumes nothing.
 use borrow.Author.Needs.{needs}
 use Rattle.cabinet.proofs.AnswersDue.{start-told}
-use Rattle.cabinet.proofs.PositionLaws.{stands, row-room, start-refused, start-moves}
+use Rattle.cabinet.proofs.PositionLaws.{stands, has-first, start-refused, start-moves}
 use Rattle.cabinet.proofs.position.start_from.Statement.{statement}
 use Rattle.cabinet.proofs.position.start_from.Tie as tie
 
@@ -19,18 +19,18 @@ returns c =
     (start-refused (a .table .now) (a .shape) (a .position) _ (c .before .before .is-standing .ensures) (c .before .if1 .taken) _
     (c .refuse .ensures))
 
-move-to-requires : tie.Need-move-to-requires
-move-to-requires c κs =
+start-at-requires : tie.Need-start-at-requires
+start-at-requires c κs =
     let a = c .before .before .before .args in
-    row-room (a .table .now) (a .shape) 0 (stands (a .table .now) (a .shape) 0 _ (c .before .is-standing .ensures) (c .if1 .left))
+    has-first (a .table .now) (a .shape) (stands (a .table .now) (a .shape) 0 _ (c .before .is-standing .ensures) (c .if1 .left))
 
 returns-2 : tie.Need-returns-2
 returns-2 c =
     let a = c .before .before .before .before .args in
     start-told (a .table .now) (a .shape) (a .position) _
     (start-moves (a .table .now) (a .shape) (a .position)
-    (stands (a .table .now) (a .shape) 0 _ (c .before .before .is-standing .ensures) (c .before .if1 .left)) _ (c .move-to .ensures))
+    (stands (a .table .now) (a .shape) 0 _ (c .before .before .is-standing .ensures) (c .before .if1 .left)) _ (c .start-at .ensures))
 
 pub start-from-spec : {M : Type 1} → statement M
 start-from-spec =
-    tie.close (tie.spec is-standing-requires refuse-requires returns move-to-requires returns-2)
+    tie.close (tie.spec is-standing-requires refuse-requires returns start-at-requires returns-2)

@@ -5,7 +5,7 @@ use native.Mathlib.Omega.{arith}
 use mathlib.Core.Path.{sym, ap}
 use lib.ListN.{length}
 use lib.Seq.{length-take-le}
-use Rattle.play.specs.Cells.{rowSize}
+use Rattle.printer.proofs.WellFormedLaws.{size-fits}
 use Rattle.cabinet.specs.declared.printing.Printed.the-variants.{Text}
 use Rattle.cabinet.proofs.ResponseLaws.{tight-right, text-long, few-rows, rows-within, table-right, refusal-right}
 use borrow.Author.Needs.{needs}
@@ -24,38 +24,45 @@ solve-requires c κs = search needs
 enum-known-shape : tie.Need-enum-known-shape
 enum-known-shape c = search needs
 
+row-size-requires : tie.Need-row-size-requires
+row-size-requires c κs = search needs
+
 mul-end : tie.Need-mul-end
 mul-end c =
-    let v = c .before .before .before .before .before .before .before .before in
-    let i = v .before .before .before in
-    let a = i .before .before .before .before .before .args in
-    let solve = v .solve in
-    let n = c .before .before .shape .given in
-    let few = few-rows (a .source .now) (a .work .now) (a .table .now) (a .text .now) (i .if1 .left) (solve .result) (solve .last .1 .1 .0)
-    (solve .last .1 .0) (solve .ensures .0) (solve .ensures .1 .0) (solve .ensures .1 .1 .0) (n .0 .0) (n .0 .1 .0) (n .1) (solve .ensures .1 .1 .1) in
-    omega arith
-
-slice-reshare-prefix-print : tie.Need-slice-reshare-prefix-print
-slice-reshare-prefix-print c =
-    let v = c .before .before .before .before .before .before .before .before in
-    let i = v .before .before .before in
-    let a = i .before .before .before .before .before .args in
-    let solve = v .solve in
-    let n = c .before .before .shape .given in
-    let inside = rows-within (a .source .now) (a .work .now) (a .table .now) (a .text .now) (i .if1 .left) (solve .result) (solve .last .1 .1 .0)
-    (solve .last .1 .0) (solve .ensures .0) (solve .ensures .1 .0) (solve .ensures .1 .1 .0) (n .0 .0) (n .0 .1 .0) (n .1) (solve .ensures .1 .1 .1) in
-    omega arith
-
-slice-aggregate-print : tie.Need-slice-aggregate-print
-slice-aggregate-print c =
     let v = c .before .before .before .before .before .before .before .before .before in
     let i = v .before .before .before in
     let a = i .before .before .before .before .before .args in
     let solve = v .solve in
     let n = c .before .before .before .shape .given in
-    sym (length-take-le (n .0 .0 .rows * rowSize) (solve .last .1 .1 .0) (rows-within (a .source .now) (a .work .now) (a .table .now) (a .text .now)
-    (i .if1 .left) (solve .result) (solve .last .1 .1 .0) (solve .last .1 .0) (solve .ensures .0) (solve .ensures .1 .0) (solve .ensures .1 .1 .0)
-    (n .0 .0) (n .0 .1 .0) (n .1) (solve .ensures .1 .1 .1)))
+    let size = c .before .row-size in
+    let few = few-rows (a .source .now) (a .work .now) (a .table .now) (a .text .now) (i .if1 .left) (solve .result) (solve .last .1 .1 .0)
+    (solve .last .1 .0) (solve .ensures .0) (solve .ensures .1 .0) (solve .ensures .1 .1 .0) (n .0 .0) (n .0 .1 .0) (n .1) (solve .ensures .1 .1 .1) in
+    omega (arith, size-fits (n .0 .0 .order) (n .0 .0 .rows) (size .result) few (size .ensures))
+
+slice-reshare-prefix-print : tie.Need-slice-reshare-prefix-print
+slice-reshare-prefix-print c =
+    let v = c .before .before .before .before .before .before .before .before .before in
+    let i = v .before .before .before in
+    let a = i .before .before .before .before .before .args in
+    let solve = v .solve in
+    let n = c .before .before .before .shape .given in
+    let size = c .before .row-size in
+    rows-within (a .source .now) (a .work .now) (a .table .now) (a .text .now) (i .if1 .left) (solve .result) (solve .last .1 .1 .0)
+    (solve .last .1 .0) (solve .ensures .0) (solve .ensures .1 .0) (solve .ensures .1 .1 .0) (n .0 .0) (n .0 .1 .0) (n .1) (solve .ensures .1 .1 .1)
+    (n .0 .0 .rows * size .result) (ap (λ k. n .0 .0 .rows * k) (size .ensures))
+
+slice-aggregate-print : tie.Need-slice-aggregate-print
+slice-aggregate-print c =
+    let v = c .before .before .before .before .before .before .before .before .before .before in
+    let i = v .before .before .before in
+    let a = i .before .before .before .before .before .args in
+    let solve = v .solve in
+    let n = c .before .before .before .before .shape .given in
+    let size = c .before .before .row-size in
+    sym (length-take-le (n .0 .0 .rows * size .result) (solve .last .1 .1 .0)
+    (rows-within (a .source .now) (a .work .now) (a .table .now) (a .text .now) (i .if1 .left) (solve .result) (solve .last .1 .1 .0)
+    (solve .last .1 .0) (solve .ensures .0) (solve .ensures .1 .0) (solve .ensures .1 .1 .0) (n .0 .0) (n .0 .1 .0) (n .1) (solve .ensures .1 .1 .1)
+    (n .0 .0 .rows * size .result) (ap (λ k. n .0 .0 .rows * k) (size .ensures))))
 
 print-requires : tie.Need-print-requires
 print-requires c κs = search needs
@@ -80,15 +87,17 @@ same-length-3 c = search needs
 
 returns-2 : tie.Need-returns-2
 returns-2 c =
-    let v = c .before .before .before .before .before .before .before .before .before .before .before .before .before in
+    let v = c .before .before .before .before .before .before .before .before .before .before .before .before .before .before in
     let i = v .before .before .before in
     let a = i .before .before .before .before .before .args in
     let solve = v .solve in
-    let n = c .before .before .before .before .before .before .before .shape .given in
+    let n = c .before .before .before .before .before .before .before .before .shape .given in
+    let size = c .before .before .before .before .before .before .row-size in
     let print = c .before .before .print in
     let m = table-right (a .source .now) (a .work .now) (a .table .now) (a .text .now) (i .if1 .left) (solve .result) (solve .last .1 .1 .0)
-    (solve .last .1 .0) (solve .ensures .0) (solve .ensures .1 .0) (solve .ensures .1 .1 .0) (n .0 .0) (n .0 .1 .0) (n .1)
-    (solve .ensures .1 .1 .1) (print .result) (print .last .1 .1 .1 .0) (print .ensures .0) (print .ensures .1 .0) in
+    (solve .last .1 .0) (solve .ensures .0) (solve .ensures .1 .0) (solve .ensures .1 .1 .0) (n .0 .0) (n .0 .1 .0) (n .1) (solve .ensures .1 .1 .1)
+    (n .0 .0 .rows * size .result) (ap (λ k. n .0 .0 .rows * k) (size .ensures))
+    (print .result) (print .last .1 .1 .1 .0) (print .ensures .0) (print .ensures .1 .0) in
     (m .0, (m .1, (m .2, (m .3, m .4))))
 
 same-length-4 : tie.Need-same-length-4
@@ -120,6 +129,7 @@ respond-spec =
     returns
     solve-requires
     enum-known-shape
+    row-size-requires
     mul-end
     slice-reshare-prefix-print
     slice-aggregate-print

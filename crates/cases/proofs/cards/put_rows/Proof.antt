@@ -1,30 +1,31 @@
--- `cases::cards::put_rows` is safe and ends: what is left to be put falls. Assumes nothing.
-use Prim.Native.Nat.{_<_, _-_}
+-- `cases::cards::put_rows` is safe and ends: what is left of the table falls. Assumes nothing.
+use Prim.Native.Nat.{_-_}
 use mathlib.Core.Path.{_≡_}
-use native.Mathlib.Omega.{arith}
 use lib.ListN.{length}
-use borrow.Author.Tests.{ltb-true}
 use borrow.Author.Needs.{needs}
 use Rattle.cases.proofs.cards.put_rows.Statement.{statement}
 use Rattle.cases.proofs.cards.put_rows.Tie as tie
 
 abbrev Inv-loop : tie.InvT-loop
-Inv-loop cells₀ row end i₀ cells i = length cells ≡ length cells₀
+Inv-loop cells₀ row size rows i₀ cells i = length cells ≡ length cells₀
 
 abbrev μ-loop : tie.MeasureT-loop
-μ-loop cells₀ row end i₀ cells i = end - i
+μ-loop cells₀ row size rows i₀ cells i = length cells₀ - i
 
 loop-holds : tie.Need-loop-holds Inv-loop μ-loop
 loop-holds c = search needs
+
+div-if1 : tie.Need-div-if1 Inv-loop μ-loop
+div-if1 c = search needs
+
+rem-cell-at : tie.Need-rem-cell-at Inv-loop μ-loop
+rem-cell-at c = search needs
 
 cell-at-requires : tie.Need-cell-at-requires Inv-loop μ-loop
 cell-at-requires c κs = search needs
 
 mul-cells : tie.Need-mul-cells Inv-loop μ-loop
-mul-cells c =
-    let l = c .before .before .before .loop in
-    let within : l .i < length (l .cells) = ltb-true _ _ (c .before .if1 .taken) in
-    omega arith
+mul-cells c = search needs
 
 slice-write-cells : tie.Need-slice-write-cells Inv-loop μ-loop
 slice-write-cells c = search needs
@@ -57,6 +58,8 @@ put-rows-spec =
     Inv-loop
     μ-loop
     loop-holds
+    div-if1
+    rem-cell-at
     cell-at-requires
     mul-cells
     slice-write-cells

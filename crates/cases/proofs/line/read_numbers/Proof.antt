@@ -15,20 +15,20 @@ abbrev μ-loop : tie.MeasureT-loop
 loop-holds : tie.Need-loop-holds Inv-loop μ-loop
 loop-holds c = search needs
 
-number-end-requires : tie.Need-number-end-requires Inv-loop μ-loop
-number-end-requires c κs = search needs
+word-end-requires : tie.Need-word-end-requires Inv-loop μ-loop
+word-end-requires c κs = search needs
 
-sub-put-number : tie.Need-sub-put-number Inv-loop μ-loop
-sub-put-number c = search needs
+sub-put-word : tie.Need-sub-put-word Inv-loop μ-loop
+sub-put-word c = search needs
 
-part-put-number-start : tie.Need-part-put-number-start Inv-loop μ-loop
-part-put-number-start c = search needs
+part-put-word-start : tie.Need-part-put-word-start Inv-loop μ-loop
+part-put-word-start c = search needs
 
-part-put-number-end : tie.Need-part-put-number-end Inv-loop μ-loop
-part-put-number-end c = search needs
+part-put-word-end : tie.Need-part-put-word-end Inv-loop μ-loop
+part-put-word-end c = search needs
 
-put-number-requires : tie.Need-put-number-requires Inv-loop μ-loop
-put-number-requires c κs = search needs
+put-word-requires : tie.Need-put-word-requires Inv-loop μ-loop
+put-word-requires c κs = search needs
 
 add-i : tie.Need-add-i Inv-loop μ-loop
 add-i c = search needs
@@ -52,11 +52,11 @@ read-numbers-spec =
     Inv-loop
     μ-loop
     loop-holds
-    number-end-requires
-    sub-put-number
-    part-put-number-start
-    part-put-number-end
-    put-number-requires
+    word-end-requires
+    sub-put-word
+    part-put-word-start
+    part-put-word-end
+    put-word-requires
     add-i
     loop-less
     loop-again

@@ -6,10 +6,10 @@ use Rattle.compare.proofs.comparing.same_cells.Statement.{statement}
 use Rattle.compare.proofs.comparing.same_cells.Tie as tie
 
 abbrev Inv-loop : tie.InvT-loop
-Inv-loop table cells rows i₀ i = i ≤ tableSize
+Inv-loop a b i₀ i = i ≤ tableSize
 
 abbrev μ-loop : tie.MeasureT-loop
-μ-loop table cells rows i₀ i = tableSize - i
+μ-loop a b i₀ i = tableSize - i
 
 loop-holds : tie.Need-loop-holds Inv-loop μ-loop
 loop-holds c = search needs
@@ -20,8 +20,11 @@ mul-if1 c = search needs
 element-copy-out-if1 : tie.Need-element-copy-out-if1 Inv-loop μ-loop
 element-copy-out-if1 c = search needs
 
-expected-requires : tie.Need-expected-requires Inv-loop μ-loop
-expected-requires c κs = search needs
+mul-if1-2 : tie.Need-mul-if1-2 Inv-loop μ-loop
+mul-if1-2 c = search needs
+
+element-copy-out-if1-2 : tie.Need-element-copy-out-if1-2 Inv-loop μ-loop
+element-copy-out-if1-2 c = search needs
 
 returns : tie.Need-returns Inv-loop μ-loop
 returns c = search needs
@@ -47,7 +50,8 @@ same-cells-spec =
     loop-holds
     mul-if1
     element-copy-out-if1
-    expected-requires
+    mul-if1-2
+    element-copy-out-if1-2
     returns
     add-i
     loop-less

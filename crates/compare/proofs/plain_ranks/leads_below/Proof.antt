@@ -5,13 +5,16 @@ use Rattle.compare.proofs.plain_ranks.leads_below.Statement.{statement}
 use Rattle.compare.proofs.plain_ranks.leads_below.Tie as tie
 
 abbrev Inv-loop : tie.InvT-loop
-Inv-loop moves ranks observations choice r o₀ o = o ≤ observations
+Inv-loop moves ranks w o choice r p₀ p-end p = p ≤ w .observations
 
 abbrev μ-loop : tie.MeasureT-loop
-μ-loop moves ranks observations choice r o₀ o = observations - o
+μ-loop moves ranks w o choice r p₀ p-end p = w .observations - p
 
 loop-holds : tie.Need-loop-holds Inv-loop μ-loop
 loop-holds c = search needs
+
+are-together-requires : tie.Need-are-together-requires Inv-loop μ-loop
+are-together-requires c κs = search needs
 
 mul-index : tie.Need-mul-index Inv-loop μ-loop
 mul-index c = search needs
@@ -34,8 +37,8 @@ element-copy-out-if1 c = search needs
 returns : tie.Need-returns Inv-loop μ-loop
 returns c = search needs
 
-add-o : tie.Need-add-o Inv-loop μ-loop
-add-o c = search needs
+add-p : tie.Need-add-p Inv-loop μ-loop
+add-p c = search needs
 
 loop-less : tie.Need-loop-less Inv-loop μ-loop
 loop-less c = search needs
@@ -53,6 +56,7 @@ leads-below-spec =
     Inv-loop
     μ-loop
     loop-holds
+    are-together-requires
     mul-index
     add-index
     element-copy-out-index
@@ -60,7 +64,7 @@ leads-below-spec =
     mul-if1
     element-copy-out-if1
     returns
-    add-o
+    add-p
     loop-less
     loop-again
     returns-2)

@@ -5,10 +5,10 @@ use Rattle.compare.proofs.plain_ranks.smallest_choice.Statement.{statem
 use Rattle.compare.proofs.plain_ranks.smallest_choice.Tie as tie
 
 abbrev Inv-loop : tie.InvT-loop
-Inv-loop moves ranks w r choice₀ choice-end choice = choice ≤ w .choices
+Inv-loop moves ranks w o r choice₀ choice-end choice = choice ≤ w .choices
 
 abbrev μ-loop : tie.MeasureT-loop
-μ-loop moves ranks w r choice₀ choice-end choice = w .choices - choice
+μ-loop moves ranks w o r choice₀ choice-end choice = w .choices - choice
 
 loop-holds : tie.Need-loop-holds Inv-loop μ-loop
 loop-holds c = search needs

@@ -26,20 +26,14 @@ mul-rank c = search needs
 element-copy-out-rank : tie.Need-element-copy-out-rank Inv-loop μ-loop
 element-copy-out-rank c = search needs
 
-mul-put-belief : tie.Need-mul-put-belief Inv-loop μ-loop
-mul-put-belief c = search needs
+mul-put-row : tie.Need-mul-put-row Inv-loop μ-loop
+mul-put-row c = search needs
 
-index-1-put-belief : tie.Need-index-1-put-belief Inv-loop μ-loop
-index-1-put-belief c = search needs
+index-1-put-row : tie.Need-index-1-put-row Inv-loop μ-loop
+index-1-put-row c = search needs
 
-mul-put-belief-2 : tie.Need-mul-put-belief-2 Inv-loop μ-loop
-mul-put-belief-2 c = search needs
-
-index-1-put-belief-2 : tie.Need-index-1-put-belief-2 Inv-loop μ-loop
-index-1-put-belief-2 c = search needs
-
-put-belief-requires : tie.Need-put-belief-requires Inv-loop μ-loop
-put-belief-requires c κs = search needs
+put-row-requires : tie.Need-put-row-requires Inv-loop μ-loop
+put-row-requires c κs = search needs
 
 add-i : tie.Need-add-i Inv-loop μ-loop
 add-i c = search needs
@@ -64,11 +58,9 @@ put-table-spec =
     index-requires
     mul-rank
     element-copy-out-rank
-    mul-put-belief
-    index-1-put-belief
-    mul-put-belief-2
-    index-1-put-belief-2
-    put-belief-requires
+    mul-put-row
+    index-1-put-row
+    put-row-requires
     add-i
     loop-less
     loop-again

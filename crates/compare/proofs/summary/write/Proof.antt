@@ -5,10 +5,16 @@ use Rattle.compare.proofs.summary.write.Statement.{statement}
 use Rattle.compare.proofs.summary.write.Tie as tie
 
 abbrev Inv-loop : tie.InvT-loop
-Inv-loop counts k₀ t3 k = k ≤ 18
+Inv-loop kind order counts k₀ t5 k = k ≤ 19
 
 abbrev μ-loop : tie.MeasureT-loop
-μ-loop counts k₀ t3 k = 18 - k
+μ-loop kind order counts k₀ t5 k = 19 - k
+
+say-requires : tie.Need-say-requires Inv-loop μ-loop
+say-requires c κs = search needs
+
+say-requires-2 : tie.Need-say-requires-2 Inv-loop μ-loop
+say-requires-2 c κs = search needs
 
 loop-holds : tie.Need-loop-holds Inv-loop μ-loop
 loop-holds c = search needs
@@ -34,8 +40,8 @@ loop-again c = search needs
 slice-aggregate-say : tie.Need-slice-aggregate-say Inv-loop μ-loop
 slice-aggregate-say c = search needs
 
-say-requires : tie.Need-say-requires Inv-loop μ-loop
-say-requires c κs = search needs
+say-requires-3 : tie.Need-say-requires-3 Inv-loop μ-loop
+say-requires-3 c κs = search needs
 
 returns : tie.Need-returns Inv-loop μ-loop
 returns c = search needs
@@ -46,6 +52,8 @@ write-spec =
     (tie.spec
     Inv-loop
     μ-loop
+    say-requires
+    say-requires-2
     loop-holds
     mul-tell
     element-copy-out-tell
@@ -54,5 +62,5 @@ write-spec =
     loop-less
     loop-again
     slice-aggregate-say
-    say-requires
+    say-requires-3
     returns)

@@ -1,7 +1,9 @@
 -- `control::dialogue::put_answer` meets its contract, by the kind of answer.
 -- Assumes nothing.
+use lib.Dec.{lit<}
 use borrow.Author.Needs.{needs}
-use Rattle.control.proofs.DialogueLaws.{same-answer, stop-put}
+use Rattle.basics.specs.Bytes.{bytesOf}
+use Rattle.control.proofs.DialogueLaws.{same-answer, word-put}
 use Rattle.control.proofs.dialogue.put_answer.Statement.{statement}
 use Rattle.control.proofs.dialogue.put_answer.Tie as tie
 
@@ -19,6 +21,15 @@ slice-aggregate-put-bytes c = search needs
 
 put-bytes-requires : tie.Need-put-bytes-requires
 put-bytes-requires c κs = search needs
+
+enum-told-2 : tie.Need-enum-told-2
+enum-told-2 c = search needs
+
+slice-aggregate-put-bytes-2 : tie.Need-slice-aggregate-put-bytes-2
+slice-aggregate-put-bytes-2 c = search needs
+
+put-bytes-requires-2 : tie.Need-put-bytes-requires-2
+put-bytes-requires-2 c κs = search needs
 
 enum-known-a-2 : tie.Need-enum-known-a-2
 enum-known-a-2 c = search needs
@@ -44,13 +55,23 @@ returns-2 c =
     let put = c .before .before .put-bytes in
     let s = c .before .before .before .before .before .before .before .before in
     same-answer (c .before .before .before .before .before .enum-told .given .1) (s .args .text .now) (put .result) (put .last .0)
-    (stop-put (s .args .text .now) (s .pre) (put .ensures))
+    (word-put (bytesOf "stop") (lit< tt) (s .args .text .now) (s .pre) (put .ensures))
 
 same-length-3 : tie.Need-same-length-3
 same-length-3 c = search needs
 
 returns-3 : tie.Need-returns-3
 returns-3 c =
+    let put = c .before .before .put-bytes2 in
+    let s = c .before .before .before .before .before .before .before .before in
+    same-answer (c .before .before .before .before .before .enum-told2 .given .1) (s .args .text .now) (put .result) (put .last .0)
+    (word-put (bytesOf "ready") (lit< tt) (s .args .text .now) (s .pre) (put .ensures))
+
+same-length-4 : tie.Need-same-length-4
+same-length-4 c = search needs
+
+returns-4 : tie.Need-returns-4
+returns-4 c =
     let put = c .before .before .put-refusal in
     let s = c .before .before .before .before .before .before .before .before in
     same-answer (c .before .before .before .before .before .a2 .given .1) (s .args .text .now) (put .result) (put .last .0)
@@ -65,6 +86,9 @@ put-answer-spec =
     enum-told
     slice-aggregate-put-bytes
     put-bytes-requires
+    enum-told-2
+    slice-aggregate-put-bytes-2
+    put-bytes-requires-2
     enum-known-a-2
     put-refusal-requires
     same-length
@@ -72,4 +96,6 @@ put-answer-spec =
     same-length-2
     returns-2
     same-length-3
-    returns-3)
+    returns-3
+    same-length-4
+    returns-4)

@@ -7,12 +7,15 @@ use borrow.Author.Needs.{needs}
 use Rattle.game.proofs.solving.solve_parts.Statement.{statement}
 use Rattle.game.proofs.solving.solve_parts.Tie as tie
 
+order-of-requires : tie.Need-order-of-requires
+order-of-requires c κs = search needs
+
 slice-aggregate-explore : tie.Need-slice-aggregate-explore
 slice-aggregate-explore c = search needs
 
 explore-requires : tie.Need-explore-requires
 explore-requires c κs =
-    let p = c .before .before .before .before .before .pre in
+    let p = c .before .before .before .before .before .before .pre in
     (p .0, (p .1 .0, (p .1 .1 .0, refl)))
 
 enum-known-n : tie.Need-enum-known-n
@@ -32,8 +35,8 @@ shl-solve-states-3 c = search needs
 
 solve-states-requires : tie.Need-solve-states-requires
 solve-states-requires c κs =
-    let p = c .before .before .before .before .before .before .before .before .before .before .before .before .before .before .before .pre in
-    let a = c .before .before .before .before .before .before .before .before .before .before .before .before .before .before .before .args in
+    let p = c .before .before .before .before .before .before .before .before .before .before .before .before .before .before .before .before .pre in
+    let a = c .before .before .before .before .before .before .before .before .before .before .before .before .before .before .before .before .args in
     let explore = c .before .before .before .before .before .before .before .before .before .explore in
     let n = c .before .before .before .before .n in
     let found = sym (n .given .1) ∙ explore .ensures .0 in
@@ -58,21 +61,22 @@ same-length-2 c = search needs
 returns : tie.Need-returns
 returns c =
     let t = c .before .before .before .before .before .before .before .before .before .before .before .before in
-    let a = t .before .before .before .before .before .before .args in
-    let s = t .before .before .before .before .before .before .pre .1 .0 in
+    let a = t .before .before .before .before .before .before .before .args in
+    let s = t .before .before .before .before .before .before .before .pre .1 .0 in
+    let order = t .before .before .before .order-of in
     let explore = t .explore in
     let n = c .before .before .before .before .before .before .before .n in
     let solved = c .before .before .solve-states in
     solved-some (a .parts .now) (a .sizes) s _ _ (explore .last .1 .1 .0) (explore .last .1 .1 .1 .0)
     (explore .ensures .1 .0) (explore .ensures .1 .1) (n .given .0 .0) (sym (n .given .1) ∙ explore .ensures .0)
-    (solved .result) (a .table .now) _ (solved .ensures)
+    (order .result) (order .ensures) (solved .result) (a .table .now) _ (solved .ensures)
 
 same-length-3 : tie.Need-same-length-3
 same-length-3 c = search needs
 
 returns-2 : tie.Need-returns-2
 returns-2 c =
-    let a = c .before .before .before .before .before .before .before .before .before .before .before .args in
+    let a = c .before .before .before .before .before .before .before .before .before .before .before .before .args in
     let explore = c .before .before .before .before .before .explore in
     solved-many (a .parts .now) (a .sizes) (sym (c .enum-told .given .1) ∙ explore .ensures .0) (a .table .now)
 
@@ -80,6 +84,7 @@ pub solve-parts-spec : {M : Type 1} → statement M
 solve-parts-spec =
     tie.close
     (tie.spec
+    order-of-requires
     slice-aggregate-explore
     explore-requires
     enum-known-n

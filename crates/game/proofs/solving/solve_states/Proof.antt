@@ -82,7 +82,8 @@ returns c =
     .before in
     let a = s .args in
     let count = sym (k .given .1) ∙ found .ensures .0 in
-    let right = solved-verdict (a .sets .now) (a .successors .now) (a .n) (a .choices) (a .observations) (a .hiddens) (a .observed) (s .pre .1 .1 .1 .1 .0)
+    let right = solved-verdict (a .order) (a .sets .now) (a .successors .now) (a .n) (a .choices) (a .observations)
+    (a .hiddens) (a .observed) (s .pre .1 .1 .1 .1 .0)
     (k .given .0 .0) count (found .last .1 .1 .1 .1 .1 .0) (found .ensures .1 .0) (found .last .1 .1 .1 .1 .1 .1 .0) _ (found .ensures .1 .1)
     (answer .result) (a .table .now) _ (answer .ensures .0) (answer .ensures .1) in
     (c .solved-with .ensures ∙ right .0, right .1)
@@ -90,7 +91,7 @@ returns c =
 returns-2 : tie.Need-returns-2
 returns-2 c =
     let a = c .before .before .before .before .before .before .before .before .before .before .args in
-    solved-many (a .sets .now) (a .successors .now) (a .n) (a .choices) (a .observations) (a .hiddens) (a .observed)
+    solved-many (a .order) (a .sets .now) (a .successors .now) (a .n) (a .choices) (a .observations) (a .hiddens) (a .observed)
     (sym (c .enum-told .given .1) ∙ c .before .before .before .before .explore-beliefs .ensures .0) (a .table .now)
 
 pub solve-states-spec : {M : Type 1} → statement M

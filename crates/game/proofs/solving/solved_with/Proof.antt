@@ -13,10 +13,10 @@ enum-told : tie.Need-enum-told
 enum-told c = search needs
 
 returns : tie.Need-returns
-returns c = sym (ap (solvedWith (c .before .before .before .args .observed)) (c .before .r .given .1))
+returns c = sym (ap (solvedWith (c .before .before .before .args .order) (c .before .before .before .args .observed)) (c .before .r .given .1))
 
 returns-2 : tie.Need-returns-2
-returns-2 c = sym (ap (solvedWith (c .before .before .args .observed)) (c .enum-told .given .1))
+returns-2 c = sym (ap (solvedWith (c .before .before .args .order) (c .before .before .args .observed)) (c .enum-told .given .1))
 
 pub solved-with-spec : {M : Type 1} → statement M
 solved-with-spec = tie.close (tie.spec enum-known-r enum-told returns returns-2)

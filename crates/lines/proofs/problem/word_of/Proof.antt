@@ -61,16 +61,23 @@ returns-4 c =
       ← (at-same2 .same2 .ensures),
       at-if2 .if2 .left,
       ← (at-same3 .same3 .ensures),
-      at-if3 .if3
-          .left,
+      at-if3 .if3 .left,
       ← (at-same4 .same4 .ensures),
       c .if4 .taken,
     )
 
+slice-aggregate-same-5 : tie.Need-slice-aggregate-same-5
+slice-aggregate-same-5 c = search needs
+
+same-requires-5 : tie.Need-same-requires-5
+same-requires-5 c κs = search needs
+
 returns-5 : tie.Need-returns-5
 unfolding wordOf
 returns-5 c =
-    let at-same4 = c .before in
+    let at-same5 = c .before in
+    let at-if4 = at-same5 .before .before in
+    let at-same4 = at-if4 .before in
     let at-if3 = at-same4 .before .before in
     let at-same3 = at-if3 .before in
     let at-if2 = at-same3 .before .before in
@@ -83,10 +90,36 @@ returns-5 c =
       ← (at-same2 .same2 .ensures),
       at-if2 .if2 .left,
       ← (at-same3 .same3 .ensures),
-      at-if3 .if3
-          .left,
+      at-if3 .if3 .left,
       ← (at-same4 .same4 .ensures),
-      c .if4 .left,
+      at-if4 .if4 .left,
+      ← (at-same5 .same5 .ensures),
+      c .if5 .taken,
+    )
+
+returns-6 : tie.Need-returns-6
+unfolding wordOf
+returns-6 c =
+    let at-same5 = c .before in
+    let at-if4 = at-same5 .before .before in
+    let at-same4 = at-if4 .before in
+    let at-if3 = at-same4 .before .before in
+    let at-same3 = at-if3 .before in
+    let at-if2 = at-same3 .before .before in
+    let at-same2 = at-if2 .before in
+    let at-if1 = at-same2 .before .before in
+    let at-same = at-if1 .before in
+    rw (
+      ← (at-same .same .ensures),
+      at-if1 .if1 .left,
+      ← (at-same2 .same2 .ensures),
+      at-if2 .if2 .left,
+      ← (at-same3 .same3 .ensures),
+      at-if3 .if3 .left,
+      ← (at-same4 .same4 .ensures),
+      at-if4 .if4 .left,
+      ← (at-same5 .same5 .ensures),
+      c .if5 .left,
     )
 
 pub word-of-spec : {M : Type 1} → statement M
@@ -105,4 +138,7 @@ word-of-spec =
     slice-aggregate-same-4
     same-requires-4
     returns-4
-    returns-5)
+    slice-aggregate-same-5
+    same-requires-5
+    returns-5
+    returns-6)

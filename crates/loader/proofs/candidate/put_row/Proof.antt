@@ -1,76 +1,96 @@
--- `loader::candidate::put_row` meets its contract. The invariant: behind the first cell, the cells of the observations below s are written.
+-- `loader::candidate::put_row` meets its contract. The invariant: the first i cells are written.
 -- Assumes nothing.
-use Prim.Native.Nat.{suc, _-_, _*_, _≤_}
+use Prim.Native.Nat.{_-_, _*_, _≤_}
 use native.Mathlib.Omega.{arith}
-use mathlib.Core.Path.{_≡_, refl, _∙_}
-use lib.ListN.{length}
-use lib.Seq.{sets}
+use mathlib.Core.Path.{_≡_, refl}
+use lib.ListN.{length, length-set}
+use lib.Seq.{paste, paste-zero}
 use borrow.Author.Needs.{needs}
-use Rattle.play.specs.Limits.{sideLimit}
-use Rattle.play.specs.Cells.{rowSize}
-use Rattle.loader.proofs.candidate.CellLoop.{nextsTo, nexts-none, nexts-more, row-written}
+use Rattle.loader.specs.Candidate.{rowIn}
+use Rattle.loader.proofs.candidate.CellLoop.{cell-place, row-place, cell-more, cells-all}
 use Rattle.loader.proofs.candidate.put_row.Statement.{statement}
 use Rattle.loader.proofs.candidate.put_row.Tie as tie
 
 abbrev Inv-loop : tie.InvT-loop
-Inv-loop line shape row cells₀ n s₀ cells s =
-    (s ≤ sideLimit) × (length cells ≡ length cells₀) × (cells ≡ sets cells₀ (suc (row * rowSize)) (nextsTo line (shape .rows) n s))
+Inv-loop line shape row cells₀ size at i₀ cells i =
+    (i ≤ size) × (length cells ≡ length cells₀) × (cells ≡ paste cells₀ at (rowIn shape line) i)
 
 abbrev μ-loop : tie.MeasureT-loop
-μ-loop line shape row cells₀ n s₀ cells s = sideLimit - s
+μ-loop line shape row cells₀ size at i₀ cells i = size - i
 
-first-in-requires : tie.Need-first-in-requires Inv-loop μ-loop
-first-in-requires c κs = search needs
+row-size-requires : tie.Need-row-size-requires Inv-loop μ-loop
+row-size-requires c κs = search needs
 
-set-first-requires : tie.Need-set-first-requires Inv-loop μ-loop
-set-first-requires c κs = search needs
-
-count-in-requires : tie.Need-count-in-requires Inv-loop μ-loop
-count-in-requires c κs = search needs
+mul-at : tie.Need-mul-at Inv-loop μ-loop
+mul-at c =
+    let s = c .before .before .before in
+    let a = s .args in
+    omega (arith, s .good, row-place (a .shape) (a .line .now) (a .cells .now) (a .row) _ (c .row-size .ensures) (s .pre .1 .1))
 
 loop-holds : tie.Need-loop-holds Inv-loop μ-loop
 loop-holds c =
-    let a = c .before .before .before .before .before .before .before .before .args in
-    (omega arith, refl, nexts-none (a .line .now) (a .shape .rows) _ _ _)
+    let a = c .before .before .before .args in
+    (omega arith, refl, paste-zero (a .cells .now) (a .row * c .row-size .result) (rowIn (a .shape) (a .line .now)))
 
-next-in-requires : tie.Need-next-in-requires Inv-loop μ-loop
-next-in-requires c κs =
-    let s = c .before .before .before .before .before .before .before .before .before .before .before in
-    (s .pre .1 .0, c .before .loop-test .taken)
+cell-in-requires : tie.Need-cell-in-requires Inv-loop μ-loop
+cell-in-requires c κs =
+    let s = c .before .before .before .before .before in
+    (s .pre .0, (s .pre .1 .0, omega (arith, c .loop-test .taken, c .before .before .row-size .ensures)))
 
-set-next-requires : tie.Need-set-next-requires Inv-loop μ-loop
-set-next-requires c κs =
-    let l = c .before .before .before in
-    let f = l .before .before .before .before in
-    (omega (arith, l .loop .inv .1, f .set-first .kept .0, f .before .before .before .before .before .pre .1 .1), c .before .before .loop-test .taken)
+add-cells : tie.Need-add-cells Inv-loop μ-loop
+add-cells c =
+    let r = c .before .before .before in
+    let s = r .before .before .before in
+    let a = s .args in
+    let place = cell-place (a .shape) (a .line .now) (a .cells .now) (a .row) _ (r .row-size .ensures) (s .pre .1 .1) in
+    omega (arith, s .good, place (c .before .before .loop .i) (c .before .loop-test .taken))
 
-add-s : tie.Need-add-s Inv-loop μ-loop
-add-s c = search needs
+mul-cells : tie.Need-mul-cells Inv-loop μ-loop
+mul-cells c =
+    let r = c .before .before .before in
+    let s = r .before .before .before in
+    let a = s .args in
+    let place = cell-place (a .shape) (a .line .now) (a .cells .now) (a .row) _ (r .row-size .ensures) (s .pre .1 .1) in
+    omega (arith, s .good, place (c .before .before .loop .i) (c .before .loop-test .taken))
+
+slice-write-cells : tie.Need-slice-write-cells Inv-loop μ-loop
+slice-write-cells c =
+    let l = c .before .before .loop in
+    let r = c .before .before .before in
+    let s = r .before .before .before in
+    let a = s .args in
+    let place = cell-place (a .shape) (a .line .now) (a .cells .now) (a .row) _ (r .row-size .ensures) (s .pre .1 .1) in
+    omega (arith, l .inv .1, place (l .i) (c .before .loop-test .taken))
+
+add-i : tie.Need-add-i Inv-loop μ-loop
+add-i c = search needs
 
 loop-less : tie.Need-loop-less Inv-loop μ-loop
 loop-less c = search needs
 
 loop-again : tie.Need-loop-again Inv-loop μ-loop
 loop-again c =
-    let n = c .before .before in
-    let l = n .before .before .before .before in
-    let a = l .before .before .before .before .before .before .before .before .before .args in (
+    let l = c .before .before .loop in
+    let r = c .before .before .before in
+    let s = r .before .before .before in
+    let a = s .args in (
       omega arith,
-      n .set-next .kept .0 ∙ l .loop .inv .1,
-      nexts-more (a .line .now) (a .shape .rows) _ _ _ _ _ (l .loop .s) _ (l .loop .inv .2) (n .before .next-in .ensures) (n .set-next .ensures),
+      simp length-set (l .inv .1),
+      cell-more (a .shape) (a .line .now) (a .cells .now) (a .row) _ (r .row-size .ensures) (s .pre .1 .1) (l .i) (l .cells) (l .inv .2)
+          (c .before .loop-test .taken) _ (c .cell-in .ensures),
     )
 
 same-length : tie.Need-same-length Inv-loop μ-loop
-same-length c = c .before .loop .inv .1 ∙ c .before .before .before .before .before .set-first .kept .0
+same-length c = search needs
 
 returns : tie.Need-returns Inv-loop μ-loop
 returns c =
     let l = c .before .loop in
-    let f = c .before .before .before .before .before in
-    let a = f .before .before .before .before .before .args in
-    let e : l .s ≡ sideLimit = omega (arith, c .loop-test .left) in
-    row-written (a .line .now) (a .shape) _ (l .s) (a .row * rowSize) _ (a .cells .now) _ _ (f .before .first-in .ensures)
-    (c .before .before .count-in .ensures) e (f .set-first .ensures) (l .inv .2)
+    let r = c .before .before in
+    let s = r .before .before .before in
+    let a = s .args in
+    cells-all (a .shape) (a .line .now) (a .cells .now) (a .row) _ (r .row-size .ensures) (s .pre .1 .1) (l .i) (l .cells) (l .inv .2)
+    (omega (arith, c .loop-test .left))
 
 pub put-row-spec : {M : Type 1} → statement M
 put-row-spec =
@@ -78,13 +98,14 @@ put-row-spec =
     (tie.spec
     Inv-loop
     μ-loop
-    first-in-requires
-    set-first-requires
-    count-in-requires
+    row-size-requires
+    mul-at
     loop-holds
-    next-in-requires
-    set-next-requires
-    add-s
+    cell-in-requires
+    add-cells
+    mul-cells
+    slice-write-cells
+    add-i
     loop-less
     loop-again
     same-length

@@ -11,6 +11,9 @@ piece-requires c κs = search needs
 rows-in-requires : tie.Need-rows-in-requires
 rows-in-requires c κs = search needs
 
+order-in-requires : tie.Need-order-in-requires
+order-in-requires c κs = search needs
+
 first-move-requires : tie.Need-first-move-requires
 first-move-requires c κs = search needs
 
@@ -23,9 +26,10 @@ observed-in-requires c κs = search needs
 returns : tie.Need-returns
 returns c =
     let m = c .before .before in
-    let r = m .before in
-    shape-is (r .before .before .before .args .text .now) (r .rows-in .result) (c .observed-in .result) (m .first-move .result) _ _
-    (r .before .piece .ensures) (r .rows-in .ensures) (m .first-move .ensures) (c .before .piece2 .ensures) (c .observed-in .ensures)
+    let q = m .before in
+    let r = q .before in
+    shape-is (r .before .before .before .args .text .now) (r .rows-in .result) (c .observed-in .result) (m .first-move .result) (q .order-in .result) _ _
+    (r .before .piece .ensures) (r .rows-in .ensures) (q .order-in .ensures) (m .first-move .ensures) (c .before .piece2 .ensures) (c .observed-in .ensures)
 
 pub shape-in-spec : {M : Type 1} → statement M
 shape-in-spec =
@@ -33,6 +37,7 @@ shape-in-spec =
     (tie.spec
     piece-requires
     rows-in-requires
+    order-in-requires
     first-move-requires
     piece-requires-2
     observed-in-requires

@@ -4,7 +4,7 @@ use native.Mathlib.Omega.{arith}
 use lib.ListN.{replicate, length-take}
 use borrow.Author.Needs.{needs}
 use Rattle.play.specs.Cells.{tableSize}
-use Rattle.loader.proofs.LoadedAsLaws.{load-short, taken-long, cells-ask, cells-in, cells-long, print-asks, count-le, load-done}
+use Rattle.loader.proofs.LoadedAsLaws.{load-short, taken-long, cells-ask, size-few, cells-in, cells-long, print-asks, count-le, load-done}
 use Rattle.loader.proofs.loading.load.Statement.{statement}
 use Rattle.loader.proofs.loading.load.Tie as tie
 
@@ -27,73 +27,76 @@ put-rows-requires c κs =
     let h = c .before .before in
     cells-ask (h .before .before .before .before .args .text .now) (h .shape-in .ensures)
 
+row-size-requires : tie.Need-row-size-requires
+row-size-requires c κs = search needs
+
 mul-end : tie.Need-mul-end
 mul-end c =
-    let h = c .before .before .before .before .before in
-    omega (arith, cells-ask (h .before .before .before .before .args .text .now) (h .shape-in .ensures) .1 .0)
+    let z = c .before in
+    let p = z .before .before in
+    let h = p .before .before .before in
+    let text = h .before .before .before .before .args .text .now in
+    omega (arith, size-few text (h .shape-in .ensures) (replicate tableSize 0) (p .put-rows .ensures) (z .row-size .ensures))
 
 array-share-prefix-cells : tie.Need-array-share-prefix-cells
 array-share-prefix-cells c =
-    let p = c .before .before in
+    let z = c .before in
+    let p = z .before .before in
     let h = p .before .before .before in
-    cells-in (h .before .before .before .before .args .text .now) (h .shape-in .ensures) (replicate tableSize 0) (p .put-rows .ensures)
+    let text = h .before .before .before .before .args .text .now in
+    cells-in text (h .shape-in .ensures) (replicate tableSize 0) (p .put-rows .ensures) (z .row-size .ensures)
 
 slice-aggregate-compare-print : tie.Need-slice-aggregate-compare-print
 slice-aggregate-compare-print c =
-    let p = c .before .before .before in
+    let z = c .before .before in
+    let p = z .before .before in
     let h = p .before .before .before in
-    cells-long (h .before .before .before .before .args .text .now) (h .shape-in .ensures) (replicate tableSize 0) (p .put-rows .ensures)
+    let text = h .before .before .before .before .args .text .now in
+    cells-long text (h .shape-in .ensures) (replicate tableSize 0) (p .put-rows .ensures) (z .row-size .ensures)
 
 compare-print-requires : tie.Need-compare-print-requires
 compare-print-requires c κs =
-    let p = c .before .before .before in
-    let w = p .before .before in
-    let h = w .before in
-    print-asks (h .before .before .before .before .args .text .now) (h .shape-in .ensures) (replicate tableSize 0) (p .put-rows .ensures)
-    (w .worst-in .ensures)
+    let z = c .before .before in
+    let p = z .before .before in
+    let h = p .before .before .before in
+    let text = h .before .before .before .before .args .text .now in
+    print-asks text (h .shape-in .ensures) (replicate tableSize 0) (p .put-rows .ensures) (z .row-size .ensures) (p .before .before .worst-in .ensures)
 
 count-at-requires : tie.Need-count-at-requires
 count-at-requires c κs = search needs
 
 array-share-prefix-cells-2 : tie.Need-array-share-prefix-cells-2
 array-share-prefix-cells-2 c =
-    let p = c .before .before .before .before .before in
+    let z = c .before .before .before .before in
+    let p = z .before .before in
     let h = p .before .before .before in
     let text = h .before .before .before .before .args .text .now in
-    let inside = cells-in text (h .shape-in .ensures) (replicate tableSize 0) (p .put-rows .ensures) in
-    omega (
-      arith,
-      inside,
-      count-le text (h .shape-in .ensures) (replicate tableSize 0) (p .put-rows .ensures)
-          (c .before .compare-print .result) (c .count-at .ensures),
-    )
+    let inside = cells-in text (h .shape-in .ensures) (replicate tableSize 0) (p .put-rows .ensures) (z .row-size .ensures) in
+    let count = count-le text (h .shape-in .ensures) (replicate tableSize 0) (p .put-rows .ensures) (z .row-size .ensures)
+    (c .before .compare-print .result) (c .count-at .ensures) in
+    omega (arith, inside, count)
 
 slice-aggregate-copy : tie.Need-slice-aggregate-copy
 slice-aggregate-copy c =
-    let p = c .before .before .before .before .before .before in
+    let z = c .before .before .before .before .before in
+    let p = z .before .before in
     let h = p .before .before .before in
     let text = h .before .before .before .before .args .text .now in
-    let inside = cells-in text (h .shape-in .ensures) (replicate tableSize 0) (p .put-rows .ensures) in
-    taken-long _ _ (omega (
-      arith,
-      inside,
-      count-le text (h .shape-in .ensures) (replicate tableSize 0) (p .put-rows .ensures)
-          (c .before .before .compare-print .result) (c .before .count-at .ensures),
-    ))
+    let inside = cells-in text (h .shape-in .ensures) (replicate tableSize 0) (p .put-rows .ensures) (z .row-size .ensures) in
+    let count = count-le text (h .shape-in .ensures) (replicate tableSize 0) (p .put-rows .ensures) (z .row-size .ensures)
+    (c .before .before .compare-print .result) (c .before .count-at .ensures) in
+    taken-long _ _ (omega (arith, inside, count))
 
 copy-requires : tie.Need-copy-requires
 copy-requires c κs =
-    let p = c .before .before .before .before .before .before .before in
+    let z = c .before .before .before .before .before .before in
+    let p = z .before .before in
     let h = p .before .before .before in
-    let a = h .before .before .before .before .args in
-    let few = cells-ask (a .text .now) (h .shape-in .ensures) .1 .1 in
-    simp length-take (omega (
-      arith,
-      few,
-      h .before .if1 .left,
-      count-le (a .text .now) (h .shape-in .ensures) (replicate tableSize 0)
-          (p .put-rows .ensures) (c .before .before .before .compare-print .result) (c .before .before .count-at .ensures),
-    ))
+    let text = h .before .before .before .before .args .text .now in
+    let few = size-few text (h .shape-in .ensures) (replicate tableSize 0) (p .put-rows .ensures) (z .row-size .ensures) in
+    let count = count-le text (h .shape-in .ensures) (replicate tableSize 0) (p .put-rows .ensures) (z .row-size .ensures)
+    (c .before .before .before .compare-print .result) (c .before .before .count-at .ensures) in
+    simp length-take (omega (arith, few, h .before .if1 .left, count))
 
 answer-at-requires : tie.Need-answer-at-requires
 answer-at-requires c κs = search needs
@@ -106,11 +109,12 @@ returns-2 c =
     let k = c .before .before .before in
     let n = k .before .before .before in
     let d = n .before in
-    let p = d .before .before .before .before in
+    let z = d .before .before .before in
+    let p = z .before .before in
     let w = p .before .before in
     let h = w .before in
     let a = h .before .before .before .before .args in
-    load-done (a .text .now) (h .shape-in .ensures) (replicate tableSize 0) (p .put-rows .ensures) (w .worst-in .ensures)
+    load-done (a .text .now) (h .shape-in .ensures) (replicate tableSize 0) (p .put-rows .ensures) (z .row-size .ensures) (w .worst-in .ensures)
     (a .table .now) (h .before .if1 .left) (d .compare-print .ensures) (n .count-at .ensures) _ (c .answer-at .ensures) _ (k .copy .ensures)
 
 pub load-spec : {M : Type 1} → statement M
@@ -122,6 +126,7 @@ load-spec =
     worst-in-requires
     slice-aggregate-put-rows
     put-rows-requires
+    row-size-requires
     mul-end
     array-share-prefix-cells
     slice-aggregate-compare-print

@@ -1,4 +1,4 @@
--- `printer::checking::is_row` meets its contract. The invariant: the next rows passed are rows.
+-- `printer::checking::is_row` meets its contract. The invariant: the observations passed have a choice and a next row.
 -- Assumes nothing.
 use Prim.Native.Nat.{_-_, _≤_}
 use native.Mathlib.Omega.{arith}
@@ -7,26 +7,29 @@ use mathlib.Core.Bool.{true}
 use borrow.Author.Needs.{needs}
 use Rattle.play.specs.Limits.{sideLimit}
 use Rattle.basics.specs.Bounded.{all}
-use Rattle.printer.proofs.WellFormedLaws.{leadsOn, count-le, no-answer, leads-more, row-fails, row-passes}
+use Rattle.printer.specs.WellFormed.{isPair}
+use Rattle.printer.proofs.WellFormedLaws.{row-room, count-le, no-answer, pairs-more, row-fails, row-passes}
 use Rattle.printer.proofs.checking.is_row.Statement.{statement}
 use Rattle.printer.proofs.checking.is_row.Tie as tie
 
 abbrev Inv-loop : tie.InvT-loop
-Inv-loop table shape row n s₀ s = (n ≤ sideLimit) × (s ≤ n) × (all s (leadsOn table shape row) ≡ true)
+Inv-loop table shape row n s₀ s = (n ≤ sideLimit) × (s ≤ n) × (all s (isPair table shape row) ≡ true)
 
 abbrev μ-loop : tie.MeasureT-loop
 μ-loop table shape row n s₀ s = n - s
 
 first-cell-requires : tie.Need-first-cell-requires Inv-loop μ-loop
-first-cell-requires c κs = search needs
+first-cell-requires c κs =
+    let s = c .before in
+    row-room (s .args .shape .order) (s .args .shape .rows) (s .args .row) _ (s .pre .0) (s .pre .1 .0)
 
-is-answer-requires : tie.Need-is-answer-requires Inv-loop μ-loop
-is-answer-requires c κs = search needs
+is-first-requires : tie.Need-is-first-requires Inv-loop μ-loop
+is-first-requires c κs = search needs
 
 returns : tie.Need-returns Inv-loop μ-loop
 returns c =
     let a = c .before .before .before .before .args in
-    no-answer (a .table .now) (a .shape) (a .row) _ _ (c .before .before .first-cell .ensures) (c .before .is-answer .ensures) (c .if1 .taken)
+    no-answer (a .table .now) (a .shape) (a .row) _ _ (c .before .before .first-cell .ensures) (c .before .is-first .ensures) (c .if1 .taken)
 
 next-count-requires : tie.Need-next-count-requires Inv-loop μ-loop
 next-count-requires c κs = search needs
@@ -37,20 +40,16 @@ loop-holds c =
     let a = e .args in
     (subst (λ n. n ≤ sideLimit) (sym (c .next-count .ensures)) (count-le (a .table .now) (a .shape) (a .row) (e .pre .1 .1)), omega arith, refl)
 
-next-cell-requires : tie.Need-next-cell-requires Inv-loop μ-loop
-next-cell-requires c κs = search needs
-
-is-next-requires : tie.Need-is-next-requires Inv-loop μ-loop
-is-next-requires c κs = search needs
+is-pair-requires : tie.Need-is-pair-requires Inv-loop μ-loop
+is-pair-requires c κs = search needs
 
 returns-2 : tie.Need-returns-2 Inv-loop μ-loop
 returns-2 c =
-    let e = c .before .before .before .before .before .before .before in
+    let e = c .before .before .before .before .before .before in
     let a = e .before .before .before .args in
-    row-fails (a .table .now) (a .shape) (a .row) _ _ (e .before .first-cell .ensures) (e .is-answer .ensures)
-    (c .before .before .before .before .before .before .if1 .left) _ (c .before .before .before .before .before .next-count .ensures)
-    (c .before .before .before .before .loop .s) (c .before .before .before .loop-test .taken)
-    _ _ (c .before .before .next-cell .ensures) (c .before .is-next .ensures) (c .if2 .taken)
+    row-fails (a .table .now) (a .shape) (a .row) _ _ (e .before .first-cell .ensures) (e .is-first .ensures)
+    (c .before .before .before .before .before .if1 .left) _ (c .before .before .before .before .next-count .ensures)
+    (c .before .before .before .loop .s) (c .before .before .loop-test .taken) _ (c .before .is-pair .ensures) (c .if2 .taken)
 
 add-s : tie.Need-add-s Inv-loop μ-loop
 add-s c = search needs
@@ -60,20 +59,16 @@ loop-less c = search needs
 
 loop-again : tie.Need-loop-again Inv-loop μ-loop
 loop-again c =
-    let l = c .before .before .before .before .loop in
-    let a = c .before .before .before .before .before .before .before .before .before .before .args in (
-      l .inv .0,
-      omega arith,
-      leads-more (a .table .now) (a .shape) (a .row) (l .s) _ _ (c .before .before .next-cell .ensures) (c .before .is-next .ensures)
-          (c .if2 .left) (l .inv .2),
-    )
+    let l = c .before .before .before .loop in
+    let a = c .before .before .before .before .before .before .before .before .before .args in
+    (l .inv .0, omega arith, pairs-more (a .table .now) (a .shape) (a .row) (l .s) _ (c .before .is-pair .ensures) (c .if2 .left) (l .inv .2))
 
 returns-3 : tie.Need-returns-3 Inv-loop μ-loop
 returns-3 c =
     let l = c .before .loop in
     let e = c .before .before .before .before in
     let a = e .before .before .before .args in
-    row-passes (a .table .now) (a .shape) (a .row) _ _ (e .before .first-cell .ensures) (e .is-answer .ensures) (c .before .before .before .if1 .left)
+    row-passes (a .table .now) (a .shape) (a .row) _ _ (e .before .first-cell .ensures) (e .is-first .ensures) (c .before .before .before .if1 .left)
     _ (c .before .before .next-count .ensures) (l .s) (l .inv .1) (c .loop-test .left) (l .inv .2)
 
 pub is-row-spec : {M : Type 1} → statement M
@@ -83,12 +78,11 @@ is-row-spec =
     Inv-loop
     μ-loop
     first-cell-requires
-    is-answer-requires
+    is-first-requires
     returns
     next-count-requires
     loop-holds
-    next-cell-requires
-    is-next-requires
+    is-pair-requires
     returns-2
     add-s
     loop-less

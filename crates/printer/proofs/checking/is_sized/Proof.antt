@@ -1,18 +1,24 @@
 -- `printer::checking::is_sized` meets its contract.
 -- Assumes nothing.
 use native.Mathlib.Omega.{arith}
-use Rattle.printer.proofs.WellFormedLaws.{sized-fails, sized-left, few-rows}
+use Rattle.printer.proofs.WellFormedLaws.{few-rows, size-fits, sized-fails, sized-left}
+use borrow.Author.Needs.{needs}
 use Rattle.printer.proofs.checking.is_sized.Statement.{statement}
 use Rattle.printer.proofs.checking.is_sized.Tie as tie
 
 returns : tie.Need-returns
 returns c = let a = c .before .args in sized-fails (a .cells) (a .shape) (c .if1 .taken)
 
+row-size-requires : tie.Need-row-size-requires
+row-size-requires c κs = search needs
+
 mul-result : tie.Need-mul-result
-mul-result c = omega (arith, few-rows (c .before .args .shape .rows) (c .if1 .left) .1)
+mul-result c =
+    let a = c .before .before .args in
+    omega (arith, size-fits (a .shape .order) (a .shape .rows) _ (few-rows (a .shape .rows) (c .before .if1 .left) .1) (c .row-size .ensures))
 
 returns-2 : tie.Need-returns-2
-returns-2 c = let a = c .before .before .args in sized-left (a .cells) (a .shape) (c .before .if1 .left)
+returns-2 c = let a = c .before .before .before .args in sized-left (a .cells) (a .shape) _ (c .before .row-size .ensures) (c .before .before .if1 .left)
 
 pub is-sized-spec : {M : Type 1} → statement M
-is-sized-spec = tie.close (tie.spec returns mul-result returns-2)
+is-sized-spec = tie.close (tie.spec returns row-size-requires mul-result returns-2)

@@ -1,13 +1,14 @@
--- `printer::writing::put_moves` meets its contract: `stop`, or the choice and the next rows behind it.
+-- `printer::writing::put_moves` meets its contract: `stop`, or the printed cells.
 -- Assumes nothing.
+use Prim.Native.Nat.{_+_, _≤_}
 use native.Mathlib.Omega.{arith}
-use mathlib.Core.Path.{refl, ap}
+use mathlib.Core.Path.{ap, subst}
 use lib.ListN.{length}
 use lib.Pow.{pow-mono}
 use borrow.Author.Needs.{needs}
 use Rattle.basics.proofs.Stores.{put-same}
 use Rattle.basics.proofs.BitsLaws.{shl-one}
-use Rattle.printer.proofs.TextLaws.{stop-field, choice-room, choice-put}
+use Rattle.printer.proofs.TextLaws.{stop-field, move-fields}
 use Rattle.printer.proofs.writing.put_moves.Statement.{statement}
 use Rattle.printer.proofs.writing.put_moves.Tie as tie
 
@@ -34,43 +35,29 @@ returns c =
     put-same (a .at) _ _ (a .text .now) (stop-field (a .table .now) (a .shape) (a .row) _ (i .before .first-cell .ensures) (i .if1 .taken))
     _ _ (c .before .before .put-bytes .ensures)
 
-cast-put-field : tie.Need-cast-put-field
-cast-put-field c = search needs
+shl-put-shown : tie.Need-shl-put-shown
+shl-put-shown c = search needs
 
-put-field-requires : tie.Need-put-field-requires
-put-field-requires c κs =
-    let i = c .before in
-    let s = i .before .before .before .before in
-    let a = s .args in
-    choice-room (a .table .now) (a .shape) (a .row) _ (i .before .first-cell .ensures) (i .if1 .left) _ refl (a .at) (a .text .now) (s .pre .1 .1)
-
-shl-put-next-rows : tie.Need-shl-put-next-rows
-shl-put-next-rows c = search needs
-
-put-next-rows-requires : tie.Need-put-next-rows-requires
-put-next-rows-requires c κs =
-    let p = c .before .before .before .before in
-    let i = p .before .before in
+put-shown-requires : tie.Need-put-shown-requires
+put-shown-requires c κs =
+    let i = c .before .before in
     let s = i .before .before .before .before in
     let a = s .args in
     let n = shl-one (a .shape .observed) (omega (arith, s .pre .0)) in
-    let r = choice-put (a .table .now) (a .shape) (a .row) _ (i .before .first-cell .ensures) (i .if1 .left) _ n (a .at) (a .text .now) (s .pre .1 .1)
-    (p .put-field .ensures) in
-    (omega (arith, n, pow-mono (s .pre .0)), (s .pre .1 .0, r .room))
+    let same = move-fields (a .table .now) (a .shape) (a .row) _ (i .before .first-cell .ensures) (i .if1 .left) _ n in
+    (omega (arith, n, pow-mono (s .pre .0)), (s .pre .1 .0, subst (λ l. a .at + length l ≤ length (a .text .now)) same (s .pre .1 .1)))
 
 same-length-2 : tie.Need-same-length-2
 same-length-2 c = search needs
 
 returns-2 : tie.Need-returns-2
 returns-2 c =
-    let p = c .before .before .before .before .before .before .before in
-    let i = p .before .before in
+    let i = c .before .before .before .before .before in
     let s = i .before .before .before .before in
     let a = s .args in
     let n = shl-one (a .shape .observed) (omega (arith, s .pre .0)) in
-    let r = choice-put (a .table .now) (a .shape) (a .row) _ (i .before .first-cell .ensures) (i .if1 .left) _ n (a .at) (a .text .now) (s .pre .1 .1)
-    (p .put-field .ensures) in
-    r .puts _ _ (c .before .before .put-next-rows .ensures)
+    put-same (a .at) _ _ (a .text .now) (move-fields (a .table .now) (a .shape) (a .row) _ (i .before .first-cell .ensures) (i .if1 .left) _ n)
+    _ _ (c .before .before .put-shown .ensures)
 
 pub put-moves-spec : {M : Type 1} → statement M
 put-moves-spec =
@@ -81,9 +68,7 @@ put-moves-spec =
     put-bytes-requires
     same-length
     returns
-    cast-put-field
-    put-field-requires
-    shl-put-next-rows
-    put-next-rows-requires
+    shl-put-shown
+    put-shown-requires
     same-length-2
     returns-2)

@@ -9,6 +9,7 @@ use borrow.Author.Needs.{needs}
 use Rattle.printer.specs.Text.{rowText, rowsText}
 use Rattle.basics.proofs.Stores.{Put, put-none, put-same}
 use Rattle.basics.proofs.TextLaws.{turn}
+use Rattle.printer.proofs.WellFormedLaws.{row-room}
 use Rattle.printer.proofs.writing.put_rows.Statement.{statement}
 use Rattle.printer.proofs.writing.put_rows.Tie as tie
 
@@ -31,7 +32,7 @@ put-row-requires c κs =
     let a = s .args in
     let r = turn (rowText (a .table .now) (a .shape)) (λ row. row) (a .at) (a .shape .rows) (a .text .now) (s .pre .1 .1) _ (t .loop-test .taken)
     (t .before .loop .inv .2) in
-    (s .pre .0, (omega (arith, s .pre .1 .0), r .room))
+    (s .pre .0, (row-room (a .shape .order) (a .shape .rows) _ _ (s .pre .1 .0) (t .loop-test .taken), r .room))
 
 add-row : tie.Need-add-row Inv-loop μ-loop
 add-row c = search needs

@@ -4,7 +4,8 @@ use borrow.Author.Needs.{needs}
 use Prim.Native.Nat.{_-_}
 use native.Mathlib.Omega.{arith}
 use lib.ListN.{length}
-use Rattle.rules.proofs.ReadingLaws.{Going, begin, line-in, unended-line, refused-line, accepted-line, no-formula, some-formula, refused-answer}
+use Rattle.rules.proofs.ReadingLaws.{Going, begin, line-in, unended-line, refused-line, accepted-line, no-formula, some-formula}
+use Rattle.rules.proofs.ReadingLaws.{refused-answer}
 use Rattle.rules.proofs.reader.read_lines.Statement.{statement}
 use Rattle.rules.proofs.reader.read_lines.Tie as tie
 
@@ -93,13 +94,17 @@ returns-3 c =
     let at-loop = c .before .before .before in
     refused-answer _ _ _ _ (no-formula (at-loop .loop .inv) (c .before .before .loop-test .left) (c .if2 .taken))
 
+ordered-requires : tie.Need-ordered-requires Inv-loop μ-loop
+ordered-requires c κs = search needs
+
 same-length-4 : tie.Need-same-length-4 Inv-loop μ-loop
 same-length-4 c = search needs
 
 returns-4 : tie.Need-returns-4 Inv-loop μ-loop
 returns-4 c =
-    let at-loop = c .before .before .before in
-    some-formula (at-loop .loop .inv) (c .before .before .loop-test .left) (c .if2 .left)
+    let at-if2 = c .before in
+    let at-loop = at-if2 .before .before .before in
+    some-formula (at-loop .loop .inv) (at-if2 .before .before .loop-test .left) (at-if2 .if2 .left) _ (c .ordered .ensures)
 
 pub read-lines-spec : {M : Type 1} → statement M
 read-lines-spec =
@@ -123,5 +128,6 @@ read-lines-spec =
     loop-again
     same-length-3
     returns-3
+    ordered-requires
     same-length-4
     returns-4)

@@ -22,7 +22,7 @@ array-read-r c = search needs
 returns : tie.Need-returns
 returns c =
     let p = c .before .before .before .before .before .before .before .pre in
-    none-answer _ _ _ _ _ _ (p .0) (ranks-taken _ _ _ _ _ _ _ _ (c .before .before .rank-all .ensures)) _ (c .if1 .taken)
+    none-answer _ _ _ _ _ _ _ (p .0) (ranks-taken _ _ _ _ _ _ _ _ _ (c .before .before .rank-all .ensures)) _ (c .if1 .taken)
 
 slice-aggregate-put-table : tie.Need-slice-aggregate-put-table
 slice-aggregate-put-table c = search needs
@@ -31,15 +31,15 @@ put-table-requires : tie.Need-put-table-requires
 put-table-requires c κs =
     let p = c .before .before .before .before .before .before .before .before .before .pre in
     let rank-all = c .before .before .before .before .rank-all in
-    let ranked = ranks-taken _ _ _ _ _ _ _ _ (rank-all .ensures) in
-    let long = rank-all .kept .1 .1 .1 .1 .1 .0 ∙ length-replicate {A = ℕ} 256 0 in
-    (p .0, (long, (ranked, (start-found _ _ _ _ _ _ (p .0) ranked (c .before .before .if1 .left), p .1))))
+    let ranked = ranks-taken _ _ _ _ _ _ _ _ _ (rank-all .ensures) in
+    let long = rank-all .kept .1 .1 .1 .1 .1 .1 .0 ∙ length-replicate {A = ℕ} 256 0 in
+    (p .0, (long, (ranked, (start-found _ _ _ _ _ _ _ (p .0) ranked (c .before .before .if1 .left), p .1))))
 
-cast-t21 : tie.Need-cast-t21
-cast-t21 c =
+cast-t22 : tie.Need-cast-t22
+cast-t22 c =
     let p = c .before .before .before .before .before .before .before .before .before .before .before .before .pre in
-    let ranked = ranks-taken _ _ _ _ _ _ _ _ (c .before .before .before .before .before .before .before .rank-all .ensures) in
-    record { fits = omega (arith, start-small _ _ _ _ _ _ (p .0) ranked (c .before .before .before .before .before .if1 .left)) }
+    let ranked = ranks-taken _ _ _ _ _ _ _ _ _ (c .before .before .before .before .before .before .before .rank-all .ensures) in
+    record { fits = omega (arith, start-small _ _ _ _ _ _ _ (p .0) ranked (c .before .before .before .before .before .if1 .left)) }
 
 same-length : tie.Need-same-length
 same-length c = search needs
@@ -49,7 +49,7 @@ returns-2 c =
     let p = c .before .before .before .before .before .before .before .before .before .before .before .before .pre in
     let rank-all = c .before .before .before .before .before .before .before .rank-all in
     let rows = c .before .before .put-table in
-    table-answer _ _ _ _ _ _ (p .0) (ranks-taken _ _ _ _ _ _ (rank-all .last .1 .1 .1 .1 .1 .0) _ (rank-all .ensures)) (rows .result) _ _ _
+    table-answer _ _ _ _ _ _ _ (p .0) (ranks-taken _ _ _ _ _ _ _ (rank-all .last .1 .1 .1 .1 .1 .1 .0) _ (rank-all .ensures)) (rows .result) _ _ _
     (c .before .before .before .before .before .if1 .left) refl (rows .ensures .0) (rows .ensures .1)
 
 pub answer-spec : {M : Type 1} → statement M
@@ -62,6 +62,6 @@ answer-spec =
     returns
     slice-aggregate-put-table
     put-table-requires
-    cast-t21
+    cast-t22
     same-length
     returns-2)

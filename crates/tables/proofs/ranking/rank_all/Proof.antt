@@ -13,11 +13,12 @@ use Rattle.tables.proofs.ranking.rank_all.Statement.{statement}
 use Rattle.tables.proofs.ranking.rank_all.Tie as tie
 
 abbrev Inv-loop : tie.InvT-loop
-Inv-loop moves finals n choices observations ranks₀ r₀ ranks r =
-    (0 < r) × (r ≤ n) × (length ranks ≡ beliefLimit) × (take n ranks ≡ ranksBelow n choices observations r moves finals) × (drop n ranks ≡ drop n ranks₀)
+Inv-loop order moves finals n choices observations ranks₀ r₀ ranks r =
+    (0 < r) × (r ≤ n) × (length ranks ≡ beliefLimit)
+    × (take n ranks ≡ ranksBelow order n choices observations r moves finals) × (drop n ranks ≡ drop n ranks₀)
 
 abbrev μ-loop : tie.MeasureT-loop
-μ-loop moves finals n choices observations ranks₀ r₀ ranks r = n - r
+μ-loop order moves finals n choices observations ranks₀ r₀ ranks r = n - r
 
 rank-finals-requires : tie.Need-rank-finals-requires Inv-loop μ-loop
 rank-finals-requires c κs = search needs
@@ -30,7 +31,7 @@ loop-holds c =
       search needs,
       s .pre .0 .some,
       f .kept .1 .1 .0 ∙ s .pre .1,
-      ranks-first (a .n) (a .choices) (a .observations) (a .moves .now) (a .finals .now) _ _ (f .ensures),
+      ranks-first (a .order) (a .n) (a .choices) (a .observations) (a .moves .now) (a .finals .now) _ _ (f .ensures),
       refl,
     )
 
@@ -54,7 +55,7 @@ returns c =
     let f = c .before .before .before .before .before .before .before .before .before .rank-finals in
     let s = c .before .before .before .before .before .before .before .before .before .before .before .before .before .before in
     let a = s .args in
-    round-last (a .n) (a .choices) (a .observations) (a .moves .now) (a .finals .now) _ _ (l .inv .4) _ (f .ensures)
+    round-last (a .order) (a .n) (a .choices) (a .observations) (a .moves .now) (a .finals .now) _ _ (l .inv .4) _ (f .ensures)
     (s .pre .0) (l .r) (l .inv .0) h _ (g .ensures .1) (not-true _ (c .if1 .taken)) _ (g .ensures .0)
 
 add-r : tie.Need-add-r Inv-loop μ-loop
@@ -69,8 +70,8 @@ loop-again c =
     let l = c .before .before .before .before .before .before .loop in
     let a = c .before .before .before .before .before .before .before .before .before .before .before .before .before .before .args in
     let (taken, rest) =
-    rounds-on (a .n) (a .choices) (a .observations) (a .moves .now) (a .finals .now) _ _ (l .inv .4) (l .r) _ (g .ensures .0) in
-    (search needs, omega arith, g .kept .1 .1 .1 .1 .1 .1 .0 ∙ l .inv .2, taken, rest)
+    rounds-on (a .order) (a .n) (a .choices) (a .observations) (a .moves .now) (a .finals .now) _ _ (l .inv .4) (l .r) _ (g .ensures .0) in
+    (search needs, omega arith, g .kept .1 .1 .1 .1 .1 .1 .1 .0 ∙ l .inv .2, taken, rest)
 
 same-length-2 : tie.Need-same-length-2 Inv-loop μ-loop
 same-length-2 c = search needs
@@ -80,7 +81,8 @@ returns-2 c =
     let l = c .before .loop in
     let f = c .before .before .before .before .rank-finals in
     let a = c .before .before .before .before .before .before .before .before .before .args in
-    rounds-done (a .n) (a .choices) (a .observations) (a .moves .now) (a .finals .now) _ _ (l .inv .4) _ (f .ensures) (l .r) (omega arith) (l .inv .3)
+    rounds-done (a .order) (a .n) (a .choices) (a .observations) (a .moves .now) (a .finals .now) _ _ (l .inv .4) _ (f .ensures)
+    (l .r) (omega arith) (l .inv .3)
 
 pub rank-all-spec : {M : Type 1} → statement M
 rank-all-spec =

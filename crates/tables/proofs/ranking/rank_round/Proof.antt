@@ -9,13 +9,14 @@ use Rattle.tables.proofs.ranking.rank_round.Statement.{statement}
 use Rattle.tables.proofs.ranking.rank_round.Tie as tie
 
 abbrev Inv-loop : tie.InvT-loop
-Inv-loop moves finals n choices observations r ranks₀ more₀ k₀ ranks more k = Halfway n choices observations moves finals r ranks₀ k ranks more
+Inv-loop order moves finals n choices observations r ranks₀ more₀ k₀ ranks more k =
+    Halfway order n choices observations moves finals r ranks₀ k ranks more
 
 abbrev μ-loop : tie.MeasureT-loop
-μ-loop moves finals n choices observations r ranks₀ more₀ k₀ ranks more k = n - k
+μ-loop order moves finals n choices observations r ranks₀ more₀ k₀ ranks more k = n - k
 
 loop-holds : tie.Need-loop-holds Inv-loop μ-loop
-loop-holds c = round-begin _ _ _ _ _ _ _ (c .before .before .before .pre .1 .1 .1 .0)
+loop-holds c = round-begin _ _ _ _ _ _ _ _ (c .before .before .before .pre .1 .1 .1 .0)
 
 mul-if1 : tie.Need-mul-if1 Inv-loop μ-loop
 mul-if1 c = search needs
@@ -23,8 +24,8 @@ mul-if1 c = search needs
 slice-read-if1 : tie.Need-slice-read-if1 Inv-loop μ-loop
 slice-read-if1 c = search needs
 
-smallest-choice-requires : tie.Need-smallest-choice-requires Inv-loop μ-loop
-smallest-choice-requires c κs = search needs
+can-lead-requires : tie.Need-can-lead-requires Inv-loop μ-loop
+can-lead-requires c κs = search needs
 
 mul-ranks : tie.Need-mul-ranks Inv-loop μ-loop
 mul-ranks c = search needs
@@ -46,11 +47,13 @@ loop-again c =
     let h = c .before .before .loop-test .taken in
     ⊎-elim
     (λ t.
-    gets-rank _ _ _ _ _ _ _ (p .0) (p .1 .0) (p .1 .1 .0) (q .0) (q .1) _ h _ _ (l .inv) (t .0 .taken) _ (t .2 .ensures) (t .3 .taken) _ _ (t .4) (t .5))
+    gets-rank _ _ _ _ _ _ _ _ (p .0) (p .1 .0) (p .1 .1 .0) (q .0) (q .1) _ h _ _ (l .inv)
+    (t .0 .taken) _ (t .2 .ensures) (t .3 .taken) _ _ (t .4) (t .5))
     (⊎-elim
     (λ t.
-    none-stays _ _ _ _ _ _ _ (p .0) (p .1 .0) (p .1 .1 .0) (q .0) (q .1) _ h _ _ (l .inv) (t .0 .taken) _ (t .2 .ensures) (t .3 .left) _ _ (t .4) (t .5))
-    (λ t. ranked-stays _ _ _ _ _ _ _ (p .0) (p .1 .0) (p .1 .1 .0) (q .0) (q .1) _ h _ _ (l .inv) (t .0 .left) _ _ (t .1) (t .2)))
+    none-stays _ _ _ _ _ _ _ _ (p .0) (p .1 .0) (p .1 .1 .0) (q .0) (q .1) _ h _ _ (l .inv)
+    (t .0 .taken) _ (t .2 .ensures) (t .3 .left) _ _ (t .4) (t .5))
+    (λ t. ranked-stays _ _ _ _ _ _ _ _ (p .0) (p .1 .0) (p .1 .1 .0) (q .0) (q .1) _ h _ _ (l .inv) (t .0 .left) _ _ (t .1) (t .2)))
     (c .if1 .came)
 
 same-length : tie.Need-same-length Inv-loop μ-loop
@@ -59,7 +62,7 @@ same-length c = search needs
 returns : tie.Need-returns Inv-loop μ-loop
 returns c =
     let l = c .before .loop in
-    round-end _ _ _ _ _ _ _ (l .k) _ _ (omega arith) (l .inv)
+    round-end _ _ _ _ _ _ _ _ (l .k) _ _ (omega arith) (l .inv)
 
 pub rank-round-spec : {M : Type 1} → statement M
 rank-round-spec =
@@ -70,7 +73,7 @@ rank-round-spec =
     loop-holds
     mul-if1
     slice-read-if1
-    smallest-choice-requires
+    can-lead-requires
     mul-ranks
     slice-write-ranks
     add-k

@@ -1,104 +1,109 @@
 -- `tables::writing::put_row` meets its contract. The invariant: the next positions of the observations passed are among the rows, and
--- the cells have their numbers.
+-- the cells have their choices and numbers.
 -- Assumes nothing.
-use Rattle.play.specs.Limits.{sideLimit}
 use borrow.Author.Needs.{needs}
 use Prim.Native.Nat.{_-_}
 use native.Mathlib.Omega.{arith}
 use mathlib.Core.Path.{refl, sym, _∙_}
 use mathlib.Core.Logic.{⊎-elim}
-use Rattle.tables.proofs.writing.RowLoop.{Adding, adding-begin, adding-none, adding-old, adding-new, adding-end, cells-room, place-le, room-left}
+use Rattle.tables.proofs.writing.RowLoop.{Adding, adding-begin, adding-old, adding-new, adding-end, cells-room, place-le, room-left}
 use Rattle.tables.proofs.PositionMemoryLaws.{pair-le, spot-lt}
 use Rattle.tables.proofs.writing.put_row.Statement.{statement}
 use Rattle.tables.proofs.writing.put_row.Tie as tie
 
 abbrev Inv-loop : tie.InvT-loop
-Inv-loop moves choices observations k c m rows₀ cells₀ from n₀ s₀ rows cells n s = Adding moves choices observations k c m rows₀ s n rows cells
+Inv-loop order moves answers choices observations k m rows₀ cells₀ from n₀ s₀ rows cells n s =
+    Adding order moves answers choices observations k m rows₀ s n rows cells
 
 abbrev μ-loop : tie.MeasureT-loop
-μ-loop moves choices observations k c m rows₀ cells₀ from n₀ s₀ rows cells n s = sideLimit - s
+μ-loop order moves answers choices observations k m rows₀ cells₀ from n₀ s₀ rows cells n s = observations - s
 
-cast-cells : tie.Need-cast-cells Inv-loop μ-loop
-cast-cells c = search needs
-
-slice-write-cells : tie.Need-slice-write-cells Inv-loop μ-loop
-slice-write-cells c = search needs
+put-first-requires : tie.Need-put-first-requires Inv-loop μ-loop
+put-first-requires c κs = search needs
 
 mul-from : tie.Need-mul-from Inv-loop μ-loop
 mul-from c = search needs
 
-add-from : tie.Need-add-from Inv-loop μ-loop
-add-from c = search needs
-
 loop-holds : tie.Need-loop-holds Inv-loop μ-loop
 loop-holds c =
-    let p = c .before .before .before .pre .1 .1 .1 .1 .1 in
-    adding-begin _ _ _ _ _ _ _ (c .before .before .before .args .cells .now) (p .0) (p .1 .0) (p .1 .1 .1)
+    let p = c .before .before .before .before .before .before .before .before .pre .1 .1 .1 .1 .1 .1 in
+    adding-begin _ _ _ _ _ _ _ _ _ (p .0) (p .1 .0) (c .before .before .put-first .ensures)
+
+shared-slice-read-c : tie.Need-shared-slice-read-c Inv-loop μ-loop
+shared-slice-read-c c = search needs
 
 mul-t : tie.Need-mul-t Inv-loop μ-loop
 mul-t c =
-    let p = c .before .before .before .before .before .before .pre in
-    omega (arith, pair-le _ _ (c .before .before .loop .s) (p .1 .0) (p .1 .1 .0) (c .if1 .taken))
+    let h = c .before in
+    let l = h .before .loop in
+    let s = h .before .before .before .before .before .before .before .before .before .before in
+    let p = s .pre .1 .1 in
+    omega (arith, pair-le _ _ (l .s) (p .0) (p .1 .0) (h .loop-test .taken))
 
 add-t : tie.Need-add-t Inv-loop μ-loop
 add-t c =
-    let p = c .before .before .before .before .before .before .pre in
-    let a = c .before .before .before .before .before .before .args in
-    let q = p .1 .1 in
-    omega (arith, spot-lt _ _ (a .k) (a .c) (c .before .before .loop .s) (p .1 .0) (q .0) (q .1 .0) (q .1 .1 .0) (c .if1 .taken))
+    let h = c .before in
+    let l = h .before .loop in
+    let s = h .before .before .before .before .before .before .before .before .before .before in
+    let p = s .pre .1 .1 in
+    omega (arith, pair-le _ _ (l .s) (p .0) (p .1 .0) (h .loop-test .taken))
+
+cast-t : tie.Need-cast-t Inv-loop μ-loop
+cast-t c = omega (arith, c .shared-slice-known3 .given (c .before .before .loop .s))
+
+add-t-2 : tie.Need-add-t-2 Inv-loop μ-loop
+add-t-2 c =
+    let h = c .before in
+    let l = h .before .loop in
+    let s = h .before .before .before .before .before .before .before .before .before .before in
+    let p = s .pre .1 .1 in
+    omega (arith, pair-le _ _ (l .s) (p .0) (p .1 .0) (h .loop-test .taken), p .1 .1 .0 .small (l .s) (h .loop-test .taken))
 
 shared-slice-read-t : tie.Need-shared-slice-read-t Inv-loop μ-loop
 shared-slice-read-t c =
-    let p = c .before .before .before .before .before .before .before .pre in
-    let a = c .before .before .before .before .before .before .before .args in
-    let q = p .1 .1 in
-    omega (arith, spot-lt _ _ (a .k) (a .c) (c .before .before .before .loop .s) (p .1 .0) (q .0) (q .1 .0) (q .1 .1 .0) (c .before .if1 .taken), p .0)
+    let h = c .before .before in
+    let l = h .before .loop in
+    let s = h .before .before .before .before .before .before .before .before .before .before in
+    let p = s .pre .1 .1 in
+    let small = p .1 .1 .0 .small (l .s) (h .loop-test .taken) in
+    omega (arith, s .pre .0, spot-lt _ _ (s .args .k) _ (l .s) (p .0) (p .1 .0) (p .1 .1 .1 .0) small (h .loop-test .taken))
 
 row-of-requires : tie.Need-row-of-requires Inv-loop μ-loop
 row-of-requires c κs = search needs
 
 slice-write-rows : tie.Need-slice-write-rows Inv-loop μ-loop
 slice-write-rows c =
-    let l = c .before .before .before .before .before .before .loop in
-    let h = c .before .before .before .before .before .loop-test .taken in
-    let p = c .before .before .before .before .before .before .before .before .before .before .pre .1 .1 .1 .1 in
-    omega (
-      arith,
-      room-left _ _ _ _ _ _ _ _ _ _ _ (l .inv) h _ _ (c .before .before .before .before .if1 .taken) refl (c .before .row-of .ensures) (c .if2 .taken)
-          (p .1 .1 .1 .0),
-      l .inv .long,
-    )
+    let h = c .before .before .before .before .before in
+    let l = h .before .loop in
+    let s = h .before .before .before .before .before .before .before .before .before .before in
+    let room = s .pre .1 .1 .1 .1 .1 .1 .1 .1 .0 in
+    let left = room-left _ _ _ _ _ _ _ _ _ _ _ _ (l .inv) (h .loop-test .taken) _ _ refl (c .before .row-of .ensures) (c .if1 .taken) room in
+    omega (arith, left, l .inv .long)
 
 add-n : tie.Need-add-n Inv-loop μ-loop
 add-n c = search needs
 
-cast-cells-2 : tie.Need-cast-cells-2 Inv-loop μ-loop
-cast-cells-2 c =
-    let l = c .before .before .before .before .before .before .loop in
-    let h = c .before .before .before .before .before .loop-test .taken in
-    omega (arith, place-le _ _ _ _ _ _ _ _ _ _ _ (l .inv) h _ _ (c .before .before .before .before .if1 .taken) refl (c .before .row-of .ensures), l .inv .few)
+cast-put-pair : tie.Need-cast-put-pair Inv-loop μ-loop
+cast-put-pair c =
+    let h = c .before .before .before .before .before .before in
+    let l = h .before .loop in
+    let s = h .before .before .before .before .before .before .before .before .before .before in
+    omega (arith, c .before .before .before .before .before .shared-slice-known3 .given (l .s))
 
-add-cells : tie.Need-add-cells Inv-loop μ-loop
-add-cells c = search needs
+cast-put-pair-2 : tie.Need-cast-put-pair-2 Inv-loop μ-loop
+cast-put-pair-2 c =
+    let h = c .before .before .before .before .before .before in
+    let l = h .before .loop in
+    let s = h .before .before .before .before .before .before .before .before .before .before in
+    let place = place-le _ _ _ _ _ _ _ _ _ _ _ _ (l .inv) (h .loop-test .taken) _ _ refl (c .before .before .row-of .ensures) in
+    omega (arith, place, l .inv .few)
 
-mul-cells : tie.Need-mul-cells Inv-loop μ-loop
-mul-cells c = search needs
-
-slice-write-cells-2 : tie.Need-slice-write-cells-2 Inv-loop μ-loop
-slice-write-cells-2 c =
-    let l = c .before .before .before .before .before .before .loop in
-    omega (arith, cells-room _ _ _ _ _ _ _ _ _ _ _ (l .inv), c .before .before .before .before .before .loop-test .taken)
-
-add-cells-2 : tie.Need-add-cells-2 Inv-loop μ-loop
-add-cells-2 c = search needs
-
-mul-cells-2 : tie.Need-mul-cells-2 Inv-loop μ-loop
-mul-cells-2 c = search needs
-
-slice-write-cells-3 : tie.Need-slice-write-cells-3 Inv-loop μ-loop
-slice-write-cells-3 c =
-    let l = c .before .before .loop in
-    omega (arith, cells-room _ _ _ _ _ _ _ _ _ _ _ (l .inv), c .before .loop-test .taken)
+put-pair-requires : tie.Need-put-pair-requires Inv-loop μ-loop
+put-pair-requires c κs =
+    let h = c .before .before .before .before .before .before in
+    let l = h .before .loop in
+    let s = h .before .before .before .before .before .before .before .before .before .before in
+    (omega (arith, h .loop-test .taken, s .pre .1 .1 .1 .0), cells-room _ _ _ _ _ _ _ _ _ _ _ _ (l .inv))
 
 add-s : tie.Need-add-s Inv-loop μ-loop
 add-s c = search needs
@@ -108,32 +113,29 @@ loop-less c = search needs
 
 loop-again : tie.Need-loop-again Inv-loop μ-loop
 loop-again c =
-    let l = c .before .before .loop in
-    let h = c .before .loop-test .taken in
-    let p = c .before .before .before .before .before .before .pre .1 .1 .1 .1 in
+    let h = c .before .before .before .before .before .before .before .before .before in
+    let l = h .before .loop in
+    let s = h .before .before .before .before .before .before .before .before .before .before in
+    let room = s .pre .1 .1 .1 .1 .1 .1 .1 .1 .0 in
+    let found = c .before .before .before .before .before .row-of .ensures in
+    let cells = c .before .before .put-pair .ensures in
     ⊎-elim
-    (λ w.
-    ⊎-elim
-    (λ v.
-    adding-new _ _ _ _ _ _ _ _ _ _ _ (l .inv) h _ _ (w .0 .taken) refl (w .3 .ensures) (v .0 .taken) (p .1 .1 .1 .0) _ _ _ (w .5 ∙ v .1) (w .6) (w .7 ∙ v .2))
-    (λ v. adding-old _ _ _ _ _ _ _ _ _ _ _ (l .inv) h _ _ (w .0 .taken) refl (w .3 .ensures) (v .0 .left) _ _ _ (w .5 ∙ v .1) (w .6) (w .7 ∙ v .2))
-    (w .4 .came))
-    (λ w. adding-none _ _ _ _ _ _ _ _ _ _ _ (l .inv) h (w .0 .left) _ _ _ (w .1) (w .2) (w .3))
-    (c .if1 .came)
+    (λ w. adding-new _ _ _ _ _ _ _ _ _ _ _ _ (l .inv) (h .loop-test .taken) _ _ refl found (w .0 .taken) room _ _ _ (w .1) cells (w .2))
+    (λ w. adding-old _ _ _ _ _ _ _ _ _ _ _ _ (l .inv) (h .loop-test .taken) _ _ refl found (w .0 .left) _ _ _ (w .1) cells (w .2))
+    (c .before .before .before .before .if1 .came)
 
 same-length : tie.Need-same-length Inv-loop μ-loop
 same-length c = search needs
 
 same-length-2 : tie.Need-same-length-2 Inv-loop μ-loop
 same-length-2 c =
-    let l = c .before .loop in
-    let p = c .before .before .before .before .before .pre .1 .1 .1 .1 in
-    cells-room _ _ _ _ _ _ _ _ _ _ _ (l .inv) ∙ sym (p .1 .1 .1 .1)
+    let h = c in
+    let l = h .before .loop in
+    let s = h .before .before .before .before .before .before .before .before .before .before in
+    cells-room _ _ _ _ _ _ _ _ _ _ _ _ (l .inv) ∙ sym (s .pre .1 .1 .1 .1 .1 .1 .1 .1 .1)
 
 returns : tie.Need-returns Inv-loop μ-loop
-returns c =
-    let l = c .before .loop in
-    adding-end _ _ _ _ _ _ _ _ _ _ _ (c .before .before .before .before .before .pre .1 .1 .0) (c .loop-test .left) (l .inv)
+returns c = adding-end _ _ _ _ _ _ _ _ _ _ _ _ (c .loop-test .left) (c .before .loop .inv)
 
 pub put-row-spec : {M : Type 1} → statement M
 put-row-spec =
@@ -141,24 +143,21 @@ put-row-spec =
     (tie.spec
     Inv-loop
     μ-loop
-    cast-cells
-    slice-write-cells
+    put-first-requires
     mul-from
-    add-from
     loop-holds
+    shared-slice-read-c
     mul-t
     add-t
+    cast-t
+    add-t-2
     shared-slice-read-t
     row-of-requires
     slice-write-rows
     add-n
-    cast-cells-2
-    add-cells
-    mul-cells
-    slice-write-cells-2
-    add-cells-2
-    mul-cells-2
-    slice-write-cells-3
+    cast-put-pair
+    cast-put-pair-2
+    put-pair-requires
     add-s
     loop-less
     loop-again

@@ -1,69 +1,26 @@
--- `tables::writing::put_stop` meets its contract. The invariant: the cells passed are those of a stop.
+-- `tables::writing::put_stop` meets its contract.
 -- Assumes nothing.
 use borrow.Author.Needs.{needs}
-use Prim.Native.Nat.{_-_, _≤_}
-use native.Mathlib.Omega.{arith}
-use mathlib.Core.Path.{sym, _∙_}
-use Rattle.play.specs.Limits.{sideLimit}
-use Rattle.play.specs.Cells.{nextAt, stopRow}
-use Rattle.play.proofs.CellsLaws.{stop-length}
-use Rattle.tables.proofs.writing.CellLoop.{Written, written-all, stop-begin, stop-more}
+use mathlib.Core.Path.{refl, _∙_}
+use Rattle.tables.proofs.writing.RowCells.{first-put, stop-is}
 use Rattle.tables.proofs.writing.put_stop.Statement.{statement}
 use Rattle.tables.proofs.writing.put_stop.Tie as tie
 
-abbrev Inv-loop : tie.InvT-loop
-Inv-loop cells₀ s₀ cells s = (s ≤ sideLimit) × Written stopRow cells (nextAt s)
+clear-cells-requires : tie.Need-clear-cells-requires
+clear-cells-requires c κs = search needs
 
-abbrev μ-loop : tie.MeasureT-loop
-μ-loop cells₀ s₀ cells s = sideLimit - s
+set-first-requires : tie.Need-set-first-requires
+set-first-requires c κs = search needs
 
-slice-write-cells : tie.Need-slice-write-cells Inv-loop μ-loop
-slice-write-cells c = search needs
+same-length : tie.Need-same-length
+same-length c = search needs
 
-loop-holds : tie.Need-loop-holds Inv-loop μ-loop
-loop-holds c = (omega arith, stop-begin (c .args .cells .now) (c .pre))
-
-add-cells : tie.Need-add-cells Inv-loop μ-loop
-add-cells c = search needs
-
-mul-cells : tie.Need-mul-cells Inv-loop μ-loop
-mul-cells c = search needs
-
-slice-write-cells-2 : tie.Need-slice-write-cells-2 Inv-loop μ-loop
-slice-write-cells-2 c = omega (arith, c .before .loop .inv .1 .long, stop-length)
-
-add-s : tie.Need-add-s Inv-loop μ-loop
-add-s c = search needs
-
-loop-less : tie.Need-loop-less Inv-loop μ-loop
-loop-less c = search needs
-
-loop-again : tie.Need-loop-again Inv-loop μ-loop
-loop-again c =
-    let l = c .before .loop in
-    (omega arith, stop-more (l .cells) (l .s) (c .loop-test .taken) (l .inv .1))
-
-same-length : tie.Need-same-length Inv-loop μ-loop
-same-length c = c .before .loop .inv .1 .long ∙ stop-length ∙ sym (c .before .before .pre)
-
-returns : tie.Need-returns Inv-loop μ-loop
+returns : tie.Need-returns
 returns c =
-    let l = c .before .loop in
-    written-all stopRow (l .cells) (nextAt (l .s)) (omega (arith, stop-length)) (l .inv .1)
+    let s = c .before .before .before .before .before .before .before .before .before in
+    c .before .before .set-first .ensures
+    ∙ first-put (s .args .order) _ _ _ _ (s .pre) (c .before .before .before .before .before .before .clear-cells .ensures) refl
+    ∙ stop-is (s .args .order)
 
 pub put-stop-spec : {M : Type 1} → statement M
-put-stop-spec =
-    tie.close
-    (tie.spec
-    Inv-loop
-    μ-loop
-    slice-write-cells
-    loop-holds
-    add-cells
-    mul-cells
-    slice-write-cells-2
-    add-s
-    loop-less
-    loop-again
-    same-length
-    returns)
+put-stop-spec = tie.close (tie.spec clear-cells-requires set-first-requires same-length returns)

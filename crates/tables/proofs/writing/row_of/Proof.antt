@@ -3,7 +3,7 @@
 use borrow.Author.Needs.{needs}
 use Prim.Native.Nat.{_-_, _≤_}
 use native.Mathlib.Omega.{arith}
-use Rattle.tables.proofs.writing.CellLoop.{Passed, passed-none, passed-more, passed-found, passed-all}
+use Rattle.tables.proofs.writing.RowNumbers.{Passed, passed-none, passed-more, passed-found, passed-all}
 use Rattle.tables.proofs.writing.row_of.Statement.{statement}
 use Rattle.tables.proofs.writing.row_of.Tie as tie
 

@@ -1,0 +1,2 @@
+-- What the proofs of `lines::ordering` use.
+pub mod SayOrder

@@ -1,0 +1,2 @@
+-- What the proofs of the functions for choices use.
+pub mod BestLoop
