@@ -17,13 +17,8 @@ use Rattle.play.proofs.CellsLaws.{first-same, first-taken, choice-taken, next-t
 use Rattle.tables.specs.declared.shape.Shape.{Shape}
 use Rattle.play.specs.Table.{GoesRow, LaidRow, Laid}
 use Rattle.printer.specs.WellFormed.{Sized, firstLimit, IsFirst, GoodRow, Unused, Printable}
-use Rattle.printer.proofs.WellFormedLaws.{side-le}
+use Rattle.printer.proofs.WellFormedLaws.{side-le, first-goes}
 use Rattle.cabinet.specs.Position.{Standing}
-
--- the first cell of a row that goes on is no stop
-first-goes : (o : Order) (c : ℕ) → c < firstLimit o → ¬ (c ≡ stopCell)
-first-goes Set c h e = omega arith
-first-goes Read c h e = omega arith
 
 -- the first cell goes by the choices, which are few
 first-few : (o : Order) (choices : ℕ) (answer : ℕ → ℕ) → choices ≤ sideLimit → answer 0 < choices → firstOf o answer < firstLimit o

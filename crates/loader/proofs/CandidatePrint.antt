@@ -25,7 +25,7 @@ use Rattle.play.specs.Cells.{choiceAt, nextAt, rowSize, stopCell, cell, firstCe
 use Rattle.play.proofs.CellsLaws.{choice-inside, next-inside, first-inside}
 use Rattle.printer.specs.Text.{shownFrom, shownCount}
 use Rattle.printer.specs.WellFormed.{firstLimit, IsFirst, GoesOn, GoodRow, Unused, PrintableRow, Printable}
-use Rattle.printer.proofs.WellFormedLaws.{side-le}
+use Rattle.printer.proofs.WellFormedLaws.{side-le, first-goes}
 use Rattle.tables.specs.declared.shape.Shape.{Shape}
 use Rattle.loader.specs.Candidate.{saysStop, limitAt, moveIn, rowIn, observedIn, rowsIn, worstIn, shapeIn, cellsIn, goesOn}
 use Rattle.loader.proofs.ShownCells.{Shown, choice-shown, next-shown, OwnAt, own-inside, own-some, own-hidden, blank-by}
@@ -73,10 +73,6 @@ module _ (n rows : ℕ) (some : 0 < rows) (l : List ℕ) where
   move-first Set = move-low Set 0 (omega arith, omega arith)
   move-first Read = subst (λ k. k < 1) (sym (move-hidden Read n rows l 0 (λ (a, b). omega arith))) (omega arith)
 
-first-stops : (o : Order) (c : ℕ) → c < firstLimit o → ¬ (c ≡ stopCell)
-first-stops Set c h e = omega arith
-first-stops Read c h e = omega arith
-
 module _ (shape : Shape) (some : 0 < shape .rows) (s : List ℕ) where
   abbrev t : List ℕ
   t = cellsIn shape s
@@ -106,7 +102,7 @@ module _ (shape : Shape) (some : 0 < shape .rows) (s : List ℕ) where
       first-low = subst (λ c. c < firstLimit o) (sym (cell-moves 0 (first-inside o))) (move-first n (shape .rows) some line o)
 
       goes : ¬ (firstCell o t i ≡ stopCell)
-      goes = first-stops o (firstCell o t i) first-low
+      goes = first-goes o (firstCell o t i) first-low
 
     answer : IsFirst o (firstCell o t i)
     answer = elim (test (saysStop line)) [ inl e ↦ inr (stop-first e) | inr e ↦ inl (first-low e) ]

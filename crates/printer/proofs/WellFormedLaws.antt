@@ -36,6 +36,11 @@ pub row-room : (o : Order) (rows row cells : ℕ) → rows * rowSize o ≤ cells
 row-room Set rows row cells h b = omega arith
 row-room Read rows row cells h b = omega arith
 
+-- the first cell of a row that goes on is no stop
+pub first-goes : (o : Order) (c : ℕ) → c < firstLimit o → ¬ (c ≡ stopCell)
+first-goes Set c h e = omega arith
+first-goes Read c h e = omega arith
+
 -- ---- two tests in front of a third: a holds, and k is below n
 
 module _ (s x : Bool) (k n : ℕ) where
