@@ -6,11 +6,14 @@ use native.Mathlib.Decide.{decLt}
 use native.Mathlib.Omega.{arith}
 use mathlib.Core.Path.{_≡_, refl, sym, ap, _∙_, subst}
 use mathlib.Core.Logic.{_↔_, _⊎_, inl, inr}
+use mathlib.Core.Bool.{Bool, true}
 use mathlib.Core.List.{List, [], _∷_, _++_, List·Memᴰ·head, List·Memᴰ·tail, List·Memᴰ·not-nil, List·Memᴰ·cases-cons, Memᴰ·cast, List·Memᴰ·append-cases, List·Memᴰ·eq-of-singleton}
 use lib.ListN.{length, getD, set, take}
 use Rattle.basics.specs.Lists.{tabulate, below}
 use Rattle.basics.proofs.ListsLaws.{length-tabulate, getD-tabulate}
-use Rattle.basics.specs.Member.{_∈_, Distinct, distinct-nil, distinct-cons}
+use Rattle.basics.specs.Member.{_∈_, allOf, Distinct, distinct-nil, distinct-cons}
+use Rattle.basics.specs.Says.{Says}
+use Rattle.basics.proofs.Booleans.{and-true, and-left, and-right}
 
 -- an entry has an index, and an index below the length has an entry
 pub index-of {ℓ} : {A : Type ℓ} {x : A} {xs : List A} (d : A) → x ∈ xs → (i : ℕ) × (i < length xs) × (getD xs i d ≡ x)
@@ -35,6 +38,17 @@ in-tabulate {A = A} n f x = (to, from)
     from r =
         Memᴰ·cast (sym (getD-tabulate n f (r .0) (f 0) (r .1) ∙ r .2))
         (getD-in (tabulate n f) (r .0) (f 0) (subst (λ k. r .0 < k) (sym (length-tabulate n f)) (r .1)))
+
+-- a test of all entries says that each passes it
+pub allOf-says : {A : Type 0} (ok : A → Bool) (xs : List A) → Says (allOf ok xs) ((x : A) → x ∈ xs → ok x ≡ true)
+allOf-says ok [] = (λ e x m. absurd (List·Memᴰ·not-nil m), λ h. refl)
+allOf-says ok (x ∷ xs) = (
+  λ e y m. elim (List·Memᴰ·cases-cons m) [
+    | inl p ↦ ap ok p ∙ and-left (ok x) (allOf ok xs) e
+    | inr k ↦ allOf-says ok xs .0 (and-right (ok x) (allOf ok xs) e) y k
+  ],
+  λ h. and-true (h x (List·Memᴰ·head refl)) (allOf-says ok xs .1 (λ y m. h y (List·Memᴰ·tail m))),
+)
 
 pub in-below : (n i : ℕ) → (i ∈ below n) ↔ (i < n)
 in-below n i = (λ m. let r = in-tabulate n (λ k. k) i .0 m in subst (λ k. k < n) (r .2) (r .1), λ h. in-tabulate n (λ k. k) i .1 (i, h, refl))

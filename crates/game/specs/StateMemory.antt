@@ -1,13 +1,23 @@
--- The states' tables in memory as an automaton, and what is answered from them.
+-- The states in memory: their sets, where they are kept; their tables as an automaton, and what is answered from them.
 -- Assumes nothing.
 use Prim.Native.Nat.{ℕ, _+_, _*_, _≤_, _<_}
 use mathlib.Core.List.{List}
+use lib.ListN.{length}
 use Rattle.basics.specs.declared.order.Order.{Order}
+use Rattle.basics.specs.Lists.{padded}
+use Rattle.rules.specs.Problem.{Outcome, accepted, refused}
 use Rattle.search.specs.Limits.{letterLimit}
+use Rattle.search.specs.Memory.{setsOf}
 use Rattle.play.specs.Limits.{sideLimit}
 use Rattle.play.specs.Belief.{Automaton}
 use Rattle.beliefs.specs.BeliefMemory.{successorIn, acceptsIn}
-use Rattle.game.specs.Solution.{Solution, beliefSolution}
+use Rattle.game.specs.Solution.{problemStates, Solution, beliefSolution}
+
+-- the front of the lent work memory before it is cleared: each state's set in its place and zeros behind, or zeros alone if there are
+-- too many; a text that is refused leaves it as it was
+abbrev pub setsFrom : Outcome → List ℕ → List ℕ
+setsFrom (accepted p) work = padded (length work) (setsOf (problemStates p))
+setsFrom (refused r) work = work
 
 -- choices and observations of at most four signals each, and letters of at most nine
 pub record Widths (choices observations hiddens : ℕ) : Type 0 where

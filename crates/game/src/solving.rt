@@ -6,15 +6,18 @@ ghost use Rattle.formula.specs.Codes.{partsIn};
 ghost use Rattle.rules.specs.Problem.{readProblem};
 ghost use Rattle.rules.specs.Trace.{countsOf};
 ghost use Rattle.search.specs.Limits.{stateLimit, letterLimit, setSize};
+ghost use Rattle.search.specs.Memory.{setsOf};
+ghost use Rattle.obligations.specs.Letters.{lettersOf};
 ghost use Rattle.obligations.specs.Values.{Stored};
 ghost use Rattle.states.specs.Planes.{Sized};
+ghost use Rattle.states.specs.States.{statesOf};
 ghost use Rattle.play.specs.Cells.{tableSize};
-ghost use Rattle.basics.specs.Lists.{written};
+ghost use Rattle.basics.specs.Lists.{padded, written};
 ghost use Rattle.game.specs.Solution.{partsSolution};
 ghost use Rattle.game.specs.SolvedAs.{solvedWith, solvedOf, solvedFrom, solvedBy, toldSolved, cellsOf, cellsFrom, tableAfter};
 ghost use Rattle.game.specs.SolvedAs.{workAfter, usedRows, SolvedAs};
 ghost use Rattle.beliefs.specs.BeliefMemory.{Successors};
-ghost use Rattle.game.specs.StateMemory.{Widths, memorySolution};
+ghost use Rattle.game.specs.StateMemory.{setsFrom, Widths, memorySolution};
 ghost use Rattle.lines.specs.Memory.{orderIn};
 use basics::Order;
 use basics::clear;
@@ -108,7 +111,7 @@ fn solve_states(
     }
 }
 
-// The answer for a formula's parts and its signals; the sets are room to work in.
+// The answer for a formula's parts and its signals. The states' sets are made and kept in the memory that is lent for them.
 fn solve_parts(parts: &[u32], sizes: Sizes, sets: &mut [u8], table: &mut [u16]) -> Solved
     requires { ⌜ Stored (now parts) ⌝ }
     requires { ⌜ Sized (now parts) sizes ⌝ }
@@ -117,6 +120,8 @@ fn solve_parts(parts: &[u32], sizes: Sizes, sets: &mut [u8], table: &mut [u16]) 
     ensures { λ r. ⌜ r ≡ solvedOf (orderIn sizes) (sizes .observed) (partsSolution (orderIn sizes) (partsIn (now (parts .entry))) (countsOf sizes)) ⌝ }
     ensures { λ _. ⌜ now (table .exit)
         ≡ written (cellsOf (partsSolution (orderIn sizes) (partsIn (now (parts .entry))) (countsOf sizes))) (now (table .entry)) ⌝ }
+    ensures { λ _. ⌜ now (sets .exit) ≡ padded (length (now (sets .entry)))
+        (setsOf (statesOf (partsIn (now (parts .entry))) (lettersOf (countsOf sizes)) stateLimit)) ⌝ }
 {
     let mut successors = [0u8; STATE_LIMIT * LETTER_LIMIT];
     let order = order_of(sizes);
@@ -139,12 +144,13 @@ fn solve_parts(parts: &[u32], sizes: Sizes, sets: &mut [u8], table: &mut [u16]) 
     }
 }
 
-// The answer for a problem's text; the sets are room to work in.
+// The answer for a problem's text. The states' sets are made and kept in the memory that is lent for them.
 fn solve_source(source: &[u8], sets: &mut [u8], table: &mut [u16]) -> Solved
     requires { ⌜ length (now sets) ≡ (stateLimit + 1) * setSize ⌝ }
     requires { ⌜ tableSize ≤ length (now table) ⌝ }
     ensures { λ r. ⌜ r ≡ solvedFrom (readProblem (now (source .entry))) ⌝ }
     ensures { λ _. ⌜ now (table .exit) ≡ written (cellsFrom (readProblem (now (source .entry)))) (now (table .entry)) ⌝ }
+    ensures { λ _. ⌜ now (sets .exit) ≡ setsFrom (readProblem (now (source .entry))) (now (sets .entry)) ⌝ }
 {
     let mut parts = [0u32; PART_LIMIT];
     match read(source, &mut parts) {
@@ -158,7 +164,7 @@ fn solve_source(source: &[u8], sets: &mut [u8], table: &mut [u16]) -> Solved
 
 // Solves a problem: the table of a strategy that wins against every behaviour with the smallest worst case, or one refusal.
 // Refusals: 12, then 1 to 8, 9, 10, 11. Only the table's used rows change; work memory is all zero afterwards, but untouched
-// where either is too short.
+// where either is too short. The states' sets are made and kept in its front (`put_set` in `search` says how) until it is cleared.
 pub fn solve(source: &[u8], work: &mut [u8], table: &mut [u16]) -> Solved
     ensures answer { λ r. ⌜ r ≡ solvedBy (length (now (work .entry))) (length (now (table .entry))) (now (source .entry)) ⌝ }
     ensures rows { λ _. ⌜ now (table .exit) ≡ tableAfter (length (now (work .entry))) (now (source .entry)) (now (table .entry)) ⌝ }

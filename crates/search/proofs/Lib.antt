@@ -8,6 +8,7 @@ pub mod HalfSets
 pub mod PackedSets
 pub mod LimitsLaws
 pub mod KeptItems
+pub mod NextInPlace
 -- the search, step by step and turn by turn
 pub mod StepsFromItem
 pub mod SearchTurns

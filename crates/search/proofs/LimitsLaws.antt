@@ -38,9 +38,6 @@ module _ (d : ℕ) (few : d ≤ operatorLimit) where
   pub set-packing : Packing setSize (2 ^ suc d) setBytes
   set-packing = packing setSize d set-room
 
-  -- the bytes that differ after a letter are in a map, and in a place
+  -- the bytes that differ after a letter are in a map
   pub half-map : halfOf d * 8 ≤ mapSize
   half-map = half-small d operatorLimit few (omega (arith, operators-many))
-
-  pub half-set : halfOf d ≤ setSize
-  half-set = omega (arith, set-bits, half-small d (suc operatorLimit) (omega (arith, few)) (omega (arith, operators-many)))

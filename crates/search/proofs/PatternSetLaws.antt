@@ -2,15 +2,18 @@
 -- Assumes nothing.
 use Prim.Native.Nat.{ℕ, suc, _^_, _<_}
 use native.Mathlib.Omega.{arith}
-use mathlib.Core.Path.{_≡_, refl, sym, _∙_}
-use mathlib.Core.Bool.{Bool, false}
+use mathlib.Core.Path.{_≡_, refl, sym, _∙_, subst}
+use mathlib.Core.Bool.{Bool, true, false, and-true}
 use mathlib.Core.List.{List, [], _∷_, foldr}
 use lib.Pow.{pow-pos}
 use lib.ListN.{length}
 use lib.Seq.{ext-getD}
 use Rattle.basics.specs.Bits.{bit}
 use Rattle.basics.proofs.ListsLaws.{length-tabulate, getD-tabulate}
-use Rattle.search.specs.PatternSet.{PatternSet, member, setOf, start, accepts, next, after}
+use Rattle.basics.specs.Member.{_∈_}
+use Rattle.basics.specs.Says.{Says}
+use Rattle.basics.proofs.MemberLaws.{allOf-says}
+use Rattle.search.specs.PatternSet.{PatternSet, member, setOf, start, accepts, next, nextAll, after}
 use Rattle.basics.proofs.BitsLaws.{bit-zero}
 
 pub length-setOf : (d : ℕ) (f : ℕ → Bool) → length (setOf d f) ≡ 2 ^ suc d
@@ -40,6 +43,25 @@ length-start d = length-setOf d (λ p. bit p d)
 pub start-rejects : (d : ℕ) → accepts (start d) ≡ false
 unfolding accepts start
 start-rejects d = member-setOf d (λ p. bit p d) 0 (pow-pos (suc d)) ∙ bit-zero d
+
+-- after one of several letters
+module _ (d : ℕ) (back : ℕ → ℕ → ℕ) (s : PatternSet) where
+  pub length-nextAll : (letters : List ℕ) → length (nextAll d back s letters) ≡ 2 ^ suc d
+  unfolding nextAll
+  length-nextAll letters = length-setOf d _
+
+  -- a pattern is in the set exactly if each of them carries it back into the present one
+  pub member-nextAll : (letters : List ℕ) (p : ℕ) → p < 2 ^ suc d
+      → Says (member (nextAll d back s letters) p) ((a : ℕ) → a ∈ letters → member s (back a p) ≡ true)
+  unfolding nextAll
+  member-nextAll letters p h =
+      subst (λ b. Says b ((a : ℕ) → a ∈ letters → member s (back a p) ≡ true)) (sym (member-setOf d _ p h))
+      (allOf-says (λ a. member s (back a p)) letters)
+
+  -- where it is the only one
+  pub nextAll-one : (a : ℕ) → nextAll d back s (a ∷ []) ≡ next d back s a
+  unfolding nextAll next
+  nextAll-one a = setOf-ext d _ _ (λ p h. and-true (member s (back a p)))
 
 module _ (d : ℕ) (back : ℕ → ℕ → ℕ) (fits : (a p : ℕ) → back a p < 2 ^ suc d) where
   pub foldr-fits : (π : List ℕ) (p : ℕ) → p < 2 ^ suc d → foldr back p π < 2 ^ suc d

@@ -21,7 +21,7 @@ use Rattle.search.specs.Slots.{itemIn, itemsIn, HoldsItems, withItem, sa
 use Rattle.basics.proofs.BoundedLaws.{agree-at, first-passes, first-least, agree-all, last-or-before}
 use Rattle.basics.proofs.GrowingList.{index-found, index-none}
 use Rattle.basics.proofs.EqualRows.{row-ends}
-use Rattle.basics.proofs.LentPart.{part-length, part-at, mid-before, mid-in, mid-length}
+use Rattle.basics.proofs.LentPart.{part-length, part-at, mid-before, mid-in, mid-after, mid-length}
 use Rattle.search.proofs.ReachableSetsLaws.{sameSet-says}
 
 -- ---- the memory with the bytes of place m written
@@ -43,9 +43,12 @@ item-back w mem bytes written m e =
 pub place-room : (w limit m n : ℕ) → m ≤ limit → n ≡ (limit + 1) * w → m * w + w ≤ n
 place-room w limit m n h e = omega (arith, row-ends w (limit + 1) m (omega arith), e)
 
-pub place-length : (w limit m : ℕ) (mem : List ℕ) → m ≤ limit → length mem ≡ (limit + 1) * w
-    → length (take (m * w + w - m * w) (drop (m * w) mem)) ≡ w
-place-length w limit m mem h e = part-length (m * w) w mem (place-room w limit m (length mem) h e)
+-- bytes that are made to fill their place
+pub item-made : (w limit : ℕ) (mem : List ℕ) (bytes : ℕ → List ℕ) (written : List ℕ) (m : ℕ) → m ≤ limit → length mem ≡ (limit + 1) * w
+    → written ≡ bytes (length (take (m * w + w - m * w) (drop (m * w) mem)))
+    → putMid (m * w) (m * w + w - m * w) mem written ≡ withItem w mem m (bytes w)
+item-made w limit mem bytes written m h e q =
+    item-back w mem (bytes w) written m (q ∙ ap bytes (part-length (m * w) w mem (place-room w limit m (length mem) h e)))
 
 module _ (w : ℕ) (mem bytes : List ℕ) (m : ℕ) (room : m * w + w ≤ length mem) where
   pub with-before : (k : ℕ) → k < m * w → getD (withItem w mem m bytes) k 0 ≡ getD mem k 0
@@ -54,6 +57,9 @@ module _ (w : ℕ) (mem bytes : List ℕ) (m : ℕ) (room : m * w + w ≤ length
   module _ (size : length bytes ≡ w) where
     pub with-there : (b : ℕ) → b < w → getD (withItem w mem m bytes) (m * w + b) 0 ≡ getD bytes b 0
     with-there b h = ap (λ l. getD l (m * w + b) 0) (with-mid w mem bytes m) ∙ mid-in mem (m * w) w bytes room size b h
+
+    pub with-behind : (k : ℕ) → m * w + w ≤ k → getD (withItem w mem m bytes) k 0 ≡ getD mem k 0
+    with-behind k h = ap (λ l. getD l k 0) (with-mid w mem bytes m) ∙ mid-after mem (m * w) w bytes room size k h
 
     pub with-length : length (withItem w mem m bytes) ≡ length mem
     with-length = ap length (with-mid w mem bytes m) ∙ mid-length mem (m * w) w bytes room size
@@ -114,7 +120,7 @@ module _ (w len : ℕ) (pack : List Bool → List ℕ) (packing : Packing w len 
 
   -- another memory with the same first m items
   module _ (mem new : List ℕ) (m : ℕ) (holds : HoldsItems w len pack mem m) (same : (k : ℕ) → k < m * w → getD new k 0 ≡ getD mem k 0) where
-    item-kept : (i : ℕ) → i < m → itemIn w len new i ≡ itemIn w len mem i
+    pub item-kept : (i : ℕ) → i < m → itemIn w len new i ≡ itemIn w len mem i
     item-kept i h =
         packing .back (itemIn w len mem i) (length-itemIn w len mem i) new i
         (λ b l. same (i * w + b) (omega (arith, row-ends w m i h)) ∙ holds .slot i b h l)

@@ -131,8 +131,8 @@ module _ (w len : ℕ) (pack : List Bool → List ℕ) (f : List Bool → ℕ �
         kept : length new ≡ size
         kept = ap length written ∙ SlotsLaws.with-length w mem (pack (f s a)) m room (packing .size (f s a)) ∙ z .2
 
-        before : (k : ℕ) → k < m * w → getD new k 0 ≡ getD mem k 0
-        before k h = ap (λ v. getD v k 0) written ∙ SlotsLaws.with-before w mem (pack (f s a)) m room k h
+        pub front-kept : (k : ℕ) → k < m * w → getD new k 0 ≡ getD mem k 0
+        front-kept k h = ap (λ v. getD v k 0) written ∙ SlotsLaws.with-before w mem (pack (f s a)) m room k h
 
         behind : (b : ℕ) → b < w → getD new (m * w + b) 0 ≡ getD (pack (f s a)) b 0
         behind b h = ap (λ v. getD v (m * w + b) 0) written ∙ SlotsLaws.with-there w mem (pack (f s a)) m room (packing .size (f s a)) b h
@@ -144,15 +144,15 @@ module _ (w len : ℕ) (pack : List Bool → List ℕ) (f : List Bool → ℕ �
         pub adding-old : (t ≡ m → ⊥) → Adding limit count size (a + 1) m new (set row a t)
         adding-old ne =
             let old : (indexIn sameSet (f s a) (itemsIn w len mem m) ≡ t) × (isIn sameSet (f s a) (itemsIn w len mem m) ≡ true)
-            = SlotsLaws.place-old w len pack packing mem new m (z .4 .holds) before (f s a) long behind t first (omega (arith, place-le, ne)) in
+            = SlotsLaws.place-old w len pack packing mem new m (z .4 .holds) front-kept (f s a) long behind t first (omega (arith, place-le, ne)) in
             let q : (indexIn sameSet (f s a) (grownTo a) ≡ t) × (isIn sameSet (f s a) (grownTo a) ≡ true) = rw (z .4 .items) at old in
             let same : grownTo (a + 1) ≡ grownTo a = to-more a ∙ add-old sameSet (grownTo a) (f s a) (q .1) in
-            adding-more m new t (z .1) kept (SlotsLaws.items-kept w len pack packing mem new m (z .4 .holds) before ∙ z .4 .items ∙ sym same)
-            (SlotsLaws.holds-kept w len pack packing mem new m (z .4 .holds) before) (rw same q)
+            adding-more m new t (z .1) kept (SlotsLaws.items-kept w len pack packing mem new m (z .4 .holds) front-kept ∙ z .4 .items ∙ sym same)
+            (SlotsLaws.holds-kept w len pack packing mem new m (z .4 .holds) front-kept) (rw same q)
 
         module _ (e : t ≡ m) where
           is-new : isIn sameSet (f s a) (grownTo a) ≡ false
-          is-new = rw (← z .4 .items) (SlotsLaws.place-new w len pack packing mem new m (z .4 .holds) before (f s a) long behind t first e)
+          is-new = rw (← z .4 .items) (SlotsLaws.place-new w len pack packing mem new m (z .4 .holds) front-kept (f s a) long behind t first e)
 
           new-items : grownTo (a + 1) ≡ grownTo a ++ (f s a ∷ [])
           new-items = to-more a ∙ add-new sameSet (grownTo a) (f s a) is-new
@@ -162,9 +162,9 @@ module _ (w len : ℕ) (pack : List Bool → List ℕ) (f : List Bool → ℕ �
           adding-new ne =
               let q = index-last sameSet (f s a) (grownTo a) (sameSet-says (f s a) (f s a) .1 refl) is-new in
               adding-more (m + 1) new t (omega (arith, z .1, ne)) kept
-              (SlotsLaws.items-more w len pack packing mem new m (z .4 .holds) before (f s a) long behind
+              (SlotsLaws.items-more w len pack packing mem new m (z .4 .holds) front-kept (f s a) long behind
               ∙ ap (λ ys. ys ++ (f s a ∷ [])) (z .4 .items) ∙ sym new-items)
-              (SlotsLaws.holds-more w len pack packing mem new m (z .4 .holds) before (f s a) long behind)
+              (SlotsLaws.holds-more w len pack packing mem new m (z .4 .holds) front-kept (f s a) long behind)
               (rw new-items (q .0 ∙ reading-count a m mem row (z .4) ∙ sym e, q .1))
 
           -- it is new, and no place is left for it

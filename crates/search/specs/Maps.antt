@@ -12,13 +12,21 @@ use Rattle.search.specs.Limits.{mapSize}
 unfoldable pub planesOf : ℕ → ℕ
 planesOf d = 2 ^ (d - wordBits)
 
--- what letter a carries pattern p back to; the bit of the whole formula, bit d, is not read
+-- what the map at place a carries pattern p back to; the bit of the whole formula, bit d, is not read
+unfoldable pub mapAt : List ℕ → ℕ → ℕ → ℕ → ℕ
+mapAt maps d a p = getD maps (a * mapSize + p % 2 ^ d) 0
+
+-- place a has a map over d operators: its entries are patterns, and those past the first 2 ^ d repeat them
+pub record IsMap (d : ℕ) (maps : List ℕ) (a : ℕ) : Type 0 where
+  pub fits : (p : ℕ) → mapAt maps d a p < 2 ^ suc d
+  pub entry : (p : ℕ) → p < planesOf d * wordSize → getD maps (a * mapSize + p) 0 ≡ mapAt maps d a p
+
+-- what letter a carries pattern p back to, by the map of the first letter that has the same map
 unfoldable pub mapIn : List ℕ → List ℕ → ℕ → ℕ → ℕ → ℕ
-mapIn maps firsts d a p = getD maps (getD firsts a 0 * mapSize + p % 2 ^ d) 0
+mapIn maps firsts d a p = mapAt maps d (getD firsts a 0) p
 
 -- the maps of n letters, by number, over d operators
 pub record Maps (d n : ℕ) (maps firsts : List ℕ) : Type 0 where
   pub before : (a : ℕ) → a < n → getD firsts a 0 ≤ a
   pub first : (a : ℕ) → a < n → getD firsts (getD firsts a 0) 0 ≡ getD firsts a 0
-  pub fits : (a p : ℕ) → a < n → mapIn maps firsts d a p < 2 ^ suc d
-  pub entry : (a p : ℕ) → a < n → p < planesOf d * wordSize → getD maps (getD firsts a 0 * mapSize + p) 0 ≡ mapIn maps firsts d a p
+  pub kept : (a : ℕ) → a < n → IsMap d maps (getD firsts a 0)

@@ -8,11 +8,11 @@ use Rattle.basics.specs.Bits.{bit, digit, fromBits}
 use Rattle.basics.specs.Lists.{tabulate}
 use Rattle.search.specs.declared.searching.Explored.{Explored}
 use Rattle.search.specs.Limits.{stateLimit, letterLimit, setSize}
-use Rattle.search.specs.PatternSet.{PatternSet, member, next}
+use Rattle.search.specs.PatternSet.{PatternSet, member, next, nextAll}
 use Rattle.basics.specs.Reach.{Listing}
 use Rattle.search.specs.ReachableSets.{sameSet}
 use Rattle.basics.specs.Successors.{grownOver, rowOver, rowsOver}
-use Rattle.search.specs.Slots.{bitBytes, itemIn, itemsIn, HoldsItems, countUpTo, ExpandedItems, itemsOf, RanItems}
+use Rattle.search.specs.Slots.{bitBytes, itemIn, itemsIn, HoldsItems, withItem, countUpTo, ExpandedItems, itemsOf, RanItems}
 
 -- ---- one set
 
@@ -64,6 +64,14 @@ setsIn d = itemsIn setSize (2 ^ suc d)
 -- the memory begins with n sets
 abbrev pub Holds : ℕ → List ℕ → ℕ → Type 0
 Holds d = HoldsItems setSize (2 ^ suc d) setBytes
+
+-- the bits of set i of some memory, one number each
+abbrev pub bitsIn : ℕ → List ℕ → ℕ → List ℕ
+bitsIn d mem i = spread (setBytes (setIn d mem i))
+
+-- the memory with the set that letters lead to from set i written in place m, and nothing else changed
+abbrev pub withNext : ℕ → (ℕ → ℕ → ℕ) → List ℕ → ℕ → List ℕ → ℕ → List ℕ
+withNext d back mem i letters m = withItem setSize mem m (setBytes (nextAll d back (setIn d mem i) letters))
 
 -- ---- reading every letter in one state
 

@@ -9,6 +9,7 @@ use mathlib.Core.List.{List, foldl}
 use lib.ListN.{getD}
 use Rattle.basics.specs.Bits.{bit}
 use Rattle.basics.specs.Lists.{tabulate}
+use Rattle.basics.specs.Member.{allOf}
 
 abbrev pub PatternSet : Type 0
 PatternSet = List Bool
@@ -32,6 +33,10 @@ module _ (d : ℕ) (back : ℕ → ℕ → ℕ) where
   -- after a letter: the patterns that the letter carries back into the set
   unfoldable pub next : PatternSet → ℕ → PatternSet
   next s a = setOf d (λ p. member s (back a p))
+
+  -- after one of several letters, whichever it is: the patterns that each of them carries back into the set
+  unfoldable pub nextAll : PatternSet → List ℕ → PatternSet
+  nextAll s letters = setOf d (λ p. allOf (λ a. member s (back a p)) letters)
 
   -- after a list of letters
   unfoldable pub after : PatternSet → List ℕ → PatternSet

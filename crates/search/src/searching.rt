@@ -1,6 +1,7 @@
 // The search for all states: every letter is read in every state, in the order in which states are found. A letter is known
 // here by its number and its map.
 ghost use mathlib.Core.Path.{_≡_};
+ghost use mathlib.Core.List.{[], _∷_};
 ghost use Prim.Native.Nat.{_+_, _*_, _≤_, _<_};
 ghost use lib.ListN.{length, replicate};
 ghost use Rattle.basics.specs.Limits.{operatorLimit};
@@ -8,9 +9,9 @@ ghost use Rattle.search.specs.Limits.{stateLimit, letterLimit, setSize, 
 ghost use Rattle.basics.specs.Bounded.{firstThat};
 ghost use Rattle.basics.specs.Lists.{below, padded};
 ghost use Rattle.search.specs.ReachableSets.{reachableSets};
-ghost use Rattle.search.specs.Maps.{mapIn, Maps};
-ghost use Rattle.search.specs.Slots.{withItem, sameSlot, exploredOf};
-ghost use Rattle.search.specs.Memory.{halfOf, EachBelow, nextBytes, setIn, setsIn, Holds};
+ghost use Rattle.search.specs.Maps.{mapAt, IsMap, mapIn, Maps};
+ghost use Rattle.search.specs.Slots.{sameSlot, exploredOf};
+ghost use Rattle.search.specs.Memory.{halfOf, setIn, setsIn, Holds, bitsIn, withNext};
 ghost use Rattle.search.specs.Memory.{grown, rowOf, countOf, Expanded, Ran, setsOf, successorsOf};
 use crate::sets::find;
 use crate::sets::put_next;
@@ -36,21 +37,35 @@ fn half_of(d: usize) -> usize
     if d < 3 { 1 } else { 1 << (d - 3) }
 }
 
-// Writes the next set into place m, and answers the first place with the same bytes.
-fn put_set(present: &[u8], entries: &[u8], h: usize, m: usize, mem: &mut [u8]) -> usize
-    requires { ⌜ EachBelow (length (now present)) 2 (now present) ⌝ }
-    requires { ⌜ h * 8 ≤ length (now entries) ⌝ }
-    requires { ⌜ EachBelow (h * 8) (length (now present)) (now entries) ⌝ }
-    requires { ⌜ 0 < h ⌝ }
-    requires { ⌜ h ≤ setSize ⌝ }
+// Makes the set that letter a leads to from set i, by the map at place a, and answers the first place that holds it. No set is
+// passed by value: `present` lends the bits of set i, spread once for all letters, and the next set is written where it is kept if
+// it is new, in place m of the work memory that the customer lends. `solve` lends the front of it to `solve_source`, and
+// `solve_parts`, `states::explore`, `search`, `run` and `expand` hand on the slice that they are lent. Set i stands in front of
+// place m, so it stays; its number is there for the contract.
+fn put_set(
+    maps: &[u8],
+    present: &[u8],
+    d: usize,
+    i: usize,
+    a: usize,
+    m: usize,
+    mem: &mut [u8],
+) -> usize
+    requires { ⌜ d ≤ operatorLimit ⌝ }
+    requires { ⌜ length (now maps) ≡ letterLimit * mapSize ⌝ }
+    requires { ⌜ a < letterLimit ⌝ }
+    requires { ⌜ IsMap d (now maps) a ⌝ }
+    requires { ⌜ i < m ⌝ }
     requires { ⌜ m ≤ stateLimit ⌝ }
     requires { ⌜ length (now mem) ≡ (stateLimit + 1) * setSize ⌝ }
-    ensures { λ r. ⌜ r ≡ firstThat (sameSlot setSize (withItem setSize (now (mem .entry)) m
-        (nextBytes setSize (now (present .entry)) (now (entries .entry)) h)) m) m ⌝ }
-    ensures { λ _. ⌜ now (mem .exit) ≡ withItem setSize (now (mem .entry)) m (nextBytes setSize (now (present .entry)) (now (entries .entry)) h) ⌝ }
+    requires { ⌜ now present ≡ bitsIn d (now mem) i ⌝ }
+    ensures { λ _. ⌜ now (mem .exit) ≡ withNext d (mapAt (now (maps .entry)) d) (now (mem .entry)) i (a ∷ []) m ⌝ }
+    ensures { λ r. ⌜ r ≡ firstThat (sameSlot setSize (now (mem .exit)) m) m ⌝ }
 {
+    let from = a * MAP;
     let at = m * SET;
-    put_next(present, entries, h, &mut mem[at..at + SET]);
+    let h = half_of(d);
+    put_next(present, &maps[from..from + MAP], h, &mut mem[at..at + SET]);
     find(mem, SET, m)
 }
 
@@ -87,7 +102,6 @@ fn expand(
     let mut present = [0u8; SET * 8];
     let place = i * SET;
     put_spread(&mem[place..place + SET], &mut present);
-    let h = half_of(d);
     let mut m = n;
     let mut a = 0;
     while a < row.len() {
@@ -95,8 +109,7 @@ fn expand(
         if b < a {
             row[a] = row[b];
         } else {
-            let from = a * MAP;
-            let t = put_set(&present, &maps[from..from + MAP], h, m, mem);
+            let t = put_set(maps, &present, d, i, a, m, mem);
             if t == m {
                 if m == STATE_LIMIT {
                     return Explored::TooMany;

@@ -3,7 +3,7 @@
 use Prim.Native.Nat.{ℕ, _+_, _≤_, _<_}
 use native.Mathlib.Nat.{le-refl}
 use mathlib.Core.Path.{_≡_, refl, sym, ap, _∙_}
-use mathlib.Core.List.{List, map, flatMap}
+use mathlib.Core.List.{List, [], _∷_, map, flatMap}
 use lib.Pow.{pow-mono}
 use lib.ListN.{length, getD}
 use lib.Seq.{take-length}
@@ -13,19 +13,19 @@ use Rattle.basics.specs.Limits.{signalLimit}
 use Rattle.formula.specs.Letter.{Counts}
 use Rattle.search.specs.declared.searching.Explored.{Explored}
 use Rattle.search.specs.Limits.{stateLimit, letterLimit}
-use Rattle.search.specs.PatternSet.{PatternSet, member, start, next}
+use Rattle.search.specs.PatternSet.{PatternSet, member, setOf, start, next, nextAll}
 use Rattle.obligations.specs.Obligation.{operatorsOf, back}
 use Rattle.basics.specs.Reach.{Listing, closed, over, indexIn, reachable}
 use Rattle.search.specs.ReachableSets.{sameSet, nextSets, reachableSets}
 use Rattle.obligations.specs.Letters.{letterCount}
-use Rattle.states.specs.States.{statesOf}
-use Rattle.search.specs.Maps.{mapIn}
+use Rattle.states.specs.States.{nextState, statesOf}
+use Rattle.search.specs.Maps.{mapAt, mapIn}
 use Rattle.states.specs.Planes.{MapsOf}
 use Rattle.basics.specs.Successors.{rowOver}
 use Rattle.search.specs.Slots.{exploredOf}
 use Rattle.search.specs.Memory.{rowOf, setsOf, successorsOf}
 use Rattle.basics.proofs.ListsLaws.{tabulate-ext, table-take, map-table}
-use Rattle.search.proofs.PatternSetLaws.{setOf-ext}
+use Rattle.search.proofs.PatternSetLaws.{setOf-ext, nextAll-one}
 
 -- the same of all numbers below the length and of all entries
 map-numbers : {B : Type 0} (f g : ℕ → B) (l : List ℕ) (n : ℕ) → n ≡ length l → ((i : ℕ) → i < n → f i ≡ g (getD l i 0)) → map f (below n) ≡ map g l
@@ -41,6 +41,13 @@ module _ (ps : List Part) (letters : List ℕ) (d n : ℕ) (maps firsts : List �
   next-same : (s : PatternSet) (a : ℕ) → a < n → next d byMap s a ≡ next d (back ps) s (getD letters a 0)
   unfolding next
   next-same s a h = setOf-ext d _ _ (λ p l. ap (member s) (m .carries a p h))
+
+  -- as one letter's set is made, by the map that is kept for it
+  pub made-same : (s : PatternSet) (a : ℕ) → a < n → getD firsts a 0 ≡ a → nextAll d (mapAt maps d) s (a ∷ []) ≡ nextState ps s (getD letters a 0)
+  unfolding mapIn next nextState
+  made-same s a h own =
+      nextAll-one d (mapAt maps d) s a ∙ ap (λ k. setOf d (λ p. member s (mapAt maps d k p))) (sym own) ∙ next-same s a h
+      ∙ ap (λ k. next k (back ps) s (getD letters a 0)) is-d
 
   steps-same : (s : PatternSet) → nextSets d byMap (below n) s ≡ nextSets d (back ps) letters s
   unfolding nextSets

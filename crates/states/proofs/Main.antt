@@ -1,12 +1,12 @@
 -- The theorems of this crate. Assumes nothing.
-use Prim.Native.Nat.{ℕ, suc, _^_, _≤_, _<_}
+use Prim.Native.Nat.{ℕ, suc, _+_, _*_, _^_, _≤_, _<_}
 use mathlib.Core.Path.{_≡_}
-use mathlib.Core.Logic.{_↔_}
+use mathlib.Core.Logic.{_↔_, _⊎_}
 use mathlib.Core.Bool.{true, false}
 use mathlib.Core.List.{List, [], _∷_, foldr}
 use lib.ListN.{length, getD}
 use Rattle.formula.specs.Formula.{Formula}
-use Rattle.basics.specs.Limits.{kindLimit}
+use Rattle.basics.specs.Limits.{kindLimit, operatorLimit}
 use Rattle.formula.specs.declared.parts.Part.{Part}
 use Rattle.formula.specs.Parts.{lastOf, partsOf}
 use Rattle.formula.specs.Semantics.{Trace, Sat}
@@ -15,15 +15,22 @@ use Rattle.formula.specs.Letter.{Counts, IsLetter}
 use Rattle.rules.specs.Problem.{Problem, problemParts}
 use Rattle.rules.specs.Satisfies.{Satisfies}
 use Rattle.basics.specs.Member.{_∈_, Distinct}
-use Rattle.search.specs.PatternSet.{PatternSet, member, accepts}
+use Rattle.search.specs.Limits.{setSize}
+use Rattle.search.specs.PatternSet.{PatternSet, member, accepts, nextAll}
+use Rattle.search.specs.Maps.{mapAt}
+use Rattle.search.specs.Memory.{setIn, withNext}
 use Rattle.obligations.specs.Obligation.{operatorsOf, valueAt, back}
 use Rattle.basics.specs.Reach.{closed, over, indexIn}
 use Rattle.search.specs.ReachableSets.{sameSet}
 use Rattle.obligations.specs.Letters.{lettersOf}
 use Rattle.states.specs.States.{startState, nextState, stateAfter, statesOf, IsState}
+use Rattle.states.specs.Planes.{MapsOf}
 use Rattle.states.proofs.Acceptance
 use Rattle.states.proofs.StatesLaws
 use Rattle.states.proofs.NumberedSuccessors
+use Rattle.states.proofs.ExploredStates
+use Rattle.search.proofs.PatternSetLaws
+use Rattle.search.proofs.NextInPlace
 use Rattle.obligations.proofs.LettersLaws
 
 -- the states accept exactly the traces that satisfy the formula
@@ -62,6 +69,32 @@ pub successor : (ps : List Part) (letters : List ℕ) (limit : ℕ) (xs : List P
     → (s : PatternSet) → s ∈ xs → (a : ℕ) → a ∈ letters
     → (indexIn sameSet (nextState ps s a) xs < length xs) × (getD xs (indexIn sameSet (nextState ps s a) xs) [] ≡ nextState ps s a)
 successor = NumberedSuccessors.successor-right
+
+-- ---- where a next state is made: `withNext` is the front of the work memory that the customer lends, once the set that some letters
+-- lead to from set i is written in place m. `put_set`, in the crate `search`, leaves it so, and is given one letter
+
+module _ (d : ℕ) (carry : ℕ → ℕ → ℕ) (mem : List ℕ) (i : ℕ) (letters : List ℕ) (m : ℕ) (room : m * setSize + setSize ≤ length mem) where
+  -- the place holds that set ..
+  pub next-in-place : d ≤ operatorLimit → setIn d (withNext d carry mem i letters m) m ≡ nextAll d carry (setIn d mem i) letters
+  next-in-place = NextInPlace.next-in-place d carry mem i letters m room
+
+  -- .. and every other byte stays
+  pub others-stay : (length (withNext d carry mem i letters m) ≡ length mem)
+      × ((k : ℕ) → (k < m * setSize) ⊎ (m * setSize + setSize ≤ k) → getD (withNext d carry mem i letters m) k 0 ≡ getD mem k 0)
+  others-stay = NextInPlace.others-stay d carry mem i letters m room
+
+-- a pattern is in the set exactly if each of the letters carries it back into the present one
+pub next-of-all : (d : ℕ) (carry : ℕ → ℕ → ℕ) (s : PatternSet) (letters : List ℕ) (p : ℕ) → p < 2 ^ suc d
+    → (member (nextAll d carry s letters) p ≡ true) ↔ ((a : ℕ) → a ∈ letters → member s (carry a p) ≡ true)
+next-of-all = PatternSetLaws.member-nextAll
+
+-- by the map that is kept for letter a it is the next state
+pub next-of-map : (ps : List Part) (letters : List ℕ) (d n : ℕ) (maps firsts : List ℕ) → d ≡ operatorsOf ps → n ≡ length letters
+    → MapsOf ps letters d n maps firsts → (s : PatternSet) (a : ℕ) → a < n → getD firsts a 0 ≡ a
+    → nextAll d (mapAt maps d) s (a ∷ []) ≡ nextState ps s (getD letters a 0)
+next-of-map = ExploredStates.made-same
+
+-- ---- the letters
 
 -- the letters by number are those of the declared signals
 pub letters : (c : Counts) → c .outputs ≤ kindLimit → c .observed ≤ kindLimit → c .hidden ≤ kindLimit

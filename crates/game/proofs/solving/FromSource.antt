@@ -28,14 +28,19 @@ use Rattle.obligations.proofs.OperatorSpots.{operators-are}
 use Rattle.game.specs.declared.solving.Solved.{Solved}
 use Rattle.game.specs.declared.solving.Solved.the-variants.{Refused}
 use Rattle.game.specs.Solution.{partsSolution, solution}
-use Rattle.basics.specs.Lists.{written}
+use Rattle.basics.specs.Lists.{padded, written}
+use Rattle.obligations.specs.Letters.{lettersOf}
+use Rattle.search.specs.Limits.{stateLimit}
+use Rattle.search.specs.Memory.{setsOf}
+use Rattle.states.specs.States.{statesOf}
 use Rattle.game.specs.SolvedAs.{solvedOf, solvedFrom, cellsOf, cellsFrom}
+use Rattle.game.specs.StateMemory.{setsFrom}
 
 -- a refusal is handed on
-pub refused-right : (o : Outcome) (r : Reading) (x : Refusal) (table : List ℕ) → r ≡ readingOf o → r ≡ reading.Refused x
-    → (Refused x ≡ solvedFrom o) × (table ≡ written (cellsFrom o) table)
-refused-right (accepted p) r x table e h = not-refused x _ (sym h ∙ e)
-refused-right (refused y) r x table e h = (ap Refused (same-refusal x y (sym h ∙ e)), refl)
+pub refused-right : (o : Outcome) (r : Reading) (x : Refusal) (table sets : List ℕ) → r ≡ readingOf o → r ≡ reading.Refused x
+    → (Refused x ≡ solvedFrom o) × ((table ≡ written (cellsFrom o) table) × (sets ≡ setsFrom o sets))
+refused-right (accepted p) r x table sets e h = not-refused x _ (sym h ∙ e)
+refused-right (refused y) r x table sets e h = (ap Refused (same-refusal x y (sym h ∙ e)), (refl, refl))
 
 module _ {o : Outcome} {s : Sizes} {codes : List ℕ} (t : Taken o s codes) where
   -- the numbers of the formula's parts
@@ -69,12 +74,18 @@ module _ {o : Outcome} {s : Sizes} {codes : List ℕ} (t : Taken o s codes) wher
       }
 
   -- the answer for these parts and signals is that for the text
-  pub source-right : (r : Solved) (table table′ : List ℕ) → r ≡ solvedOf (orderIn s) (s .observed) (partsSolution (orderIn s) (partsIn front) (countsOf s))
-      → table′ ≡ written (cellsOf (partsSolution (orderIn s) (partsIn front) (countsOf s))) table → (r ≡ solvedFrom o) × (table′ ≡ written (cellsFrom o) table)
-  source-right r table table′ f g =
+  pub source-right : (r : Solved) (table table′ sets sets′ : List ℕ)
+      → r ≡ solvedOf (orderIn s) (s .observed) (partsSolution (orderIn s) (partsIn front) (countsOf s))
+      → table′ ≡ written (cellsOf (partsSolution (orderIn s) (partsIn front) (countsOf s))) table
+      → sets′ ≡ padded (length sets) (setsOf (statesOf (partsIn front) (lettersOf (countsOf s)) stateLimit))
+      → (r ≡ solvedFrom o) × ((table′ ≡ written (cellsFrom o) table) × (sets′ ≡ setsFrom o sets))
+  source-right r table table′ sets sets′ f g k =
       let same : partsSolution (orderIn s) (partsIn front) (countsOf s) ≡ solution (t .problem) =
       ap₂ (λ (z : Sizes) ps. partsSolution (orderIn z) ps (countsOf z)) (t .sizes) (taken-parts t) in
       rw (t .is) (
         f ∙ ap₂ (λ (z : Sizes) x. solvedOf (orderIn z) (z .observed) x) (t .sizes) same,
-        g ∙ ap (λ x. written (cellsOf x) table) same,
+        (
+          g ∙ ap (λ x. written (cellsOf x) table) same,
+          k ∙ ap₂ (λ (z : Sizes) ps. padded (length sets) (setsOf (statesOf ps (lettersOf (countsOf z)) stateLimit))) (t .sizes) (taken-parts t),
+        ),
       )

@@ -19,7 +19,7 @@ use Rattle.obligations.specs.Obligation.{operatorsOf, back}
 use Rattle.obligations.specs.Letters.{letterCount, letterOf, lettersOf}
 use Rattle.obligations.specs.Words.{backLanes}
 use Rattle.obligations.specs.Values.{Stored}
-use Rattle.search.specs.Maps.{planesOf, mapIn}
+use Rattle.search.specs.Maps.{planesOf, mapAt, mapIn}
 use Rattle.states.specs.Limits.{slotSize, planeSize, planeCount}
 use Rattle.states.specs.Planes.{slotAt, planesTo, laneOf, firstOf, mapsTo, MapsOf}
 use Rattle.basics.proofs.BitsLaws.{table-unique}
@@ -52,12 +52,16 @@ module _ (ps : List Part) (letters : List ℕ) (d m n k : ℕ) (words maps first
   entry-back : (a p : ℕ) → a < n → p < m * wordSize → getD maps (getD firsts a 0 * mapSize + p) 0 ≡ back ps (getD letters a 0) p
   entry-back a p h l = classified .entry a p h l ∙ lane-back a p h l
 
-  carries : (a p : ℕ) → a < n → mapIn maps firsts d a p ≡ back ps (getD letters a 0) p
-  unfolding mapIn
-  carries a p h =
+  carried-back : (a p : ℕ) → a < n → mapAt maps d (getD firsts a 0) p ≡ back ps (getD letters a 0) p
+  unfolding mapAt
+  carried-back a p h =
       entry-back a (p % 2 ^ d) h
       (lt-of-lt-of-le (mod-lt p (pow-pos d)) (subst (λ x. 2 ^ d ≤ x * wordSize) (sym is-m) (planes-room d)))
       ∙ back-low ps (getD letters a 0) (p % 2 ^ d) p (subst (λ x. p % 2 ^ d % 2 ^ x ≡ p % 2 ^ x) is-d (mod-mod p (2 ^ d)))
+
+  carries : (a p : ℕ) → a < n → mapIn maps firsts d a p ≡ back ps (getD letters a 0) p
+  unfolding mapIn
+  carries = carried-back
 
   -- what the code keeps is what the letters do
   prepared : MapsOf ps letters d n maps firsts
@@ -66,10 +70,12 @@ module _ (ps : List Part) (letters : List ℕ) (d m n k : ℕ) (words maps first
         maps-kept = record {
           before = classified .before;
           first = classified .first;
-          fits = λ a p h.
-              subst (λ x. mapIn maps firsts d a p < 2 ^ suc x) (sym is-d)
-              (subst (λ x. x < 2 ^ suc (operatorsOf ps)) (sym (carries a p h)) (back-fits ps (getD letters a 0) p));
-          entry = λ a p h l. entry-back a p h (subst (λ x. p < x * wordSize) (sym is-m) l) ∙ sym (carries a p h);
+          kept = λ a h. record {
+            fits = λ p.
+                subst (λ x. mapAt maps d (getD firsts a 0) p < 2 ^ suc x) (sym is-d)
+                (subst (λ x. x < 2 ^ suc (operatorsOf ps)) (sym (carried-back a p h)) (back-fits ps (getD letters a 0) p));
+            entry = λ p l. entry-back a p h (subst (λ x. p < x * wordSize) (sym is-m) l) ∙ sym (carried-back a p h);
+          };
         };
         carries = carries;
       }

@@ -45,7 +45,7 @@ returns-2 c =
     let at-if1 = at-solve .before .before .before in
     let a = at-if1 .before .before .before .before .args in
     let r = at-solve .solve-source in
-    let m = long-right (a .work .now) (a .table .now) (at-if1 .if1 .left) (a .source .now) (r .result) (r .last .1 .1 .0) (r .ensures .0) (r .ensures .1)
+    let m = long-right (a .work .now) (a .table .now) (at-if1 .if1 .left) (a .source .now) (r .result) (r .last .1 .1 .0) (r .ensures .0) (r .ensures .1 .0)
     _ (length-front (a .work .now) (r .last .1 .0) 4128 (r .kept .1 .0)) in
     (m .0, (m .1, (at-clear .clear .ensures ∙ m .2, m .3)))
 

@@ -67,9 +67,10 @@ returns c =
     let explore = t .explore in
     let n = c .before .before .before .before .before .before .before .n in
     let solved = c .before .before .solve-states in
-    solved-some (a .parts .now) (a .sizes) s _ _ (explore .last .1 .1 .0) (explore .last .1 .1 .1 .0)
+    let answered = solved-some (a .parts .now) (a .sizes) s _ _ (explore .last .1 .1 .0) (explore .last .1 .1 .1 .0)
     (explore .ensures .1 .0) (explore .ensures .1 .1) (n .given .0 .0) (sym (n .given .1) ∙ explore .ensures .0)
-    (order .result) (order .ensures) (solved .result) (a .table .now) _ (solved .ensures)
+    (order .result) (order .ensures) (solved .result) (a .table .now) _ (solved .ensures) in
+    (answered .0, (answered .1, explore .ensures .1 .0))
 
 same-length-3 : tie.Need-same-length-3
 same-length-3 c = search needs
@@ -78,7 +79,8 @@ returns-2 : tie.Need-returns-2
 returns-2 c =
     let a = c .before .before .before .before .before .before .before .before .before .before .before .before .args in
     let explore = c .before .before .before .before .before .explore in
-    solved-many (a .parts .now) (a .sizes) (sym (c .enum-told .given .1) ∙ explore .ensures .0) (a .table .now)
+    let answered = solved-many (a .parts .now) (a .sizes) (sym (c .enum-told .given .1) ∙ explore .ensures .0) (a .table .now) in
+    (answered .0, (answered .1, explore .ensures .1 .0))
 
 pub solve-parts-spec : {M : Type 1} → statement M
 solve-parts-spec =

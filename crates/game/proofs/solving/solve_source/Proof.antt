@@ -48,7 +48,8 @@ returns : tie.Need-returns
 returns c =
     let a = c .before .before .before .before .before .before .before .before .before .args in
     let read = c .before .before .before .before .read in
-    refused-right (readProblem (a .source .now)) (read .result) (c .before .r .given .0 .0) (a .table .now) (read .ensures .0) (c .before .r .given .1)
+    refused-right (readProblem (a .source .now)) (read .result) (c .before .r .given .0 .0) (a .table .now) (a .sets .now) (read .ensures .0)
+    (c .before .r .given .1)
 
 same-length : tie.Need-same-length
 same-length c = search needs
@@ -63,7 +64,8 @@ returns-2 c =
     let s = c .before .before .before .before .before .before .before .before .before .s in
     let solved = c .before .before .before .before .solve-parts in
     source-right (taken (a .source .now) (s .given .0 .0) (read .result) (read .ensures .0) (s .given .1) _ (read .ensures .1 .0))
-    (solved .result) (a .table .now) (solved .last .1 .1 .1 .0) (solved .ensures .0) (solved .ensures .1)
+    (solved .result) (a .table .now) (solved .last .1 .1 .1 .0) (a .sets .now) (solved .last .1 .1 .0)
+    (solved .ensures .0) (solved .ensures .1 .0) (solved .ensures .1 .1)
 
 pub solve-source-spec : {M : Type 1} → statement M
 solve-source-spec =
