@@ -34,14 +34,14 @@ use Rattle.printer.specs.Limits.{textSize}
 use Rattle.printer.specs.Text.{tableText}
 use Rattle.printer.specs.WellFormed.{Printable, isPrintable}
 use Rattle.printer.proofs.WellFormedLaws.{printable-says}
-use Rattle.cabinet.specs.declared.position.Position.{Position}
+use Rattle.stepping.specs.declared.position.Position.{Position}
 use Rattle.cabinet.specs.declared.printing.Printed.the-variants.{Text}
-use Rattle.cabinet.specs.declared.position.Moved.{Moved}
-use Rattle.cabinet.specs.Position.{startOf, stepOf, toldAnswer, Standing, startChoice, stepChoice, started}
-use Rattle.cabinet.specs.Position.{Held, Holds, SteppedAs, bad-place, stopped, bad-observation, moved}
+use Rattle.stepping.specs.declared.position.Moved.{Moved}
+use Rattle.stepping.specs.Position.{startOf, stepOf, toldAnswer, Standing, startChoice, stepChoice, started}
+use Rattle.stepping.specs.Position.{Held, Holds, SteppedAs, bad-place, stopped, bad-observation, moved}
 use Rattle.cabinet.specs.Print.{printedBy, bytesBy, toldPrinted, IsPrinted}
 use Rattle.cabinet.specs.Running.{stepAll, answerTo, Runs}
-use Rattle.cabinet.proofs.AnswersDue.{start-iff, step-due}
+use Rattle.stepping.proofs.AnswersDue.{start-iff, step-due}
 use Rattle.cabinet.proofs.RunningLaws.{row-goes}
 use Rattle.cabinet.proofs.SolvedTable.{some, running, can-print, solves}
 

@@ -18,7 +18,7 @@ use Rattle.tables.specs.declared.shape.Shape.{Shape}
 use Rattle.play.specs.Table.{GoesRow, LaidRow, Laid}
 use Rattle.printer.specs.WellFormed.{Sized, firstLimit, IsFirst, GoodRow, Unused, Printable}
 use Rattle.printer.proofs.WellFormedLaws.{side-le, first-goes}
-use Rattle.cabinet.specs.Position.{Standing}
+use Rattle.stepping.specs.Position.{Standing}
 
 -- the first cell goes by the choices, which are few
 first-few : (o : Order) (choices : ℕ) (answer : ℕ → ℕ) → choices ≤ sideLimit → answer 0 < choices → firstOf o answer < firstLimit o

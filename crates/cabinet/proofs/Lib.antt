@@ -1,7 +1,6 @@
 -- the calls
 pub mod PrintLaws
-pub mod PositionLaws
-pub mod AnswersDue
+pub mod PrintedIffDue
 pub mod ResponseLaws
 -- a table that the solver gives, printed and run; tables carried as text
 pub mod LaidRows

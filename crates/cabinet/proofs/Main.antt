@@ -17,16 +17,17 @@ use Rattle.game.specs.declared.solving.Solved.the-variants as solved
 use Rattle.game.specs.SolvedAs.{toldSolved, tableAfter, Short, SolvedAs}
 use Rattle.loader.specs.declared.loading.Loaded.the-variants.{Table}
 use Rattle.loader.specs.LoadedAs.{loadedBy, cellsBy, tableAfter as loadedTable, toldShape}
-use Rattle.cabinet.specs.declared.position.Position.{Position}
+use Rattle.stepping.specs.declared.position.Position.{Position}
 use Rattle.cabinet.specs.declared.printing.Printed.the-variants.{Text}
 use Rattle.printer.specs.Limits.{textSize}
 use Rattle.printer.specs.Text.{tableText}
-use Rattle.cabinet.specs.Position.{startOf, stepOf, isStopped, toldAnswer, StartedAs, Holds, SteppedAs}
+use Rattle.stepping.specs.Position.{startOf, stepOf, isStopped, toldAnswer, StartedAs, Holds, SteppedAs}
 use Rattle.cabinet.specs.Print.{printedBy, bytesBy, textAfter, toldPrinted, IsPrinted, PrintedAs}
 use Rattle.cabinet.specs.Response.{respondedBy, bytesFor, responseAfter, respondedTable, respondedWork, RespondedAs}
 use Rattle.cabinet.specs.Running.{stepAll, answerTo, Runs}
 use Rattle.cabinet.proofs.ResponseLaws
-use Rattle.cabinet.proofs.AnswersDue
+use Rattle.stepping.proofs.AnswersDue
+use Rattle.cabinet.proofs.PrintedIffDue
 use Rattle.cabinet.proofs.SolvedTable
 use Rattle.cabinet.proofs.CarriedTable
 
@@ -60,15 +61,15 @@ memory-left = ResponseLaws.memory-left
 -- printing: 12, 13, or the table's text
 pub printing : (t : List ℕ) (shape : Shape) (worst room : ℕ) (a : Told) (bytes : List ℕ)
     → ((toldPrinted (printedBy t shape worst room) ≡ a) × (bytesBy t shape worst room ≡ bytes)) ↔ PrintedAs t shape worst room a bytes
-printing = AnswersDue.print-iff
+printing = PrintedIffDue.print-iff
 
 pub print-kept : (t : List ℕ) (shape : Shape) (worst : ℕ) (x : List ℕ) (number place : ℕ)
     → toldPrinted (printedBy t shape worst (length x)) ≡ refused number place → textAfter t shape worst x ≡ x
-print-kept = AnswersDue.text-kept
+print-kept = PrintedIffDue.text-kept
 
 pub print-rest : (t : List ℕ) (shape : Shape) (worst : ℕ) (x : List ℕ) (n : ℕ)
     → toldPrinted (printedBy t shape worst (length x)) ≡ values (n ∷ []) → drop n (textAfter t shape worst x) ≡ drop n x
-print-rest = AnswersDue.text-rest
+print-rest = PrintedIffDue.text-rest
 
 -- the start: 13, or row 0, under `Set` with its choice
 pub starting : (t : List ℕ) (shape : Shape) (old : Position) (a : Told) (p : Position)

@@ -18,7 +18,7 @@ use Rattle.printer.specs.Limits.{textSize}
 use Rattle.printer.specs.WellFormed.{isPrintable}
 use Rattle.printer.specs.Text.{tableText}
 use Rattle.cabinet.specs.Print.{printedBy, bytesBy, textAfter, toldPrinted, usedText, PrintedAs}
-use Rattle.cabinet.proofs.AnswersDue.{print-told}
+use Rattle.cabinet.proofs.PrintedIffDue.{print-told}
 use Rattle.printer.proofs.WellFormedLaws.{printable-says}
 use Rattle.printer.proofs.TextLaws.{text-fits}
 

@@ -39,7 +39,7 @@ use Rattle.printer.specs.Text.{tableText, refusalText}
 use Rattle.cabinet.specs.Print.{printedBy, bytesBy, textAfter, toldPrinted, usedText}
 use Rattle.cabinet.specs.Response.{solvedText, response, isTight, respondedBy, bytesFor, responseAfter, respondedTable}
 use Rattle.cabinet.specs.Response.{respondedWork, RespondedAs, short-memory, answered}
-use Rattle.cabinet.proofs.AnswersDue.{OwnBytes}
+use Rattle.cabinet.proofs.PrintedIffDue.{OwnBytes}
 use Rattle.printer.proofs.WellFormedLaws.{printable-says}
 use Rattle.cabinet.proofs.SolvedTable.{can-print}
 

@@ -22,13 +22,13 @@ use Rattle.play.specs.Rank.{answerOf}
 use Rattle.play.specs.Table.{readFrom, tableStrategy, Laid}
 use Rattle.play.proofs.Plans.{rest}
 use Rattle.printer.proofs.WellFormedLaws.{side-le}
-use Rattle.cabinet.specs.declared.position.Position.{Position}
-use Rattle.cabinet.specs.declared.position.Answer.{Answer}
-use Rattle.cabinet.specs.declared.position.Answer.the-variants.{Choice, Refused}
-use Rattle.cabinet.specs.declared.position.Moved.{Moved}
-use Rattle.cabinet.specs.Position.{moveTo, startAt, moveFrom, isStanding, isHeld, isHolding, startOf, stepOf, Standing}
+use Rattle.stepping.specs.declared.position.Position.{Position}
+use Rattle.stepping.specs.declared.position.Answer.{Answer}
+use Rattle.stepping.specs.declared.position.Answer.the-variants.{Choice, Refused}
+use Rattle.stepping.specs.declared.position.Moved.{Moved}
+use Rattle.stepping.specs.Position.{moveTo, startAt, moveFrom, isStanding, isHeld, isHolding, startOf, stepOf, Standing}
 use Rattle.cabinet.specs.Running.{stepAll, answerTo, toldAfter, Opens, Closes, Runs}
-use Rattle.cabinet.proofs.PositionLaws.{standing-says}
+use Rattle.stepping.proofs.PositionLaws.{standing-says}
 use Rattle.cabinet.proofs.LaidRows.{standing}
 
 -- one observation more

@@ -22,7 +22,7 @@ use Rattle.game.specs.declared.solving.Solved.the-variants.{Table}
 use Rattle.game.specs.Solution.{gameOf}
 use Rattle.game.specs.SolvedAs.{toldSolved, Controller, SolvedAs}
 use Rattle.game.proofs.SolvedAsCases.{due-table}
-use Rattle.cabinet.specs.declared.position.Position.{Position}
+use Rattle.stepping.specs.declared.position.Position.{Position}
 use Rattle.cabinet.specs.declared.printing.Printed.the-variants.{Text}
 use Rattle.printer.specs.Limits.{textSize}
 use Rattle.printer.specs.WellFormed.{Printable}

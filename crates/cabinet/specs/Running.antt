@@ -9,11 +9,11 @@ use Rattle.basics.specs.declared.order.Order.the-variants.{Set, Read}
 use Rattle.lines.specs.declared.refusal.Refusal.the-variants.{Stopped}
 use Rattle.play.specs.Game.{Game, Play, seen, Answer as StrategyAnswer, chosen, Strategy, choose, stop}
 use Rattle.tables.specs.declared.shape.Shape.{Shape}
-use Rattle.cabinet.specs.declared.position.Position.{Position}
-use Rattle.cabinet.specs.declared.position.Answer.{Answer}
-use Rattle.cabinet.specs.declared.position.Answer.the-variants.{Choice, Stop, Ready, Refused}
-use Rattle.cabinet.specs.declared.position.Moved.{Moved}
-use Rattle.cabinet.specs.Position.{startOf, stepOf}
+use Rattle.stepping.specs.declared.position.Position.{Position}
+use Rattle.stepping.specs.declared.position.Answer.{Answer}
+use Rattle.stepping.specs.declared.position.Answer.the-variants.{Choice, Stop, Ready, Refused}
+use Rattle.stepping.specs.declared.position.Moved.{Moved}
+use Rattle.stepping.specs.Position.{startOf, stepOf}
 
 module _ (t : List ℕ) (shape : Shape) where
   -- stepped with a list of observations, oldest first

@@ -1,21 +1,20 @@
 // Tables in use: `print` writes a table as text, `load` reads it back, `respond` solves a problem and writes what comes of it; `start` and
 // `step` run a table as a controller, from a position that the caller keeps, as `start_from` and `step_from` do by value; `is_stopped` tells
 // whether it has stopped. Every function here is proved, and the crate assumes nothing. None of these has a `requires`.
-mod position;
 mod printing;
 mod responding;
 
 pub use loader::Loaded;
 pub use loader::load;
-pub use position::Answer;
-pub use position::Moved;
-pub use position::Position;
-pub use position::is_stopped;
-pub use position::start;
-pub use position::start_from;
-pub use position::step;
-pub use position::step_from;
 pub use printer::TEXT_SIZE;
 pub use printing::Printed;
 pub use printing::print;
 pub use responding::respond;
+pub use stepping::Answer;
+pub use stepping::Moved;
+pub use stepping::Position;
+pub use stepping::is_stopped;
+pub use stepping::start;
+pub use stepping::start_from;
+pub use stepping::step;
+pub use stepping::step_from;

@@ -19,10 +19,10 @@ use Rattle.basics.proofs.BytesLaws.{same-bytes, same-refl}
 use Rattle.basics.proofs.NumbersLaws.{below-lt, below-decimal}
 use Rattle.basics.proofs.Stores.{Put, Rest, rest-all, rest-room, rest-next, put-front}
 use Rattle.basics.proofs.TextLaws.{decimal-length, field-length, line-parts}
-use Rattle.cabinet.specs.Position.{Holds, OnStop, SteppedAs, bad-observation}
-use Rattle.cabinet.specs.declared.position.Position.{Position}
-use Rattle.cabinet.specs.declared.position.Answer.{Answer}
-use Rattle.cabinet.specs.declared.position.Answer.the-variants.{Choice}
+use Rattle.stepping.specs.Position.{Holds, OnStop, SteppedAs, bad-observation}
+use Rattle.stepping.specs.declared.position.Position.{Position}
+use Rattle.stepping.specs.declared.position.Answer.{Answer}
+use Rattle.stepping.specs.declared.position.Answer.the-variants.{Choice}
 use Rattle.lines.specs.Refusal.{refused}
 use Rattle.play.specs.Limits.{sideLimit}
 use Rattle.printer.specs.Limits.{textSize}

@@ -4,8 +4,8 @@ use mathlib.Core.Path.{_≡_}
 use mathlib.Core.Logic.{_↔_}
 use mathlib.Core.List.{List}
 use Rattle.basics.specs.Text.{decimal}
-use Rattle.cabinet.specs.Position.{Holds, OnStop, SteppedAs}
-use Rattle.cabinet.specs.declared.position.Position.{Position}
+use Rattle.stepping.specs.Position.{Holds, OnStop, SteppedAs}
+use Rattle.stepping.specs.declared.position.Position.{Position}
 use Rattle.lines.specs.Refusal.{refused}
 use Rattle.play.specs.Limits.{sideLimit}
 use Rattle.tables.specs.declared.shape.Shape.{Shape}

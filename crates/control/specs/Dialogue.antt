@@ -6,8 +6,8 @@ use mathlib.Core.List.{List, [], _∷_}
 use Rattle.basics.specs.Bytes.{bytesOf, sameBytes}
 use Rattle.basics.specs.Numbers.{numberBelow}
 use Rattle.basics.specs.Text.{decimal, line}
-use Rattle.cabinet.specs.declared.position.Answer.{Answer}
-use Rattle.cabinet.specs.declared.position.Answer.the-variants.{Choice, Stop, Ready, Refused}
+use Rattle.stepping.specs.declared.position.Answer.{Answer}
+use Rattle.stepping.specs.declared.position.Answer.the-variants.{Choice, Stop, Ready, Refused}
 use Rattle.play.specs.Limits.{sideLimit}
 use Rattle.printer.specs.Text.{refusalText}
 

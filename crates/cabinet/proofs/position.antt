@@ -1,2 +1,0 @@
--- What the proofs of `cabinet::position` use.
-pub mod Walk

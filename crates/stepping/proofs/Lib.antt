@@ -1,0 +1,3 @@
+-- the calls
+pub mod PositionLaws
+pub mod AnswersDue

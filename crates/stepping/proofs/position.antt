@@ -1,0 +1,2 @@
+-- What the proofs of `stepping::position` use.
+pub mod Walk

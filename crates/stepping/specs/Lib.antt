@@ -1,0 +1,2 @@
+-- A table run step by step.
+pub mod Position
