@@ -3,8 +3,8 @@
 use Prim.Native.Nat.{ℕ, zero, suc, _+_, _<_, _-_, _≤_}
 use native.Mathlib.Nat.{not-suc-le-zero, le-of-suc-le-suc, zero-add}
 use mathlib.Core.Path.{_≡_, refl, sym, ap, _∙_, ap₂, subst}
-use mathlib.Core.List.{List, [], _∷_, _++_, map, List·Memᴰ·head, List·Memᴰ·tail}
-use lib.ListN.{length, getD, take, drop, replicate, length-map, length-replicate, List·getD-append, length-append}
+use mathlib.Core.List.{List, [], _∷_, _++_, map, append-nil, List·Memᴰ·head, List·Memᴰ·tail}
+use lib.ListN.{length, getD, take, drop, replicate, length-map, length-replicate, List·getD-append, length-append, length-drop, drop-of-length-le}
 use lib.Seq.{getD-append-add, getD-drop, drop-append-seam, take-at}
 use Rattle.basics.specs.Lists.{tabulate, below, padded, written}
 use native.Mathlib.Omega.{arith}
@@ -59,12 +59,18 @@ pub getD-table : (f : ℕ → ℕ) (n i : ℕ) (r : List ℕ) → i < n → getD
 getD-table f n i r h =
     List·getD-append (tabulate n f) r 0 i (subst (λ k. i < k) (sym (length-tabulate n f)) h) ∙ getD-tabulate n f i 0 h
 
--- what a table was written over, behind it
+-- behind what is written every entry is as it was
+pub written-behind : (front l : List ℕ) (i : ℕ) → length front ≤ i → getD (written front l) i 0 ≡ getD l i 0
+written-behind front l i h =
+    let e : i ≡ length front + (i - length front) = omega arith in
+    ap (λ k. getD (written front l) k 0) e ∙ getD-append-add front (drop (length front) l) (i - length front) 0
+    ∙ getD-drop (length front) l (i - length front) 0 ∙ ap (λ k. getD l k 0) (sym e)
+
+-- so what a table was written over
 pub getD-behind : (f : ℕ → ℕ) (n i : ℕ) (l : List ℕ) → n ≤ i → getD (tabulate n f ++ drop n l) i 0 ≡ getD l i 0
 getD-behind f n i l h =
-    let e : i ≡ n + (i - n) = omega arith in
-    ap (λ k. getD (tabulate n f ++ drop n l) k 0) (e ∙ ap (λ m. m + (i - n)) (sym (length-tabulate n f)))
-    ∙ getD-append-add (tabulate n f) (drop n l) (i - n) 0 ∙ getD-drop n l (i - n) 0 ∙ ap (λ k. getD l k 0) (sym e)
+    let e = length-tabulate n f in
+    ap (λ m. getD (tabulate n f ++ drop m l) i 0) (sym e) ∙ written-behind (tabulate n f) l i (subst (λ m. m ≤ i) (sym e) h)
 
 -- the first n entries of a list as a table
 pub table-take : (n : ℕ) (l : List ℕ) → n ≤ length l → tabulate n (λ i. getD l i 0) ≡ take n l
@@ -116,6 +122,15 @@ pub past-end : (n : ℕ) (l : List ℕ) (i : ℕ) → length l ≤ i → getD (p
 past-end n l i h =
     let e : i ≡ length l + (i - length l) = omega arith in
     ap (λ y. getD (padded n l) y 0) e ∙ getD-append-add l _ (i - length l) 0 ∙ getD-zeros (n - length l) (i - length l)
+
+-- what is written over a list is as long as the list
+pub written-length : {A : Type 0} (front l : List A) → length front ≤ length l → length (written front l) ≡ length l
+written-length front l h =
+    length-append front (drop (length front) l) ∙ ap (λ m. length front + m) (length-drop (length front) l) ∙ omega arith
+
+-- and is all of it, if it is as long
+pub written-whole : {A : Type 0} (front l : List A) → length front ≡ length l → written front l ≡ front
+written-whole front l e = ap (λ t. front ++ t) (drop-of-length-le l {i = length front} (omega arith)) ∙ append-nil front
 
 -- behind what is written all is as it was
 pub written-rest : {A : Type 0} (front l : List A) (n : ℕ) → length front ≡ n → drop n (written front l) ≡ drop n l

@@ -10,16 +10,20 @@ use Rattle.basics.specs.Reach.{Listing, closed, over, indexIn, addAll}
 abbrev pub stepsOver : {K : Type 0} → (K → ℕ → K) → List ℕ → K → List K
 stepsOver f steps s = map (f s) steps
 
-module _ {K : Type 0} (same : K → K → Bool) (f : K → ℕ → K) (steps : List ℕ) where
+-- what a thing's own steps lead to from it
+abbrev pub ownSteps : {K : Type 0} → (K → ℕ → K) → (K → List ℕ) → K → List K
+ownSteps f steps s = stepsOver f (steps s) s
+
+module _ {K : Type 0} (same : K → K → Bool) (f : K → ℕ → K) where
   -- xs, and behind them what the steps lead to from s
-  unfoldable pub grownOver : List K → K → List K
-  grownOver xs s = addAll same xs (stepsOver f steps s)
+  unfoldable pub grownOver : List ℕ → List K → K → List K
+  grownOver steps xs s = addAll same xs (stepsOver f steps s)
 
   -- the numbers in xs of what the steps lead to from s
-  unfoldable pub rowOver : List K → K → List ℕ
-  rowOver xs s = map (λ a. indexIn same (f s a) xs) steps
+  unfoldable pub rowOver : List ℕ → List K → K → List ℕ
+  rowOver steps xs s = map (λ a. indexIn same (f s a) xs) steps
 
-  -- a row for each, of so many entries; nothing if there are too many
-  abbrev pub rowsOver : ℕ → Listing K → List ℕ
-  rowsOver width (closed xs) = flatMap (λ s. padded width (rowOver xs s)) xs
-  rowsOver width over = []
+  -- a row for each, by its own steps, of so many entries; nothing if there are too many
+  abbrev pub rowsOver : (K → List ℕ) → ℕ → Listing K → List ℕ
+  rowsOver steps width (closed xs) = flatMap (λ s. padded width (rowOver (steps s) xs s)) xs
+  rowsOver steps width over = []

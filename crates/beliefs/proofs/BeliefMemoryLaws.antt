@@ -1,12 +1,12 @@
 -- Beliefs in memory: what their bytes say, and what the functions on them do step by step.
 -- Assumes nothing.
-use Prim.Native.Nat.{ℕ, zero, suc, _+_, _*_, _/_, _%_, _^_, _≤_, _<_}
-use native.Mathlib.Nat.{add-assoc, one-mul, pow-suc, div-add-mod', mul-le-mul-right}
+use Prim.Native.Nat.{ℕ, zero, suc, _+_, _*_, _/_, _%_, _^_, _≤_, _<_, zero-le}
+use native.Mathlib.Nat.{le-refl, add-assoc, one-mul, pow-suc, div-add-mod', mul-le-mul-right}
 use native.Mathlib.Numerals.{add-one}
 use native.Mathlib.Decide.{ℕ-discrete, decLt}
 use native.Mathlib.Omega.{arith}
 use mathlib.Core.Path.{_≡_, refl, sym, ap, ap₂, _∙_, subst}
-use mathlib.Core.Bool.{Bool, false, _||_, or-false, or-comm, or-assoc}
+use mathlib.Core.Bool.{Bool, true, false, cond, _||_, or-false, or-comm, or-assoc}
 use mathlib.Core.List.{List}
 use lib.Bits.{bitOr, or-lt}
 use lib.Dec.{eqb, eqb·zero-suc, eqb·suc-zero, eqb·suc-suc}
@@ -21,14 +21,15 @@ use Rattle.basics.proofs.ListsLaws.{length-tabulate, getD-tabulate, take-zeros}
 use Rattle.search.specs.Limits.{stateLimit, letterLimit}
 use Rattle.basics.specs.Reach.{reachable}
 use Rattle.search.specs.ReachableSets.{sameSet}
-use Rattle.basics.specs.Successors.{stepsOver}
+use Rattle.basics.specs.Successors.{ownSteps}
 use Rattle.basics.proofs.BitsLaws.{bit-low, bit-high, bit-zero, bits-ext}
 use Rattle.obligations.proofs.WordsLaws.{bit-or}
 use Rattle.search.proofs.SlotBytes.{bytes-length, byte-at, byte-lt, bit-bytes}
 use Rattle.search.proofs.SlotsLaws.{Packing, packing-bits}
 use Rattle.basics.specs.Bounded.{any}
 use Rattle.play.specs.Belief.{Belief, has, alone}
-use Rattle.beliefs.specs.BeliefMemory.{beliefSize, packBelief, beliefAfter, countedBeliefs, successorIn, withState, withHidden}
+use Rattle.beliefs.specs.BeliefMemory.{beliefSize, packBelief, isFinal, pairsFrom, beliefAfter, countedBeliefs}
+use Rattle.beliefs.specs.BeliefMemory.{successorIn, withState, withHidden}
 use Rattle.basics.proofs.BoundedLaws.{any-suc}
 use Rattle.beliefs.proofs.LimitsLaws.{state-bits}
 
@@ -206,10 +207,18 @@ pub length-after : (successors : List ℕ) (n pairs hiddens : ℕ) (b : Belief) 
 unfolding beliefAfter
 length-after successors n pairs hiddens b q = length-tabulate n _
 
-pub beliefs-reachable : (successors : List ℕ) (n pairs hiddens limit : ℕ)
-    → countedBeliefs successors n pairs hiddens limit ≡ reachable sameSet (stepsOver (beliefAfter successors n pairs hiddens) (below pairs)) (alone n 0) limit
+pub beliefs-reachable : (sets successors : List ℕ) (n pairs hiddens limit : ℕ) → countedBeliefs sets successors n pairs hiddens limit
+    ≡ reachable sameSet (ownSteps (beliefAfter successors n pairs hiddens) (λ b. below (pairsFrom sets n pairs b))) (alone n 0) limit
 unfolding countedBeliefs
-beliefs-reachable successors n pairs hiddens limit = refl
+beliefs-reachable sets successors n pairs hiddens limit = refl
+
+-- no more pairs are tried than there are
+pub pairs-le : (sets : List ℕ) (n pairs : ℕ) (b : Belief) → pairsFrom sets n pairs b ≤ pairs
+pairs-le sets n pairs b = at (isFinal sets n b)
+  where
+    at : (f : Bool) → cond f 0 pairs ≤ pairs
+    at true = zero-le
+    at false = le-refl pairs
 
 -- ---- what the functions do
 

@@ -11,9 +11,9 @@ use lib.Dec.{eqb}
 use lib.ListN.{length, getD, set, take, replicate}
 use Rattle.basics.specs.Bits.{bit, digit}
 use Rattle.basics.specs.Bounded.{all, any}
-use Rattle.basics.specs.Lists.{tabulate, below, padded}
+use Rattle.basics.specs.Lists.{tabulate, below, padded, written}
 use Rattle.basics.specs.Reach.{Listing, closed, over, reachable}
-use Rattle.basics.specs.Successors.{stepsOver, grownOver, rowOver, rowsOver}
+use Rattle.basics.specs.Successors.{ownSteps, grownOver, rowOver, rowsOver}
 use Rattle.search.specs.Limits.{stateLimit, letterLimit, setSize}
 use Rattle.search.specs.ReachableSets.{sameSet}
 use Rattle.search.specs.Slots.{bitBytes, itemIn, itemsIn, HoldsItems, ExpandedItems, sameSlot}
@@ -47,6 +47,23 @@ HoldsBeliefs n = HoldsItems beliefSize n packBelief
 pub record Apart (mem : List ℕ) (m : ℕ) : Type 0 where
   pub apart : (i j : ℕ) → i < j → j < m → sameSlot beliefSize mem j i ≡ false
 
+-- ---- which beliefs are final
+
+-- state s accepts: it holds the all-zero pattern, the lowest bit of its set
+abbrev pub acceptsIn : List ℕ → ℕ → Bool
+acceptsIn sets s = bit (getD sets (s * setSize) 0) 0
+
+-- every state of the belief accepts
+abbrev pub isFinal : List ℕ → ℕ → Belief → Bool
+isFinal sets n b = every n (acceptsIn sets) b
+
+-- 1 for a belief that is final, else 0
+abbrev pub markOf : List ℕ → ℕ → Belief → ℕ
+markOf sets n b = digit (isFinal sets n b)
+
+unfoldable pub finalsOf : List ℕ → ℕ → List Belief → List ℕ
+finalsOf sets n bs = map (markOf sets n) bs
+
 -- ---- where pairs lead
 
 -- the state that letter number a leads to from state s
@@ -61,45 +78,40 @@ pub record Successors (successors : List ℕ) (n pairs hiddens : ℕ) : Type 0 w
 unfoldable pub beliefAfter : List ℕ → ℕ → ℕ → ℕ → Belief → ℕ → Belief
 beliefAfter successors n pairs hiddens b q = reached n hiddens (λ s h. successorIn successors s (q + h * pairs)) b
 
--- the k beliefs in memory, and behind them those that pairs lead to from b; and the numbers of these
-abbrev pub triedFrom : List ℕ → ℕ → ℕ → ℕ → List ℕ → ℕ → Belief → List Belief
-triedFrom successors n pairs hiddens mem k = grownOver sameSet (beliefAfter successors n pairs hiddens) (below pairs) (beliefsIn n mem k)
+-- how many pairs are tried in a belief: a final one has no moves
+abbrev pub pairsFrom : List ℕ → ℕ → ℕ → Belief → ℕ
+pairsFrom sets n pairs b = cond (isFinal sets n b) 0 pairs
 
-abbrev pub triedRow : List ℕ → ℕ → ℕ → ℕ → List ℕ → ℕ → Belief → List ℕ
-triedRow successors n pairs hiddens mem k b =
-    rowOver sameSet (beliefAfter successors n pairs hiddens) (below pairs) (triedFrom successors n pairs hiddens mem k b) b
+-- the k beliefs in memory, and behind them those that the first c pairs lead to from b; and the numbers of these
+abbrev pub triedFrom : List ℕ → ℕ → ℕ → ℕ → ℕ → List ℕ → ℕ → Belief → List Belief
+triedFrom successors n pairs hiddens c mem k = grownOver sameSet (beliefAfter successors n pairs hiddens) (below c) (beliefsIn n mem k)
 
--- the memory holds these beliefs, and the row has these numbers
-abbrev pub Tried : List ℕ → ℕ → ℕ → ℕ → List ℕ → ℕ → Belief → List ℕ → List ℕ → Type 0
-Tried successors n pairs hiddens mem k b =
-    ExpandedItems beliefSize n packBelief beliefLimit (triedFrom successors n pairs hiddens mem k b) (triedRow successors n pairs hiddens mem k b)
+abbrev pub triedRow : List ℕ → ℕ → ℕ → ℕ → ℕ → List ℕ → ℕ → Belief → List ℕ
+triedRow successors n pairs hiddens c mem k b =
+    rowOver sameSet (beliefAfter successors n pairs hiddens) (below c) (triedFrom successors n pairs hiddens c mem k b) b
 
--- all beliefs that pairs reach, or `over` if there are more than the limit
-unfoldable pub countedBeliefs : List ℕ → ℕ → ℕ → ℕ → ℕ → Listing Belief
-countedBeliefs successors n pairs hiddens limit = reachable sameSet (stepsOver (beliefAfter successors n pairs hiddens) (below pairs)) (alone n 0) limit
+-- the memory holds these beliefs, and these numbers are written at the front of a row
+abbrev pub Tried : List ℕ → ℕ → ℕ → ℕ → ℕ → List ℕ → ℕ → Belief → List ℕ → List ℕ → List ℕ → Type 0
+Tried successors n pairs hiddens c mem k b row =
+    ExpandedItems beliefSize n packBelief beliefLimit (triedFrom successors n pairs hiddens c mem k b)
+    (written (triedRow successors n pairs hiddens c mem k b) row)
 
--- for each belief the row of the numbers of those that pairs lead to; nothing if there are too many
-abbrev pub movesOf : List ℕ → ℕ → ℕ → ℕ → Listing Belief → List ℕ
-movesOf successors n pairs hiddens = rowsOver sameSet (beliefAfter successors n pairs hiddens) (below pairs) pairLimit
+-- the beliefs that count: the first, and those that pairs lead to from one that counts and is not final; `over` if there are more than the
+-- limit
+unfoldable pub countedBeliefs : List ℕ → List ℕ → ℕ → ℕ → ℕ → ℕ → Listing Belief
+countedBeliefs sets successors n pairs hiddens limit =
+    reachable sameSet (ownSteps (beliefAfter successors n pairs hiddens) (λ b. below (pairsFrom sets n pairs b))) (alone n 0) limit
 
--- ---- which beliefs are final
-
--- state s accepts: it holds the all-zero pattern, the lowest bit of its set
-abbrev pub acceptsIn : List ℕ → ℕ → Bool
-acceptsIn sets s = bit (getD sets (s * setSize) 0) 0
-
--- 1 for a belief that is final, else 0
-abbrev pub markOf : List ℕ → ℕ → Belief → ℕ
-markOf sets n b = digit (every n (acceptsIn sets) b)
-
-unfoldable pub finalsOf : List ℕ → ℕ → List Belief → List ℕ
-finalsOf sets n bs = map (markOf sets n) bs
+-- for each belief the row of the numbers of those that pairs lead to, all zero for a final one; nothing if there are too many
+abbrev pub movesOf : List ℕ → List ℕ → ℕ → ℕ → ℕ → Listing Belief → List ℕ
+movesOf sets successors n pairs hiddens =
+    rowsOver sameSet (beliefAfter successors n pairs hiddens) (λ b. below (pairsFrom sets n pairs b)) pairLimit
 
 -- what the search for all beliefs leaves: their rows, and in front their marks; after too many both are open, and a caller clears or
 -- drops them
 abbrev pub RanBeliefs : List ℕ → List ℕ → ℕ → ℕ → ℕ → Listing Belief → List ℕ → List ℕ → Type 0
 RanBeliefs sets successors n pairs hiddens (closed bs) moves finals =
-    (moves ≡ padded (length moves) (movesOf successors n pairs hiddens (closed bs))) × (take (length bs) finals ≡ finalsOf sets n bs)
+    (moves ≡ padded (length moves) (movesOf sets successors n pairs hiddens (closed bs))) × (take (length bs) finals ≡ finalsOf sets n bs)
 RanBeliefs sets successors n pairs hiddens over moves finals = Unit {0}
 
 -- ---- as the code does it: the states of a belief are listed, in the first places of a list of members

@@ -1,5 +1,5 @@
-// The search for all beliefs: every belief is marked as final or not, and every pair of a choice and an observation is tried in it, in
-// the order in which beliefs are found.
+// The search for all beliefs that count: each is marked as final or not, in the order in which they are found, and in one that is not final every
+// pair of a choice and an observation is tried. Nothing is tried in a final belief.
 ghost use mathlib.Core.Path.{_≡_};
 ghost use Prim.Native.Nat.{_+_, _*_, _≤_, _<_};
 ghost use lib.ListN.{length, replicate, set};
@@ -12,7 +12,7 @@ ghost use Rattle.play.specs.Limits.{beliefLimit, pairLimit};
 ghost use Rattle.play.specs.Table.{listOf};
 ghost use Rattle.beliefs.specs.Twins.{Twins};
 ghost use Rattle.beliefs.specs.BeliefMemory.{beliefSize, hintSize, beliefIn, beliefsIn, HoldsBeliefs, Apart};
-ghost use Rattle.beliefs.specs.BeliefMemory.{Successors, triedFrom, Tried, countedBeliefs, movesOf, markOf, finalsOf, RanBeliefs};
+ghost use Rattle.beliefs.specs.BeliefMemory.{Successors, pairsFrom, triedFrom, Tried, countedBeliefs, movesOf, markOf, finalsOf, RanBeliefs};
 ghost use Rattle.beliefs.specs.BeliefMemory.{membersOf, Members, Leads, beliefOf, afterMembers};
 use crate::believing::is_final;
 use crate::believing::put_after;
@@ -95,10 +95,10 @@ fn expand_belief(
     requires { ⌜ HoldsBeliefs n (now mem) k ⌝ }
     requires { ⌜ Distinct (beliefsIn n (now mem) k) ⌝ }
     requires { ⌜ length (now hints) ≡ hintSize ⌝ }
-    ensures { λ r. ⌜ r ≡ countUpTo beliefLimit (triedFrom (now (successors .entry)) n (length (now (row .entry))) hiddens (now (mem .entry)) k
-        (beliefOf n (now (members .entry)) count)) ⌝ }
-    ensures { λ _. ⌜ Tried (now (successors .entry)) n (length (now (row .entry))) hiddens (now (mem .entry)) k
-        (beliefOf n (now (members .entry)) count) (now (mem .exit)) (now (row .exit)) ⌝ }
+    ensures { λ r. ⌜ r ≡ countUpTo beliefLimit (triedFrom (now (successors .entry)) n (length (now (row .entry))) hiddens (length (now (row .entry)))
+        (now (mem .entry)) k (beliefOf n (now (members .entry)) count)) ⌝ }
+    ensures { λ _. ⌜ Tried (now (successors .entry)) n (length (now (row .entry))) hiddens (length (now (row .entry)))
+        (now (mem .entry)) k (beliefOf n (now (members .entry)) count) (now (row .entry)) (now (mem .exit)) (now (row .exit)) ⌝ }
 {
     let pairs = row.len();
     let mut m = k;
@@ -147,7 +147,7 @@ fn mark_belief(
     count
 }
 
-// Marks belief i, of k, and tries every pair in it.
+// Marks belief i, of k, and tries every pair in it if it is not final.
 fn visit_belief(
     sets: &[u8],
     successors: &[u8],
@@ -176,14 +176,19 @@ fn visit_belief(
     requires { ⌜ Distinct (beliefsIn n (now mem) k) ⌝ }
     requires { ⌜ length (now hints) ≡ hintSize ⌝ }
     requires { ⌜ length (now finals) ≡ beliefLimit ⌝ }
-    ensures { λ r. ⌜ r ≡ countUpTo beliefLimit (triedFrom (now (successors .entry)) n (length (now (row .entry))) hiddens (now (mem .entry)) k
-        (beliefIn n (now (mem .entry)) i)) ⌝ }
-    ensures { λ _. ⌜ Tried (now (successors .entry)) n (length (now (row .entry))) hiddens (now (mem .entry)) k
-        (beliefIn n (now (mem .entry)) i) (now (mem .exit)) (now (row .exit)) ⌝ }
+    ensures { λ r. ⌜ r ≡ countUpTo beliefLimit (triedFrom (now (successors .entry)) n (length (now (row .entry))) hiddens
+        (pairsFrom (now (sets .entry)) n (length (now (row .entry))) (beliefIn n (now (mem .entry)) i))
+        (now (mem .entry)) k (beliefIn n (now (mem .entry)) i)) ⌝ }
+    ensures { λ _. ⌜ Tried (now (successors .entry)) n (length (now (row .entry))) hiddens
+        (pairsFrom (now (sets .entry)) n (length (now (row .entry))) (beliefIn n (now (mem .entry)) i))
+        (now (mem .entry)) k (beliefIn n (now (mem .entry)) i) (now (row .entry)) (now (mem .exit)) (now (row .exit)) ⌝ }
     ensures { λ _. ⌜ now (finals .exit) ≡ set (now (finals .entry)) i (markOf (now (sets .entry)) n (beliefIn n (now (mem .entry)) i)) ⌝ }
 {
     let mut members = [0u8; STATE_LIMIT];
     let count = mark_belief(sets, mem, i, n, &mut members, finals);
+    if finals[i] == 1 {
+        return Explored::Found(k);
+    }
     expand_belief(
         successors,
         twins,
@@ -198,7 +203,7 @@ fn visit_belief(
     )
 }
 
-// All beliefs over n states: for each the row of the beliefs that pairs lead to, into memory that is all zero, and its mark. After
+// All beliefs over n states that count: for each the row of the beliefs that pairs lead to, into memory that is all zero, and its mark. After
 // too many beliefs both may hold anything.
 fn count_beliefs(
     sets: &[u8],
@@ -218,9 +223,9 @@ fn count_beliefs(
     requires { ⌜ Successors (now successors) n pairs hiddens ⌝ }
     requires { ⌜ now moves ≡ replicate (beliefLimit * pairLimit) 0 ⌝ }
     requires { ⌜ length (now finals) ≡ beliefLimit ⌝ }
-    ensures { λ r. ⌜ r ≡ exploredOf (countedBeliefs (now (successors .entry)) n pairs hiddens beliefLimit) ⌝ }
+    ensures { λ r. ⌜ r ≡ exploredOf (countedBeliefs (now (sets .entry)) (now (successors .entry)) n pairs hiddens beliefLimit) ⌝ }
     ensures { λ _. ⌜ RanBeliefs (now (sets .entry)) (now (successors .entry)) n pairs hiddens
-        (countedBeliefs (now (successors .entry)) n pairs hiddens beliefLimit) (now (moves .exit)) (now (finals .exit)) ⌝ }
+        (countedBeliefs (now (sets .entry)) (now (successors .entry)) n pairs hiddens beliefLimit) (now (moves .exit)) (now (finals .exit)) ⌝ }
 {
     let mut mem = [0u8; BELIEFS_SIZE];
     let mut twins = [0u8; PAIR_LIMIT];
@@ -256,8 +261,8 @@ fn count_beliefs(
     Explored::Found(k)
 }
 
-// All beliefs over n states, by number: for each the row of the beliefs that pairs lead to, into memory that is all zero, and
-// whether it is final. After too many beliefs nothing but the answer.
+// All beliefs over n states that count, by number: for each the row of the beliefs that pairs lead to, into memory that is all zero, and
+// whether it is final. The row of a final one stays zero. After too many beliefs nothing but the answer.
 pub fn explore_beliefs(
     sets: &[u8],
     successors: &[u8],
@@ -276,11 +281,12 @@ pub fn explore_beliefs(
     requires { ⌜ Successors (now successors) n pairs hiddens ⌝ }
     requires { ⌜ now moves ≡ replicate (beliefLimit * pairLimit) 0 ⌝ }
     requires { ⌜ beliefLimit ≤ length (now finals) ⌝ }
-    ensures { λ r. ⌜ r ≡ exploredOf (countedBeliefs (now (successors .entry)) n pairs hiddens beliefLimit) ⌝ }
+    ensures { λ r. ⌜ r ≡ exploredOf (countedBeliefs (now (sets .entry)) (now (successors .entry)) n pairs hiddens beliefLimit) ⌝ }
     ensures { λ _. ⌜ now (moves .exit) ≡ padded (beliefLimit * pairLimit)
-        (movesOf (now (successors .entry)) n pairs hiddens (countedBeliefs (now (successors .entry)) n pairs hiddens beliefLimit)) ⌝ }
-    ensures { λ _. ⌜ now (finals .exit) ≡ written
-        (finalsOf (now (sets .entry)) n (listOf (countedBeliefs (now (successors .entry)) n pairs hiddens beliefLimit))) (now (finals .entry)) ⌝ }
+        (movesOf (now (sets .entry)) (now (successors .entry)) n pairs hiddens
+        (countedBeliefs (now (sets .entry)) (now (successors .entry)) n pairs hiddens beliefLimit)) ⌝ }
+    ensures { λ _. ⌜ now (finals .exit) ≡ written (finalsOf (now (sets .entry)) n
+        (listOf (countedBeliefs (now (sets .entry)) (now (successors .entry)) n pairs hiddens beliefLimit))) (now (finals .entry)) ⌝ }
 {
     let mut marks = [0u8; BELIEF_LIMIT];
     match count_beliefs(sets, successors, n, pairs, hiddens, moves, &mut marks) {

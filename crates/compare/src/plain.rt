@@ -128,7 +128,7 @@ fn solve_states(states: &Sets, successors: &Successors, w: Widths, table: &mut T
 {
     let mut beliefs = [[false; PATTERNS]; BELIEF_LIMIT + 1];
     let mut moves = [[0u8; PAIR_LIMIT]; BELIEF_LIMIT];
-    let n = explore_beliefs(successors, w, &mut beliefs, &mut moves);
+    let n = explore_beliefs(states, successors, w, &mut beliefs, &mut moves);
     if n > BELIEF_LIMIT {
         return refused(10, 0);
     }

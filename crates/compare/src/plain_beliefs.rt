@@ -1,4 +1,4 @@
-// Beliefs: sets of states, all that choices and observations reach.
+// Beliefs: sets of states. Those count that choices and observations reach without passing through a final one.
 ghost use Prim.Native.Nat.{_≤_, _<_};
 ghost use Rattle.play.specs.Limits.{beliefLimit, sideLimit, pairLimit};
 ghost use Rattle.compare.specs.Sizes.{manyBeliefs};
@@ -43,6 +43,16 @@ fn after(successors: &Successors, hiddens: usize, pair: usize, belief: &Set) -> 
     next
 }
 
+// Whether a belief is final: all its states accept, so they hold the pattern that is all zero.
+pub(crate) fn is_final(states: &Sets, belief: &Set) -> bool {
+    for s in 0..STATE_LIMIT {
+        if belief[s] & !states[s][0] {
+            return false;
+        }
+    }
+    true
+}
+
 // Puts the belief after a choice and an observation from belief i behind n others, and answers its number: n where it is new.
 fn follow(
     successors: &Successors,
@@ -62,9 +72,10 @@ fn follow(
     add_set(beliefs, n, next)
 }
 
-// Follows all choices and observations from belief i; answers how many beliefs there are then, or one more than the most where there are
-// too many.
+// Follows all choices and observations from belief i, and none if it is final; answers how many beliefs there are then, or one more than the
+// most where there are too many.
 fn follow_pairs(
+    states: &Sets,
     successors: &Successors,
     w: Widths,
     i: usize,
@@ -77,6 +88,9 @@ fn follow_pairs(
     requires { ⌜ n ≤ beliefLimit ⌝ }
     ensures { λ r. ⌜ (n ≤ r) × (r ≤ manyBeliefs) ⌝ }
 {
+    if is_final(states, &beliefs[i]) {
+        return n;
+    }
     let mut m = n;
     for pair in 0..PAIR_LIMIT {
         if is_pair(w, pair) {
@@ -91,8 +105,10 @@ fn follow_pairs(
     m
 }
 
-// Finds all beliefs, that of the start state alone first; answers how many there are, or one more than the most where there are too many.
+// Finds all beliefs that count, that of the start state alone first; answers how many there are, or one more than the most where there are too
+// many.
 pub(crate) fn explore_beliefs(
+    states: &Sets,
     successors: &Successors,
     w: Widths,
     beliefs: &mut Sets,
@@ -105,7 +121,7 @@ pub(crate) fn explore_beliefs(
     let mut n = 1;
     let mut i = 0;
     while i < n {
-        n = follow_pairs(successors, w, i, n, beliefs, &mut moves[i]);
+        n = follow_pairs(states, successors, w, i, n, beliefs, &mut moves[i]);
         if n > BELIEF_LIMIT {
             return n;
         }

@@ -3,6 +3,7 @@
 ghost use Prim.Native.Nat.{_≤_, _<_};
 ghost use Rattle.play.specs.Limits.{beliefLimit, sideLimit};
 use crate::plain_beliefs::Moves;
+use crate::plain_beliefs::is_final;
 use crate::plain_sets::Set;
 use crate::plain_sets::Sets;
 use crate::plain_sets::index;
@@ -16,16 +17,6 @@ pub type Ranks = [u16; BELIEF_LIMIT];
 
 // The rank of a belief that has none.
 pub const NO_RANK: u16 = 65535;
-
-// Whether all states of a belief accept: they hold the pattern that is all zero.
-fn is_final(states: &Sets, belief: &Set) -> bool {
-    for s in 0..STATE_LIMIT {
-        if belief[s] & !states[s][0] {
-            return false;
-        }
-    }
-    true
-}
 
 // Final beliefs have rank 0, and so far no other has a rank.
 fn rank_finals(states: &Sets, beliefs: &Sets, n: usize) -> Ranks

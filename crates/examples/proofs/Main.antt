@@ -1,4 +1,4 @@
--- The worked examples (REFERENCE.md, Examples and Plan words), and counts of states. Assumes nothing.
+-- The worked examples (REFERENCE.md, Examples and Plan words), with counts of beliefs, and counts of states. Assumes nothing.
 use mathlib.Core.Path.{_≡_}
 use mathlib.Core.List.{[], _∷_, map}
 use Rattle.formula.specs.Formula.{signal, True, False, X, F, U}
@@ -7,7 +7,7 @@ use Rattle.obligations.specs.Letters.{lettersOf}
 use Rattle.search.specs.Limits.{stateLimit}
 use Rattle.states.specs.States.{statesOf}
 use Rattle.examples.specs.Examples.{answer, expected, examples}
-use Rattle.examples.specs.StateCount.{count}
+use Rattle.examples.specs.Count.{count}
 use Rattle.examples.proofs.Computed.{computed}
 use Rattle.examples.proofs.SmallStateSpaces
 

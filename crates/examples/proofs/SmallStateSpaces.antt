@@ -12,7 +12,7 @@ use Rattle.search.specs.ReachableSets.{sameSet, nextSets, reachableSets}
 use Rattle.obligations.specs.Letters.{lettersOf}
 use Rattle.search.specs.Limits.{stateLimit}
 use Rattle.states.specs.States.{statesOf}
-use Rattle.examples.specs.StateCount.{count}
+use Rattle.examples.specs.Count.{count}
 
 -- over two output signals
 pub small-state-spaces : map (λ φ. count (statesOf (partsOf φ) (lettersOf (record { outputs = 2; observed = 0; hidden = 0 })) stateLimit))

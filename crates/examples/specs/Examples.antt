@@ -7,23 +7,31 @@ use mathlib.Core.List.{List, [], _∷_, _++_}
 use Rattle.basics.specs.Bits.{digit}
 use Rattle.basics.specs.Bytes.{bytesOf}
 use Rattle.basics.specs.Lists.{padded}
+use Rattle.basics.specs.Reach.{Listing, closed, over}
 use Rattle.basics.specs.declared.order.Order.the-variants.{Set, Read}
 use Rattle.lines.specs.Refusal.{Told, values, refused, toldRefusal}
 use Rattle.formula.specs.Semantics.{Trace}
 use Rattle.rules.specs.Limits.{workSize}
-use Rattle.rules.specs.Problem.{Outcome, accepted, problemParts, readProblem}
+use Rattle.rules.specs.Problem.{Problem, Outcome, accepted, problemParts, readProblem}
 use Rattle.rules.specs.Problem as reading
 use Rattle.rules.specs.Judge.{judged, toldVerdict}
-use Rattle.search.specs.PatternSet.{accepts}
+use Rattle.search.specs.PatternSet.{PatternSet, accepts}
+use Rattle.search.specs.ReachableSets.{sameSet}
 use Rattle.states.specs.States.{stateAfter}
+use Rattle.play.specs.Limits.{beliefLimit}
 use Rattle.play.specs.Cells.{rowSize, stopCell, tableSize}
+use Rattle.play.specs.Answer.{positions}
+use Rattle.play.specs.EarlierCount.{earlierPositions}
+use Rattle.game.specs.Solution.{gameOf, problemStates, beliefsOf}
 use Rattle.game.specs.SolvedAs.{solvedBy, toldSolved, cellsBy}
 use Rattle.cabinet.specs.Response.{response}
+use Rattle.examples.specs.Count.{count}
 
 -- what is asked of a problem: its table's row count, observed signals, order (0 for `set`, 1 for `read`) and worst case; the table's cells;
--- the bytes that are written for it; the verdict on a trace; or whether its states accept the trace
+-- the bytes that are written for it; how many beliefs count, and how many did by the earlier count; the verdict on a trace; or whether its
+-- states accept the trace
 pub data Asked : Type 0 where
-  table cells text : Asked
+  table cells text beliefs : Asked
   judge accept : Trace → Asked
 
 -- 1 where the states of the problem accept the trace, and 0 where they do not
@@ -31,11 +39,23 @@ abbrev pub toldAccepted : Outcome → Trace → Told
 toldAccepted (accepted p) π = values (digit (accepts (stateAfter (problemParts p) π)) ∷ [])
 toldAccepted (reading.refused r) π = toldRefusal r
 
+-- the number of beliefs that count, and of those that did by the earlier count
+abbrev pub countsFrom : Problem → Listing PatternSet → List ℕ
+countsFrom p (closed xs) =
+    count (positions (beliefsOf p xs) sameSet (gameOf p .choices) (gameOf p .observations) beliefLimit)
+    ∷ count (earlierPositions (beliefsOf p xs) sameSet (gameOf p .choices) (gameOf p .observations) beliefLimit) ∷ []
+countsFrom p over = []
+
+abbrev pub toldCounts : Outcome → Told
+toldCounts (accepted p) = values (countsFrom p (problemStates p))
+toldCounts (reading.refused r) = toldRefusal r
+
 -- what is told for a source, by the definitions that the calls are proved to compute, with as much memory as they ask for
 abbrev pub toldFor : List ℕ → Asked → Told
 toldFor source table = toldSolved (solvedBy workSize tableSize source)
 toldFor source cells = values (cellsBy workSize tableSize source)
 toldFor source text = values (response source)
+toldFor source beliefs = toldCounts (readProblem source)
 toldFor source (judge π) = toldVerdict (judged workSize source π)
 toldFor source (accept π) = toldAccepted (readProblem source) π
 
@@ -56,6 +76,11 @@ examples =
     ∷ example "B" "out\ta\nsee\ts\nrule\ts -> X a\n" text (values (bytesOf "table\t3\t2\nrow\t0\t0\t1\t2\nrow\t1\tstop\nrow\t2\t1\t1\t1\n"))
     ∷ example "B" "out\ta\nsee\ts\nrule\ts -> X a\n" cells
     (values (padded (rowSize Set) (0 ∷ 1 ∷ 2 ∷ []) ++ padded (rowSize Set) (stopCell ∷ []) ++ padded (rowSize Set) (1 ∷ 1 ∷ 1 ∷ [])))
+    ∷ example "B" "out\ta\nsee\ts\nrule\ts -> X a\n" beliefs (values (4 ∷ 4 ∷ []))
+    ∷ example "C" "out\ta\nhid\ts\nrule\ts -> X a\n" beliefs (values (4 ∷ 4 ∷ []))
+    ∷ example "D" "hid\ts\nrule\tF s\n" beliefs (values (2 ∷ 2 ∷ []))
+    ∷ example "E" "see\ts\nrule\t(s & N false) | (!s & X N false)\n" beliefs (values (4 ∷ 5 ∷ []))
+    ∷ example "F" "rule\ttrue\n" beliefs (values (2 ∷ 2 ∷ []))
     ∷ example "C" "out\ta\nhid\ts\nrule\ts -> X a\n" table (values (3 ∷ 0 ∷ 0 ∷ 2 ∷ []))
     ∷ example "D" "hid\ts\nrule\tF s\n" table (refused 11 0)
     ∷ example "E" "hid\ts\nrule\t(s & N false) | (!s & X N false)\n" table (refused 11 0)

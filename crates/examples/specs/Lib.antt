@@ -1,3 +1,3 @@
--- The worked examples of REFERENCE.md, and counts of states.
+-- The worked examples of REFERENCE.md, and counts of states and beliefs.
+pub mod Count
 pub mod Examples
-pub mod StateCount

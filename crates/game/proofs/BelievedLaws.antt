@@ -21,12 +21,13 @@ use Rattle.play.specs.Game.{Game}
 use Rattle.play.specs.Rank.{Arena}
 use Rattle.play.specs.Belief.{Automaton, Belief, stateFrom, has, nextBelief, finalBelief}
 use Rattle.play.specs.History.{History, Possible, know, AtLeastBeliefs, Hidden, letters}
-use Rattle.play.specs.Answer.{moves}
+use Rattle.play.specs.Answer.{allMoves, moves}
 use Rattle.play.proofs.Plans.{rest}
 use Rattle.play.proofs.BeliefsKnow.{stop-has}
 use Rattle.play.proofs.Believed.{believed}
 use Rattle.play.proofs.HistoryLaws.{Tells}
 use Rattle.play.proofs.BeliefsByHistories.{at-least-iff}
+use Rattle.play.proofs.KeptAnswers.{earlier-iff}
 use Rattle.game.specs.Solution.{gameOf, automatonOf, problemStates, beliefsOf}
 use Rattle.game.specs.Believed.{Believed, SameBelief, FinalBelief, Counted, ManyStates}
 use Rattle.game.proofs.StatesJudge.{state-at, states-judge, some-hidden}
@@ -135,9 +136,14 @@ module _ (p : Problem) where
     pub beliefs-tell : Tells A (G .choices) (G .observations) (SameBelief p) (FinalBelief p)
     beliefs-tell = record { sames = same-iff; finals = final-iff }
 
-    -- as many beliefs can be reached as histories lead to
+    -- as many beliefs count as histories lead to
     pub beliefs-iff : (n : ℕ) → AtLeast (moves A sameSet (G .choices) (G .observations)) (A .start) n ↔ AtLeastBeliefs (Counted p) (SameBelief p) n
-    beliefs-iff = at-least-iff A sameSet (G .choices) (G .observations) (Counted p) (SameBelief p) (λ h. (λ c. c, λ c. c)) same-iff
+    beliefs-iff = at-least-iff A sameSet (G .choices) (G .observations) (SameBelief p) (FinalBelief p) beliefs-tell
+
+    -- and so it was with the earlier count
+    pub earlier-beliefs-iff : (n : ℕ) → AtLeast (allMoves A sameSet (G .choices) (G .observations)) (A .start) n
+        ↔ AtLeastBeliefs (Possible (G .choices) (G .observations)) (SameBelief p) n
+    earlier-beliefs-iff = earlier-iff A sameSet (G .choices) (G .observations) (SameBelief p) same-iff
 
 -- whether a belief is final is decided, where the states are within their limit
 pub final-decided : (p : Problem) → (¬ ManyStates p) → (h : History) → Possible (gameOf p .choices) (gameOf p .observations) h

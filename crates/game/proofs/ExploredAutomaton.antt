@@ -64,7 +64,8 @@ module _ (ps : List Part) (c : Counts) (few : c .outputs + c .observed + c .hidd
     unfolding nextState
     entry-is s a h l =
         ap (λ t. getD t (s * letterLimit + a) 0) (left ∙ ap (λ r. padded n (successorsOf (operatorsOf ps) (back ps) (lettersOf c) r)) listed)
-        ∙ rows-entry sameSet (next (operatorsOf ps) (back ps)) (lettersOf c) letterLimit (subst (λ k. k ≤ letterLimit) (sym letters-length) (letters-few c few))
+        ∙ rows-entry sameSet (next (operatorsOf ps) (back ps)) (λ x. lettersOf c) letterLimit
+        (λ x. subst (λ k. k ≤ letterLimit) (sym letters-length) (letters-few c few))
         xs [] n s a h (subst (λ k. a < k) (sym letters-length) l)
         ∙ ap (λ v. indexIn sameSet (next (operatorsOf ps) (back ps) (getD xs s []) v) xs) (letter-is a l)
 

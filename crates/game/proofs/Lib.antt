@@ -9,5 +9,7 @@ pub mod SolutionCases
 pub mod SolvedAsLaws
 pub mod SolvedAsCases
 pub mod LentMemory
+-- what was answered before
+pub mod EarlierCountLaws
 -- the front page
 pub mod Main

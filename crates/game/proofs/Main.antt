@@ -25,18 +25,22 @@ use Rattle.play.specs.History.{History, Possible, Knows}
 use Rattle.play.specs.IsTable.{RankIs, HasAnswer, BestNext}
 use Rattle.play.specs.Table.{tableStrategy}
 use Rattle.play.specs.Answer.{positions, verdictOf, Right}
+use Rattle.play.specs.EarlierCount.{earlierPositions}
 use Rattle.game.specs.Solution.{gameOf, problemStates, beliefsOf}
 use Rattle.game.specs.Believed.{FinalBelief, ManyStates, ManyBeliefs}
+use Rattle.game.specs.EarlierCount.{EarlierManyBeliefs, earlierTold, earlierCells}
 use Rattle.game.specs.SolvedAs.{toldBy, cellsBy, tableAfter, workAfter, Controller, Short, SolvedAs}
 use Rattle.play.proofs.IsTableLaws
 use Rattle.play.proofs.ReadNeverWorse
 use Rattle.play.proofs.ReadRank
 use Rattle.play.proofs.AnswerLaws
+use Rattle.play.proofs.KeptAnswers
 use Rattle.game.proofs.StatesJudge
 use Rattle.game.proofs.BelievedLaws
 use Rattle.game.proofs.SolvedAsLaws
 use Rattle.game.proofs.SolvedAsCases
 use Rattle.game.proofs.LentMemory
+use Rattle.game.proofs.EarlierCountLaws
 
 -- ---- DEMAND 3, for every text and all lent memory: `toldBy` is what `solve` answers, in the reference's terms, and `cellsBy` what it
 -- writes to the table
@@ -60,7 +64,7 @@ module _ (source : List ℕ) (work table : ℕ) where
       pub too-many-states : (toldBy work table source ≡ refused 9 0) ↔ ManyStates p
       too-many-states = SolvedAsCases.too-many-states source work table enough room p denotes
 
-      -- 10: 9 is not due, and more than 256 beliefs can be reached
+      -- 10: 9 is not due, and more than 256 beliefs count: those after histories that pass through no final belief
       pub too-many-beliefs : (toldBy work table source ≡ refused 10 0) ↔ ((¬ ManyStates p) × ManyBeliefs p)
       too-many-beliefs = SolvedAsCases.too-many-beliefs source work table enough room p denotes
 
@@ -81,7 +85,22 @@ module _ (source : List ℕ) (work table : ℕ) where
             ↔ Controller p n r t
         controller = SolvedAsCases.controller source work table enough room p denotes few-states few-beliefs
 
--- what is left in lent memory: a refusal leaves the table as it was, and a table all behind its rows; 12 leaves the work memory as it was,
+-- ---- WHAT WAS ANSWERED BEFORE, while beliefs behind a final one counted too: `earlierTold` and `earlierCells`, which differ from `toldBy` and
+-- `cellsBy` in the beliefs that are counted and in nothing else
+
+module _ (source : List ℕ) (work table : ℕ) where
+  -- all of it but number 10 is answered still, for a problem of either order: a table with its row count and worst case, cell for cell, and
+  -- "unrealizable" as well as every other refusal
+  pub answers-kept : (¬ (earlierTold work table source ≡ refused 10 0))
+      → (toldBy work table source ≡ earlierTold work table source) × (cellsBy work table source ≡ earlierCells work table source)
+  answers-kept = EarlierCountLaws.answers-kept source work table
+
+  -- its number 10: more than 256 beliefs could be reached by any histories
+  pub earlier-too-many : workSize ≤ work → tableSize ≤ table → (p : Problem) → Denotes source p
+      → (earlierTold work table source ≡ refused 10 0) ↔ ((¬ ManyStates p) × EarlierManyBeliefs p)
+  earlier-too-many enough room = EarlierCountLaws.earlier-too-many source work table (SolvedAsCases.long-enough source work table enough room)
+
+-- ---- what is left in lent memory: a refusal leaves the table as it was, and a table all behind its rows; 12 leaves the work memory as it was,
 -- and any other answer leaves it all zero
 pub table-kept : (work : ℕ) (source t : List ℕ) (number place : ℕ) → toldBy work (length t) source ≡ refused number place → tableAfter work source t ≡ t
 table-kept = LentMemory.table-kept
@@ -135,6 +154,15 @@ pub any-game : (o : Order) (G : Game) (A : Arena) (same : A .K → A .K → Bool
     → 0 < G .observations → 0 < G .hiddens → G .choices < stopCell → G .observations ≤ sideLimit
     → Right limit o G (verdictOf o A same (G .choices) (G .observations) (length all))
 any-game = AnswerLaws.answer-right
+
+-- for either order and any positions: where all that choices and observations reach is within a limit, what counts is within it, and the verdict
+-- is the same from either count
+pub any-answer-kept : (A : Arena) (same : A .K → A .K → Bool) → ((a b : A .K) → Says (same a b) (a ≡ b)) → (choices observations : ℕ) (o : Order)
+    → 0 < observations → choices < stopCell → observations ≤ sideLimit
+    → (limit : ℕ) (all : List (A .K)) → earlierPositions A same choices observations limit ≡ closed all
+    → (few : List (A .K)) × (positions A same choices observations limit ≡ closed few)
+    × (verdictOf o A same choices observations (length few) ≡ verdictOf o A same choices observations (length all))
+any-answer-kept = KeptAnswers.answer-kept
 
 -- reading first is never worse: whoever wins by setting first also wins by reading first, with the same number of steps in every play
 pub read-never-worse : (G : Game) (σ : Strategy Set) → IsStrategy G σ → Wins G σ

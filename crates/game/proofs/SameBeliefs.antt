@@ -4,12 +4,14 @@
 use Prim.Native.Nat.{ℕ, _+_, _*_, _/_, _%_, _<_}
 use native.Mathlib.Nat.{mod-lt, div-lt-iff-lt-mul, div-add-mod', mul-comm}
 use mathlib.Core.Path.{_≡_, refl, sym, ap, ap₂, _∙_, subst, fun-ext}
+use mathlib.Core.Logic.{inl, inr}
 use mathlib.Core.Bool.{not, _&&_, _||_}
 use mathlib.Core.List.{List, map}
 use lib.Dec.{eqb}
 use lib.ListN.{length}
 use Rattle.basics.specs.Lists.{below}
 use Rattle.basics.specs.Reach.{Listing, closed, over, reachable}
+use Rattle.basics.proofs.Booleans.{test}
 use Rattle.basics.proofs.BoundedLaws.{all-ext, any-ext}
 use Rattle.basics.proofs.ListsLaws.{map-table, tabulate-ext}
 use Rattle.search.specs.ReachableSets.{sameSet}
@@ -19,7 +21,7 @@ use Rattle.play.specs.Belief.{Automaton, Belief, has, alone, beliefs}
 use Rattle.play.specs.Answer.{moves, positions}
 use Rattle.basics.specs.declared.order.Order.{Order}
 use Rattle.play.proofs.SameAnswer.{Renaming, verdict-image}
-use Rattle.beliefs.specs.BeliefMemory.{successorIn, acceptsIn, beliefAfter, countedBeliefs}
+use Rattle.beliefs.specs.BeliefMemory.{acceptsIn, successorIn, beliefAfter, pairsFrom, countedBeliefs}
 use Rattle.game.specs.Solution.{verdict, solutionOf, beliefSolution}
 use Rattle.game.specs.StateMemory.{automatonIn, letterNumber, memorySolution}
 
@@ -39,13 +41,19 @@ module _ (sets successors : List ℕ) (n choices observations hiddens : ℕ) whe
   unfolding beliefAfter
   pair-move b c s = refl
 
-  pair-moves : (b : Belief) → map (beliefAfter successors n pairs hiddens b) (below pairs) ≡ moves A sameSet choices observations b
+  -- the pairs that are tried in a belief are its moves
+  pair-moves : (b : Belief) → map (beliefAfter successors n pairs hiddens b) (below (pairsFrom sets n pairs b)) ≡ moves A sameSet choices observations b
   pair-moves b =
-      map-table (beliefAfter successors n pairs hiddens b) pairs (λ q. q)
-      ∙ tabulate-ext pairs _ _ (λ q l.
-      ap (beliefAfter successors n pairs hiddens b) (sym (div-add-mod' q choices)) ∙ sym (pair-move b (q % choices) (q / choices)))
+      elim (test (A .final b)) [
+        | inl t ↦ rw (t, moves) refl
+        | inr f ↦
+            rw (f, moves)
+            (map-table (beliefAfter successors n pairs hiddens b) pairs (λ q. q)
+            ∙ tabulate-ext pairs _ _ (λ q l.
+            ap (beliefAfter successors n pairs hiddens b) (sym (div-add-mod' q choices)) ∙ sym (pair-move b (q % choices) (q / choices))))
+      ]
 
-  pub counted-same : (limit : ℕ) → countedBeliefs successors n pairs hiddens limit ≡ positions A sameSet choices observations limit
+  pub counted-same : (limit : ℕ) → countedBeliefs sets successors n pairs hiddens limit ≡ positions A sameSet choices observations limit
   unfolding countedBeliefs
   counted-same limit = ap (λ (st : Belief → List Belief). reachable sameSet st (alone n 0) limit) (fun-ext pair-moves)
 
@@ -95,8 +103,13 @@ module _ (M : Automaton) (choices observations hiddens : ℕ) (letter : ℕ → 
 
       steps : (b : Belief) → moves I sameSet choices observations b ≡ moves B sameSet choices observations b
       steps b =
-          tabulate-ext (choices * observations) _ _ (λ q l. sym (move-same b (q % choices) (q / choices) (mod-lt q some)
-          (div-lt-iff-lt-mul some .1 (subst (λ n. q < n) (mul-comm choices observations) l))))
+          elim (test (I .final b)) [
+            | inl t ↦ rw (t, moves, renaming .named-final b tt ∙ t) refl
+            | inr f ↦
+                rw (f, moves, renaming .named-final b tt ∙ f)
+                (tabulate-ext (choices * observations) _ _ (λ q l. sym (move-same b (q % choices) (q / choices) (mod-lt q some)
+                (div-lt-iff-lt-mul some .1 (subst (λ n. q < n) (mul-comm choices observations) l)))))
+          ]
 
       listed : positions I sameSet choices observations beliefLimit ≡ positions B sameSet choices observations beliefLimit
       listed = ap₂ (λ (st : Belief → List Belief) (b : Belief). reachable sameSet st b beliefLimit) (fun-ext steps) start-same

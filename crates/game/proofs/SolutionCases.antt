@@ -20,7 +20,7 @@ use Rattle.play.specs.Game.{Game, Unrealizable}
 use Rattle.play.specs.Rank.{Arena}
 use Rattle.play.specs.Belief.{Belief}
 use Rattle.play.specs.Answer.{moves, positions, Verdict, solved, unrealizable, verdictOf, Right}
-use Rattle.play.proofs.AnswerLaws.{answer-right}
+use Rattle.play.proofs.AnswerLaws.{start-counted, move-counted, answer-right}
 use Rattle.play.proofs.AnswerTable.{answer-table, one-answer}
 use Rattle.game.specs.Solution.{gameOf, problemStates, beliefsOf, Solution, tooManyStates, tooManyBeliefs, verdict, solutionOf}
 use Rattle.game.specs.Solution.{solutionFrom, solution}
@@ -42,10 +42,10 @@ module _ (p : Problem) (few : Few (p .signals)) where
   abbrev G : Game
   G = gameOf p
 
-  few-choices : G .choices < 65535
+  pub few-choices : G .choices < 65535
   few-choices = lt-of-le-of-lt (pow-mono {i = p .signals .outputs} {j = kindLimit} (few .outputs)) (omega arith)
 
-  few-observations : G .observations ≤ 16
+  pub few-observations : G .observations ≤ 16
   few-observations = pow-mono {i = p .signals .observed} {j = kindLimit} (few .observed)
 
   module _ (xs : List PatternSet) (listed : problemStates p ≡ closed xs) where
@@ -78,14 +78,15 @@ module _ (p : Problem) (few : Few (p .signals)) where
 
       solving-verdict : (v : Verdict) → answer ≡ v → Right beliefLimit (p .order) G v → Solving p (verdict v)
       solving-verdict (solved n r cells) e s =
+          let moves-in = move-counted A sameSet sameSet-says (G .choices) (G .observations) beliefLimit all is in
+          let start-in = start-counted A sameSet sameSet-says (G .choices) (G .observations) beliefLimit all is in
           let (t, q) =
-          answer-table (p .order) A sameSet sameSet-says (G .choices) (G .observations) beliefLimit
-          (pow-pos (p .signals .observed)) few-choices few-observations
-          all is (SameBelief p) (FinalBelief p) (beliefs-tell p xs listed) n r cells e in
+          answer-table (p .order) A sameSet sameSet-says (G .choices) (G .observations) (pow-pos (p .signals .observed)) few-choices few-observations
+          all moves-in start-in (SameBelief p) (FinalBelief p) (beliefs-tell p xs listed) n r cells e in
           table small n r cells (record { isTable = t; rank = q; solves = s })
           (λ m q t c.
-          one-answer (p .order) A sameSet sameSet-says (G .choices) (G .observations) beliefLimit (pow-pos (p .signals .observed)) few-choices few-observations
-          all is (SameBelief p) (FinalBelief p) (beliefs-tell p xs listed) n r cells e m q t (c .isTable) (c .rank))
+          one-answer (p .order) A sameSet sameSet-says (G .choices) (G .observations) (pow-pos (p .signals .observed)) few-choices few-observations
+          all moves-in start-in (SameBelief p) (FinalBelief p) (beliefs-tell p xs listed) n r cells e m q t (c .isTable) (c .rank))
       solving-verdict unrealizable e u = none small u
 
     solving-beliefs : (l : Listing Belief) → counted ≡ l → Solving p (solutionOf (p .order) A sameSet (G .choices) (G .observations) l)

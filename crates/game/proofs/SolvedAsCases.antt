@@ -47,7 +47,7 @@ module _ (source : List ℕ) (work room : ℕ) where
   short-memory = (when-short answer cells (due-call source work room), λ s. answered-iff source work room _ _ .1 (due.short-memory s) .0)
 
   module _ (enough : workSize ≤ work) (long : tableSize ≤ room) where
-    long-enough : ¬ Short work room
+    pub long-enough : ¬ Short work room
     long-enough (inl s) = absurd (omega arith)
     long-enough (inr s) = absurd (omega arith)
 

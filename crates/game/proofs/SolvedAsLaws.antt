@@ -42,7 +42,7 @@ pub is-long : (work room : ℕ) → ¬ Short work room → isShort work room ≡
 is-long work room f = says-false (short-says work room) f
 
 module _ (source : List ℕ) where
-  few-signals : (p : Problem) → readProblem source ≡ accepted p → Few (p .signals)
+  pub few-signals : (p : Problem) → readProblem source ≡ accepted p → Few (p .signals)
   few-signals p read = read-within source p read .few
 
   -- ---- what is answered is due

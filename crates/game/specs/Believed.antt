@@ -15,7 +15,7 @@ use Rattle.search.specs.Limits.{stateLimit}
 use Rattle.search.specs.PatternSet.{PatternSet, accepts}
 use Rattle.states.specs.States.{stateAfter, IsState}
 use Rattle.play.specs.Limits.{beliefLimit}
-use Rattle.play.specs.History.{History, Possible, AtLeastBeliefs, Hidden, letters}
+use Rattle.play.specs.History.{History, Possible, Unstopped, AtLeastBeliefs, Hidden, letters}
 use Rattle.game.specs.Solution.{gameOf}
 
 module _ (p : Problem) where
@@ -31,11 +31,12 @@ module _ (p : Problem) where
   abbrev pub FinalBelief : History → Type 0
   FinalBelief h = (s : PatternSet) → Believed h s → accepts s ≡ true
 
-  -- the histories whose beliefs count: all that choices and observations make
+  -- the histories whose beliefs count: those that choices and observations make and that pass through no final belief. The belief after one
+  -- may be final; nothing counts behind it
   abbrev pub Counted : History → Type 0
-  Counted h = Possible (gameOf p .choices) (gameOf p .observations) h
+  Counted h = Possible (gameOf p .choices) (gameOf p .observations) h × Unstopped FinalBelief h
 
-  -- more beliefs than the limit can be reached
+  -- more beliefs count than the limit
   abbrev pub ManyBeliefs : Type 0
   ManyBeliefs = AtLeastBeliefs Counted SameBelief (suc beliefLimit)
 

@@ -112,7 +112,7 @@ pub data SolvedAs (work table : ℕ) (source : List ℕ) : Told → List ℕ →
   bad-source : (¬ Short work table) → (number place : ℕ) → Refuses source number place → SolvedAs work table source (refused number place) []
   -- 9: more than 128 states can be reached
   too-many-states : (¬ Short work table) → (p : Problem) → Denotes source p → ManyStates p → SolvedAs work table source (refused 9 0) []
-  -- 10: they are within 128, and more than 256 beliefs can be reached
+  -- 10: they are within 128, and more than 256 beliefs count
   too-many-beliefs : (¬ Short work table) → (p : Problem) → Denotes source p → (¬ ManyStates p) → ManyBeliefs p
       → SolvedAs work table source (refused 10 0) []
   -- 11: both are within their limits, and no strategy of the problem's order wins

@@ -3,10 +3,10 @@
 use Prim.Native.Nat.{ℕ, _+_, _*_, _/_, _%_, _≤_, _<_}
 use native.Mathlib.Nat.{mul-comm}
 use native.Mathlib.Omega.{arith}
-use mathlib.Core.Path.{_≡_, refl, sym, ap₂, subst}
+use mathlib.Core.Path.{_≡_, refl, sym, ap₂, _∙_, subst}
 use mathlib.Core.Logic.{_↔_, _⊎_, inl, inr}
 use mathlib.Core.Bool.{Bool, true, false, cond}
-use mathlib.Core.List.{List, flatMap}
+use mathlib.Core.List.{List, flatMap, List·Memᴰ·not-nil}
 use lib.Dec.{ltb}
 use lib.ListN.{length}
 use lib.Arith.{digits-lt, digits-div, digits-mod}
@@ -14,6 +14,8 @@ use borrow.Author.Tests.{ltb-true, ltb-false}
 use Rattle.basics.specs.Says.{Says}
 use Rattle.basics.specs.Member.{_∈_}
 use Rattle.basics.specs.Reach.{closed, Reached, reached-first, reached-step}
+use Rattle.basics.proofs.Booleans.{test}
+use Rattle.basics.proofs.EqualRows.{row-at}
 use Rattle.basics.proofs.MemberLaws.{in-tabulate}
 use Rattle.basics.proofs.ReachLaws.{closed-lists}
 use Rattle.play.specs.Limits.{sideLimit}
@@ -23,7 +25,7 @@ use Rattle.play.specs.Game.{Game}
 use Rattle.play.specs.Rank.{Arena, bestAnswer, best}
 use Rattle.play.specs.History.{Knows}
 use Rattle.play.specs.Table.{Laid, listOf, rows, rowOf, tableStrategy, tableCells}
-use Rattle.play.specs.Answer.{moves, positions, startRank, Verdict, verdictOf, Right}
+use Rattle.play.specs.Answer.{allMoves, moves, positions, startRank, Verdict, verdictOf, Right}
 use Rattle.basics.proofs.BoundedLaws.{first-passes, first-least}
 use Rattle.play.proofs.RankLaws.{In, HasRank}
 use Rattle.play.proofs.FiniteArena.{Closed}
@@ -32,15 +34,41 @@ use Rattle.play.proofs.SameStrategy.{optimal-alike}
 use Rattle.play.proofs.RankedRows.{ranked-answer, rows-listed, rows-ranked, rows-le, rank-lt-rows}
 use Rattle.play.proofs.TableLaws.{table-laid, table-is-best}
 
--- the moves have every pair of a choice and an observation
-pub moves-cover : (A : Arena) (same : A .K → A .K → Bool) (choices observations : ℕ) (k : A .K) (c s : ℕ) → c < choices → s < observations
-    → A .move k c s ∈ moves A same choices observations k
-moves-cover A same choices observations k c s cb sb =
-    in-tabulate (choices * observations) (λ q. A .move k (q % choices) (q / choices)) (A .move k c s) .1 (
-      s * choices + c,
-      subst (λ n. s * choices + c < n) (mul-comm observations choices) (digits-lt sb cb),
-      ap₂ (A .move k) (digits-mod s cb) (digits-div s cb),
-    )
+-- all moves have every pair of a choice and an observation, and nothing else
+module _ (A : Arena) (same : A .K → A .K → Bool) (choices observations : ℕ) (k : A .K) where
+  -- choice c and observation s lead there
+  abbrev pub Leads : A .K → Type 0
+  Leads j = (c : ℕ) × (c < choices) × (s : ℕ) × (s < observations) × (A .move k c s ≡ j)
+
+  pub all-moves-iff : (j : A .K) → (j ∈ allMoves A same choices observations k) ↔ Leads j
+  all-moves-iff j =
+      let law = in-tabulate (choices * observations) (λ q. A .move k (q % choices) (q / choices)) j in (
+        λ m.
+            let (q, b, e) = law .0 m in
+            let (s, c) = row-at choices observations q (subst (λ n. q < n) (mul-comm choices observations) b) in
+            (q % choices, c, q / choices, s, e),
+        λ l.
+            let (c, cb, s, sb, e) = l in
+            law .1 (
+              s * choices + c,
+              subst (λ n. s * choices + c < n) (mul-comm observations choices) (digits-lt sb cb),
+              ap₂ (A .move k) (digits-mod s cb) (digits-div s cb) ∙ e,
+            ),
+      )
+
+  -- the moves are those of a position that is not final
+  pub moves-iff : (j : A .K) → (j ∈ moves A same choices observations k) ↔ ((A .final k ≡ false) × Leads j)
+  moves-iff j = (
+    λ m.
+        elim (test (A .final k)) [
+          | inl t ↦ absurd (List·Memᴰ·not-nil (rw (t, moves) at m))
+          | inr f ↦ (f, all-moves-iff j .0 (rw (f, moves) at m))
+        ],
+    λ l. rw (l .0, moves) (all-moves-iff j .1 (l .1)),
+  )
+
+  pub moves-cover : A .final k ≡ false → (c s : ℕ) → c < choices → s < observations → A .move k c s ∈ moves A same choices observations k
+  moves-cover f c s cb sb = moves-iff (A .move k c s) .1 (f, (c, cb, s, sb, refl))
 
 -- for a list of positions that has the start and is closed under moves
 module _ (o : Order) (G : Game) (some-observation : 0 < G .observations) (some-hidden : 0 < G .hiddens) (few-choices : G .choices < stopCell)
@@ -113,8 +141,8 @@ module _ (A : Arena) (same : A .K → A .K → Bool) (says : (a b : A .K) → Sa
   pub start-counted : A .start ∈ all
   start-counted = exact (A .start) .1 reached-first
 
-  pub move-counted : (k : A .K) → k ∈ all → (c : ℕ) → c < choices → (s : ℕ) → s < observations → A .move k c s ∈ all
-  move-counted k m c cb s sb = exact (A .move k c s) .1 (reached-step (exact k .0 m) (moves-cover A same choices observations k c s cb sb))
+  pub move-counted : (k : A .K) → k ∈ all → A .final k ≡ false → (c : ℕ) → c < choices → (s : ℕ) → s < observations → A .move k c s ∈ all
+  move-counted k m f c cb s sb = exact (A .move k c s) .1 (reached-step (exact k .0 m) (moves-cover A same choices observations k f c s cb sb))
 
 -- what is answered is right
 pub answer-right : (o : Order) (G : Game) (A : Arena) (same : A .K → A .K → Bool) (says : (a b : A .K) → Says (same a b) (a ≡ b)) (limit : ℕ)
@@ -123,6 +151,6 @@ pub answer-right : (o : Order) (G : Game) (A : Arena) (same : A .K → A .K → 
     → Right limit o G (verdictOf o A same (G .choices) (G .observations) (length all))
 answer-right o G A same says limit all counted knows some-observation some-hidden few-choices few-observations =
     verdict-right o G some-observation some-hidden few-choices few-observations A knows same says all
-    (λ k m f. move-counted A same says (G .choices) (G .observations) limit all counted k m)
+    (move-counted A same says (G .choices) (G .observations) limit all counted)
     (start-counted A same says (G .choices) (G .observations) limit all counted) (length all) refl limit
     (closed-lists same says (moves A same (G .choices) (G .observations)) (A .start) limit all counted .1)

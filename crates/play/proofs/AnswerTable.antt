@@ -10,6 +10,7 @@ use lib.Dec.{ltb}
 use lib.ListN.{length}
 use borrow.Author.Tests.{ltb-true}
 use Rattle.basics.specs.Says.{Says}
+use Rattle.basics.specs.Member.{_∈_}
 use Rattle.basics.specs.Reach.{closed, reachable}
 use Rattle.basics.specs.declared.order.Order.{Order}
 use Rattle.play.specs.Limits.{sideLimit}
@@ -18,19 +19,20 @@ use Rattle.play.specs.Rank.{Arena, bestAnswer}
 use Rattle.play.specs.History.{History}
 use Rattle.play.specs.Table.{followers, rows, tableCells}
 use Rattle.play.specs.IsTable.{RankIs, IsTable}
-use Rattle.play.specs.Answer.{positions, startRank, solved, unrealizable, verdictOf}
+use Rattle.play.specs.Answer.{startRank, solved, unrealizable, verdictOf}
 use Rattle.basics.proofs.BoundedLaws.{first-passes, first-least}
 use Rattle.play.proofs.StepOrder.{StepOrder, orderOf}
 use Rattle.play.proofs.RankLaws.{In}
 use Rattle.play.proofs.Optimality.{descends}
+use Rattle.play.proofs.FiniteArena.{Closed}
 use Rattle.play.proofs.RankedRows.{rows-listed}
 use Rattle.play.proofs.HistoryLaws.{Tells}
-use Rattle.play.proofs.AnswerLaws.{start-counted, move-counted}
 use Rattle.play.proofs.TableIs.{table-is, start-rank-is, only-table, only-rank}
 
-module _ (o : Order) (A : Arena) (same : A .K → A .K → Bool) (says : (a b : A .K) → Says (same a b) (a ≡ b)) (choices observations limit : ℕ)
+-- for a list of positions that has the start and is closed under moves
+module _ (o : Order) (A : Arena) (same : A .K → A .K → Bool) (says : (a b : A .K) → Says (same a b) (a ≡ b)) (choices observations : ℕ)
     (some-observation : 0 < observations) (few-choices : choices < stopCell) (few-observations : observations ≤ sideLimit)
-    (all : List (A .K)) (counted : positions A same choices observations limit ≡ closed all)
+    (all : List (A .K)) (closed-all : Closed (orderOf o choices observations) A some-observation all) (start-in : A .start ∈ all)
     (Same : History → History → Type 0) (Final : History → Type 0) (tells : Tells A choices observations Same Final) where
   abbrev n : ℕ
   n = length all
@@ -43,8 +45,7 @@ module _ (o : Order) (A : Arena) (same : A .K → A .K → Bool) (says : (a b : 
 
   listed : r < n → (ks : List (A .K)) × (reachable same (followers o A same choices observations n) (A .start) n ≡ closed ks)
   listed ranked =
-      rows-listed O A same says some-observation all (λ k m f. move-counted A same says choices observations limit all counted k m)
-      (start-counted A same says choices observations limit all counted) n (le-refl n)
+      rows-listed O A same says some-observation all closed-all start-in n (le-refl n)
       (bestAnswer o A choices observations n) (descends o A choices observations n)
       r ranked (first-passes (λ q. In O A q (A .start)) n ranked, first-least (λ q. In O A q (A .start)) n)
 

@@ -32,3 +32,5 @@ pub mod AnswerLaws
 pub mod SameAnswer
 pub mod BeliefsByHistories
 pub mod AnswerTable
+-- what was answered before is answered still
+pub mod KeptAnswers

@@ -1,7 +1,7 @@
 -- What is answered for a game, from the positions of an arena: the table and its worst case, or that there is none.
 -- Assumes nothing.
 use Prim.Native.Nat.{ℕ, _*_, _/_, _%_, _≤_, _<_}
-use mathlib.Core.Bool.{Bool, cond}
+use mathlib.Core.Bool.{Bool, true, false, cond}
 use mathlib.Core.List.{List, []}
 use lib.Dec.{ltb}
 use lib.ListN.{length}
@@ -13,11 +13,16 @@ use Rattle.play.specs.Rank.{Arena, rankFrom}
 use Rattle.play.specs.Table.{tableStrategy, Laid, rows, tableCells}
 
 module _ (A : Arena) (same : A .K → A .K → Bool) (choices observations : ℕ) where
-  -- the positions that all choices and observations lead to: pair q is choice q % choices and observation q / choices
-  abbrev pub moves : A .K → List (A .K)
-  moves k = tabulate (choices * observations) (λ q. A .move k (q % choices) (q / choices))
+  -- where all choices and observations lead: pair q is choice q % choices and observation q / choices
+  abbrev pub allMoves : A .K → List (A .K)
+  allMoves k = tabulate (choices * observations) (λ q. A .move k (q % choices) (q / choices))
 
-  -- the positions that choices and observations can reach, or `over` if there are more than the limit; under either order they are the same
+  -- a final position has no moves
+  abbrev pub moves : A .K → List (A .K)
+  moves k = elim (A .final k) [ true ↦ [] | false ↦ allMoves k ]
+
+  -- the positions that count: the start, and what moves lead to from one that counts; `over` if there are more than the limit. Under either
+  -- order they are the same
   abbrev pub positions : ℕ → Listing (A .K)
   positions limit = reachable same moves (A .start) limit
 

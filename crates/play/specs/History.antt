@@ -21,6 +21,14 @@ abbrev pub Possible : (choices observations : ℕ) → History → Type 0
 Possible choices observations [] = Unit {0}
 Possible choices observations (m ∷ h) = (m .0 < choices) × (m .1 < observations) × Possible choices observations h
 
+-- k is a proper beginning of h: at least one step follows
+abbrev pub ProperPrefix : History → History → Type 0
+ProperPrefix k h = (m : ℕ × ℕ) × (l : History) × (k ++ (m ∷ l) ≡ h)
+
+-- h passes through no history that is final, but it may be final itself
+abbrev pub Unstopped : (Final : History → Type 0) → History → Type 0
+Unstopped Final h = (k : History) → ProperPrefix k h → ¬ Final k
+
 -- the position after a history
 abbrev pub know : (A : Arena) → A .K → History → A .K
 know A k [] = k

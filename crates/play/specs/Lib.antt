@@ -10,3 +10,5 @@ pub mod Cells
 pub mod Table
 pub mod IsTable
 pub mod Answer
+-- how positions were counted before
+pub mod EarlierCount

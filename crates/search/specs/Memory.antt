@@ -96,7 +96,7 @@ setsOf = itemsOf setBytes
 
 -- a row for each set, of as many entries as there can be letters
 abbrev pub successorsOf : ℕ → (ℕ → ℕ → ℕ) → List ℕ → Listing PatternSet → List ℕ
-successorsOf d back letters = rowsOver sameSet (next d back) letters letterLimit
+successorsOf d back letters = rowsOver sameSet (next d back) (λ s. letters) letterLimit
 
 abbrev pub Ran : ℕ → (ℕ → ℕ → ℕ) → List ℕ → Listing PatternSet → List ℕ → List ℕ → Type 0
-Ran d back letters = RanItems setSize setBytes (next d back) letters letterLimit
+Ran d back letters = RanItems setSize setBytes (next d back) (λ s. letters) letterLimit

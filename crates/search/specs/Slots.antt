@@ -70,7 +70,8 @@ itemsOf pack (closed xs) = flatMap pack xs
 itemsOf pack over = []
 
 -- the memory begins with the items, and the rows are as they should be; after too many both are open, and a caller clears or drops them
-abbrev pub RanItems : ℕ → (List Bool → List ℕ) → (List Bool → ℕ → List Bool) → List ℕ → ℕ → Listing (List Bool) → List ℕ → List ℕ → Type 0
+abbrev pub RanItems : ℕ → (List Bool → List ℕ) → (List Bool → ℕ → List Bool) → (List Bool → List ℕ) → ℕ → Listing (List Bool)
+    → List ℕ → List ℕ → Type 0
 RanItems w pack f steps width (closed xs) mem rows =
     (take (length xs * w) mem ≡ flatMap pack xs) × (rows ≡ padded (length rows) (rowsOver sameSet f steps width (closed xs)))
 RanItems w pack f steps width over mem rows = Unit {0}

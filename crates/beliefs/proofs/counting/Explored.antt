@@ -19,7 +19,7 @@ use Rattle.beliefs.proofs.ListedBeliefs.{counted-some, counted-over, be
 
 module _ (sets successors : List ℕ) (n pairs hiddens : ℕ) where
   abbrev l : Listing Belief
-  l = countedBeliefs successors n pairs hiddens beliefLimit
+  l = countedBeliefs sets successors n pairs hiddens beliefLimit
 
   -- the beliefs are k
   module _ (k : ℕ) (got : Found k ≡ exploredOf l) where
@@ -30,7 +30,7 @@ module _ (sets successors : List ℕ) (n pairs hiddens : ℕ) where
     bs = found .0
 
     pub explored-few : k ≤ beliefLimit
-    explored-few = subst (λ m. m ≤ beliefLimit) (found .2) (beliefs-few successors n pairs hiddens beliefLimit bs (found .1))
+    explored-few = subst (λ m. m ≤ beliefLimit) (found .2) (beliefs-few sets successors n pairs hiddens beliefLimit bs (found .1))
 
     module _ (marks : List ℕ) (size : length marks ≡ beliefLimit) where
       -- the first k marks
@@ -48,9 +48,9 @@ module _ (sets successors : List ℕ) (n pairs hiddens : ℕ) where
       ran-closed : RanBeliefs sets successors n pairs hiddens (closed bs) moves marks
       ran-closed = subst (λ r. RanBeliefs sets successors n pairs hiddens r moves marks) (found .1) ran
 
-      pub explored-moves : length moves ≡ beliefLimit * pairLimit → moves ≡ padded (beliefLimit * pairLimit) (movesOf successors n pairs hiddens l)
+      pub explored-moves : length moves ≡ beliefLimit * pairLimit → moves ≡ padded (beliefLimit * pairLimit) (movesOf sets successors n pairs hiddens l)
       explored-moves size =
-          ran-closed .0 ∙ ap₂ (λ m r. padded m (movesOf successors n pairs hiddens r)) size (sym (found .1))
+          ran-closed .0 ∙ ap₂ (λ m r. padded m (movesOf sets successors n pairs hiddens r)) size (sym (found .1))
 
       pub explored-finals : (size : length marks ≡ beliefLimit) (finals finals′ : List ℕ) → beliefLimit ≤ length finals
           → finals′ ≡ stored finals 0 (front marks size)
@@ -63,9 +63,9 @@ module _ (sets successors : List ℕ) (n pairs hiddens : ℕ) where
 
   -- they are too many
   module _ (many : TooMany ≡ exploredOf l) where
-    pub cleared-moves : (m : ℕ) → m ≡ beliefLimit * pairLimit → replicate m 0 ≡ padded (beliefLimit * pairLimit) (movesOf successors n pairs hiddens l)
+    pub cleared-moves : (m : ℕ) → m ≡ beliefLimit * pairLimit → replicate m 0 ≡ padded (beliefLimit * pairLimit) (movesOf sets successors n pairs hiddens l)
     cleared-moves m size =
-        ap (λ j. replicate j 0) size ∙ ap (λ r. padded (beliefLimit * pairLimit) (movesOf successors n pairs hiddens r)) (sym (counted-over l many))
+        ap (λ j. replicate j 0) size ∙ ap (λ r. padded (beliefLimit * pairLimit) (movesOf sets successors n pairs hiddens r)) (sym (counted-over l many))
 
     pub left-finals : (finals : List ℕ) → finals ≡ written (finalsOf sets n (listOf l)) finals
     unfolding finalsOf

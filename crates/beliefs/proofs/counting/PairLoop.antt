@@ -4,17 +4,23 @@ use Prim.Native.Nat.{ℕ, _+_, _*_, _^_, _≤_, _<_}
 use native.Mathlib.Omega.{arith}
 use mathlib.Core.Path.{_≡_, refl, sym, ap, _∙_, subst}
 use mathlib.Core.Bool.{Bool}
-use mathlib.Core.List.{List}
+use mathlib.Core.List.{List, []}
 use lib.ListN.{length, getD, set}
 use Rattle.search.specs.declared.searching.Explored.{Explored}
-use Rattle.search.specs.declared.searching.Explored.the-variants.{TooMany}
+use Rattle.search.specs.declared.searching.Explored.the-variants.{Found, TooMany}
 use Rattle.search.specs.Limits.{stateLimit, letterLimit}
 use Rattle.basics.specs.Bounded.{firstThat}
-use Rattle.basics.specs.Lists.{below}
+use Rattle.basics.specs.Lists.{below, written}
 use Rattle.basics.specs.Member.{Distinct}
+use Rattle.basics.specs.Reach.{addAll}
+use Rattle.basics.specs.Successors.{grownOver, rowOver}
+use Rattle.search.specs.ReachableSets.{sameSet}
 use Rattle.search.specs.Slots.{withItem, sameSlot, countUpTo}
+use borrow.Author.Tests.{le-ltb}
 use Rattle.basics.proofs.BoundedLaws.{first-le}
-use Rattle.search.proofs.StepsFromItem.{reading-none, Adding, Answers, adding-copy, adding-old, adding-new, adding-over}
+use Rattle.search.proofs.SlotsLaws.{length-itemsIn}
+use Rattle.search.proofs.SearchTurns.{whole-row}
+use Rattle.search.proofs.StepsFromItem.{reading-none, Adding, Answers, adding-all, adding-copy, adding-old, adding-new, adding-over}
 use Rattle.play.specs.Limits.{beliefLimit}
 use Rattle.play.specs.Belief.{Belief}
 use Rattle.beliefs.specs.BeliefMemory.{beliefSize, hintSize, packBelief, beliefsIn, HoldsBeliefs, Apart}
@@ -33,6 +39,55 @@ place-small p m t e h ne = omega (arith, first-le p m, belief-byte)
 -- the last place is found only where it is written
 last-place : (p : ℕ → Bool) (m t : ℕ) → t ≡ firstThat p m → m ≤ beliefLimit → t ≡ beliefLimit → t ≡ m
 last-place p m t e h l = omega (arith, first-le p m)
+
+-- ---- what is answered and left, with k beliefs in memory and a row lent
+
+no-steps : {K : Type 0} (same : K → K → Bool) (f : K → ℕ → K) (xs : List K) (s : K) → grownOver same f (below 0) xs s ≡ xs
+unfolding grownOver addAll
+no-steps same f xs s = refl
+
+no-entries : {K : Type 0} (same : K → K → Bool) (f : K → ℕ → K) (xs : List K) (s : K) → rowOver same f (below 0) xs s ≡ []
+unfolding rowOver
+no-entries same f xs s = refl
+
+module _ (successors : List ℕ) (n hiddens : ℕ) (mem : List ℕ) (k : ℕ) (row : List ℕ) where
+  -- after the first c pairs, of belief b
+  abbrev pub TriedAll : (pairs c : ℕ) → Belief → Explored → List ℕ → List ℕ → Type 0
+  TriedAll pairs c b r mem′ row′ =
+      (r ≡ countUpTo beliefLimit (triedFrom successors n pairs hiddens c mem k b)) × Tried successors n pairs hiddens c mem k b row mem′ row′
+
+  -- every pair was tried
+  pub tried-all : (c : ℕ) (b : Belief) (r : Explored) (mem′ row′ : List ℕ) → length row ≡ c
+      → Answers beliefSize n packBelief (beliefAfter successors n c hiddens) b (beliefsIn n mem k) beliefLimit c r mem′ row′ → TriedAll c c b r mem′ row′
+  tried-all c b r mem′ row′ e a = (a .0, whole-row _ _ _ _ _ _ _ _ _ _ _ _ e (a .1))
+
+  -- none was: all is as it was
+  pub tried-none : (pairs : ℕ) (b : Belief) → k ≤ beliefLimit → HoldsBeliefs n mem k → TriedAll pairs 0 b (Found k) mem row
+  tried-none pairs b few held =
+      let after = beliefAfter successors n pairs hiddens in
+      let xs = beliefsIn n mem k in
+      let size = length-itemsIn beliefSize n mem k in
+      let same = no-steps sameSet after xs b in
+      let none = no-entries sameSet after (triedFrom successors n pairs hiddens 0 mem k b) b in (
+        sym (ap (countUpTo beliefLimit) same ∙ rw (size, le-ltb beliefLimit k few) refl),
+        record {
+          items-in = λ l. ap (λ t. beliefsIn n mem (length t)) same ∙ ap (beliefsIn n mem) size ∙ sym same;
+          holds = λ l. subst (HoldsBeliefs n mem) (sym (ap length same ∙ size)) held;
+          row-is = λ l. sym (ap (λ t. written t row) none);
+        },
+      )
+
+  -- said of the same belief and of as many pairs
+  pub same-tried : (pairs c c′ : ℕ) (b b′ : Belief) (r : Explored) (mem′ row′ : List ℕ) → c ≡ c′ → b ≡ b′ → TriedAll pairs c b r mem′ row′
+      → TriedAll pairs c′ b′ r mem′ row′
+  same-tried pairs c c′ b b′ r mem′ row′ e f t =
+      subst (λ x. TriedAll pairs c′ x r mem′ row′) f (subst (λ j. TriedAll pairs j b r mem′ row′) e t)
+
+  pub same-pairs : (count : ℕ → ℕ) (pairs pairs′ : ℕ) (b : Belief) (r : Explored) (mem′ row′ : List ℕ) → pairs ≡ pairs′
+      → TriedAll pairs (count pairs) b r mem′ row′ → TriedAll pairs′ (count pairs′) b r mem′ row′
+  same-pairs count pairs pairs′ b r mem′ row′ e = subst (λ j. TriedAll j (count j) b r mem′ row′) e
+
+-- ---- the loop
 
 -- the belief of the first c members, with k beliefs in memory
 module _ (successors twins members : List ℕ) (c n hiddens : ℕ) (mem₀ : List ℕ) (k : ℕ) where
@@ -152,21 +207,17 @@ module _ (successors twins members : List ℕ) (c n hiddens : ℕ) (mem₀ : Lis
             h,
           )
 
-      pub kept-over : t ≡ beliefLimit → (mem′ row′ : List ℕ)
-          → Answers beliefSize n packBelief (beliefAfter successors n count hiddens) x (beliefsIn n mem₀ k) beliefLimit count TooMany mem′ row′
-      kept-over y mem′ row′ =
-          let e = last-place (sameSlot beliefSize w m) m t first (z .0 .1) y in
-          adding-over _ _ _ _ _ _ (z .0) l (belief-packing n (z .1 .small)) (z .1 .room) (length-after _ n _ _ _ _) w t w-is first e (sym e
-          ∙ y) mem′ row′
+      -- no place is left for it
+      pub kept-over : t ≡ beliefLimit → (row₀ mem′ row′ : List ℕ) → length row₀ ≡ count
+          → TriedAll successors n hiddens mem₀ k row₀ count count x TooMany mem′ row′
+      kept-over y row₀ mem′ row′ e =
+          let at = last-place (sameSlot beliefSize w m) m t first (z .0 .1) y in
+          tried-all successors n hiddens mem₀ k row₀ count x TooMany mem′ row′ e
+          (adding-over _ _ _ _ _ _ (z .0) l (belief-packing n (z .1 .small)) (z .1 .room) (length-after _ n _ _ _ _) w t w-is first at (sym at
+          ∙ y) mem′ row′)
 
--- what is answered and left, said of the same belief and of as many pairs
-module _ (successors : List ℕ) (n hiddens : ℕ) (mem : List ℕ) (k : ℕ) where
-  abbrev TriedAll : ℕ → Belief → Explored → List ℕ → List ℕ → Type 0
-  TriedAll pairs b r mem′ row =
-      (r ≡ countUpTo beliefLimit (triedFrom successors n pairs hiddens mem k b)) × Tried successors n pairs hiddens mem k b mem′ row
-
-  pub same-belief : (pairs : ℕ) (b b′ : Belief) (r : Explored) (mem′ row : List ℕ) → b ≡ b′ → TriedAll pairs b r mem′ row → TriedAll pairs b′ r mem′ row
-  same-belief pairs b b′ r mem′ row e = subst (λ x. TriedAll pairs x r mem′ row) e
-
-  pub same-count : (c pairs : ℕ) (b : Belief) (r : Explored) (mem′ row : List ℕ) → c ≡ pairs → TriedAll c b r mem′ row → TriedAll pairs b r mem′ row
-  same-count c pairs b r mem′ row e = subst (λ j. TriedAll j b r mem′ row) e
+  -- every pair has been tried
+  pub kept-all : (count pairs q m : ℕ) (mem hints row : List ℕ) → Kept count pairs q m mem hints row → length row ≤ q → (row₀ : List ℕ) → length row₀ ≡ count
+      → TriedAll successors n hiddens mem₀ k row₀ count count x (Found m) mem row
+  kept-all count pairs q m mem hints row z l row₀ e =
+      tried-all successors n hiddens mem₀ k row₀ count x (Found m) mem row e (adding-all _ _ _ _ _ _ (z .0) l)

@@ -3,14 +3,14 @@
 use Prim.Native.Nat.{ℕ, suc, _+_, _*_, _≤_, _<_}
 use native.Mathlib.Nat.{add-assoc, mul-le-mul}
 use mathlib.Core.Path.{_≡_, refl, sym, ap, ap₂, _∙_, subst}
-use mathlib.Core.Bool.{cond}
+use mathlib.Core.Bool.{false, cond}
 use mathlib.Core.List.{List, _++_}
 use lib.Dec.{eqb}
 use lib.ListN.{length, getD, length-map, List·getD-append}
 use Rattle.lines.specs.declared.refusal.Refusal.the-variants as refusal
-use Rattle.basics.proofs.ListsLaws.{length-tabulate, getD-tabulate, getD-map-in}
+use Rattle.basics.proofs.ListsLaws.{getD-map-in}
 use Rattle.search.specs.declared.searching.Explored.the-variants.{Found, TooMany}
-use Rattle.basics.specs.Lists.{below, padded, written}
+use Rattle.basics.specs.Lists.{padded, written}
 use Rattle.basics.specs.Member.{_∈_}
 use Rattle.basics.specs.Reach.{Listing, closed, indexIn}
 use Rattle.search.specs.ReachableSets.{sameSet}
@@ -29,14 +29,13 @@ use Rattle.play.specs.Answer.{moves, positions, verdictOf, cellsOf as verdictCe
 use Rattle.tables.specs.Outcome.{outcomeOf}
 use Rattle.game.specs.Solution.{Solution, tooManyBeliefs, verdict, solutionOf}
 use Rattle.game.specs.SolvedAs.{solvedWith, solvedOf, cellsOf}
-use Rattle.beliefs.specs.BeliefMemory.{beliefAfter, countedBeliefs, finalsOf, movesOf}
+use Rattle.beliefs.specs.BeliefMemory.{countedBeliefs, finalsOf, movesOf}
 use Rattle.game.specs.StateMemory.{Widths, memorySolution}
 use Rattle.tables.specs.PositionMemory.{arenaIn, Positions}
 use Rattle.play.proofs.AnswerLaws.{start-counted, move-counted}
 use Rattle.play.proofs.SameAnswer.{Renaming, verdict-image}
 use Rattle.basics.proofs.ReachLaws.{closed-begins, index-right, index-one}
-use Rattle.beliefs.proofs.NumberedRows.{rows-entry}
-use Rattle.beliefs.proofs.ListedBeliefs.{counted-some, counted-over, beliefs-few, beliefs-some, beliefs-inside}
+use Rattle.beliefs.proofs.ListedBeliefs.{counted-some, counted-over, beliefs-few, beliefs-some, beliefs-inside, beliefs-entry}
 use Rattle.game.proofs.LetterNumbers.{pair-lt}
 use Rattle.game.proofs.SameBeliefs.{beliefsIn, pair-move, counted-same}
 
@@ -45,19 +44,19 @@ widths-pairs choices observations hiddens w = mul-le-mul (w .few-choices) (w .fe
 
 -- ---- the rows are positions, closed under moves
 
-module _ (successors : List ℕ) (n choices observations hiddens : ℕ) (w : Widths choices observations hiddens) where
+module _ (sets successors : List ℕ) (n choices observations hiddens : ℕ) (w : Widths choices observations hiddens) where
   abbrev l : Listing Belief
-  l = countedBeliefs successors n (choices * observations) hiddens beliefLimit
+  l = countedBeliefs sets successors n (choices * observations) hiddens beliefLimit
 
   pub counted-positions : (k : ℕ) → Found k ≡ exploredOf l → (rows finals : List ℕ)
-      → rows ≡ padded (beliefLimit * pairLimit) (movesOf successors n (choices * observations) hiddens l)
+      → rows ≡ padded (beliefLimit * pairLimit) (movesOf sets successors n (choices * observations) hiddens l)
       → length rows ≡ beliefLimit * pairLimit → length finals ≡ beliefLimit → Positions k choices observations rows finals
   counted-positions k got rows finals rows-are rows-long finals-long =
       let (bs, counted, count) = counted-some l k got in
       subst (λ m. Positions m choices observations rows finals) count (
       record {
-        some = beliefs-some successors n (choices * observations) hiddens beliefLimit bs counted;
-        few = beliefs-few successors n (choices * observations) hiddens beliefLimit bs counted;
+        some = beliefs-some sets successors n (choices * observations) hiddens beliefLimit bs counted;
+        few = beliefs-few sets successors n (choices * observations) hiddens beliefLimit bs counted;
         few-choices = w .few-choices;
         few-observations = w .few-observations;
         some-choice = w .some-choice;
@@ -67,9 +66,9 @@ module _ (successors : List ℕ) (n choices observations hiddens : ℕ) (w : Wid
         inside = λ i c s h cb sb.
             subst (λ x. x < length bs)
             (ap₂ (λ t j. getD t j 0) (sym (rows-are ∙ ap (λ r. padded (beliefLimit * pairLimit)
-            (movesOf successors n (choices * observations) hiddens r)) counted))
+            (movesOf sets successors n (choices * observations) hiddens r)) counted))
             (sym (add-assoc (i * pairLimit) (s * choices) c)))
-            (beliefs-inside successors n (choices * observations) hiddens beliefLimit bs counted (widths-pairs choices observations hiddens w) _ i
+            (beliefs-inside sets successors n (choices * observations) hiddens beliefLimit bs counted (widths-pairs choices observations hiddens w) _ i
             (s * choices + c) h
             (pair-lt choices observations c s cb sb));
       }
@@ -78,7 +77,7 @@ module _ (successors : List ℕ) (n choices observations hiddens : ℕ) (w : Wid
 -- ---- the verdict from them is that from the beliefs
 
 module _ (sets successors : List ℕ) (n choices observations hiddens : ℕ) (few-pairs : choices * observations ≤ pairLimit)
-    (limit : ℕ) (bs : List Belief) (tried : countedBeliefs successors n (choices * observations) hiddens limit ≡ closed bs) where
+    (limit : ℕ) (bs : List Belief) (tried : countedBeliefs sets successors n (choices * observations) hiddens limit ≡ closed bs) where
   abbrev A : Arena
   A = beliefsIn sets successors n choices observations hiddens
 
@@ -102,7 +101,7 @@ module _ (sets successors : List ℕ) (n choices observations hiddens : ℕ) (fe
       ap (indexIn sameSet (A .start)) e ∙ ap (λ b. cond b 0 (suc (indexIn sameSet (A .start) ys))) (sameSet-says (A .start) (A .start) .1 refl)
 
   module _ (finals rest : List ℕ) (marked : finals ≡ finalsOf sets n bs ++ rest)
-      (size : ℕ) (rows : List ℕ) (rows-are : rows ≡ padded size (movesOf successors n pairs hiddens (closed bs))) where
+      (size : ℕ) (rows : List ℕ) (rows-are : rows ≡ padded size (movesOf sets successors n pairs hiddens (closed bs))) where
     -- which are final
     final-at : (i : ℕ) → i < length bs → eqb (getD finals i 0) 1 ≡ A .final (at i)
     unfolding finalsOf
@@ -111,29 +110,26 @@ module _ (sets successors : List ℕ) (n choices observations hiddens : ℕ) (fe
         ∙ ap (λ y. eqb y 1) (List·getD-append (finalsOf sets n bs) rest 0 i (subst (λ m. i < m) (sym (length-map bs _)) h) ∙ getD-map-in _ bs i (A .start) 0 h)
         ∙ digit-is _
 
-    -- where pairs lead
-    move-at : (i c s : ℕ) → i < length bs → c < choices → s < observations
+    -- where pairs lead from one that is not
+    move-at : (i c s : ℕ) → i < length bs → A .final (at i) ≡ false → c < choices → s < observations
         → getD rows (i * pairLimit + s * choices + c) 0 ≡ number (A .move (at i) c s)
-    move-at i c s h cb sb =
-        let l : s * choices + c < pairs = pair-lt choices observations c s cb sb in
-        let count = length-tabulate pairs (λ k. k) in
+    move-at i c s h f cb sb =
         ap₂ (λ t k. getD t k 0) rows-are (add-assoc (i * pairLimit) (s * choices) c)
-        ∙ rows-entry sameSet (beliefAfter successors n pairs hiddens) (below pairs) pairLimit (subst (λ m. m ≤ pairLimit) (sym count) few-pairs)
-        bs (A .start) size i (s * choices + c) h (subst (λ m. s * choices + c < m) (sym count) l)
-        ∙ ap number (ap (beliefAfter successors n pairs hiddens (at i)) (getD-tabulate pairs (λ k. k) (s * choices + c) 0 l)
-        ∙ sym (pair-move sets successors n choices observations hiddens (at i) c s))
+        ∙ beliefs-entry sets successors n pairs hiddens limit bs tried few-pairs size i (s * choices + c) (A .start) h f
+        (pair-lt choices observations c s cb sb)
+        ∙ ap number (sym (pair-move sets successors n choices observations hiddens (at i) c s))
 
     -- the beliefs by their numbers
     renaming : Renaming A (arenaIn choices rows finals) sameSet eqb choices observations number (λ b. b ∈ bs)
     renaming =
         record {
           met-start = start-counted A sameSet sameSet-says choices observations limit bs counted;
-          met-next = λ b m f. move-counted A sameSet sameSet-says choices observations limit bs counted b m;
+          met-next = move-counted A sameSet sameSet-says choices observations limit bs counted;
           named-start = start-zero;
           named-final = λ b m. let (h, e) = index-right sameSet sameSet-says b bs (A .start) m in final-at (number b) h ∙ ap (A .final) e;
           named-move = λ b m f c cb s sb.
               let (h, e) = index-right sameSet sameSet-says b bs (A .start) m in
-              move-at (number b) c s h cb sb ∙ ap (λ k. number (A .move k c s)) e;
+              move-at (number b) c s h (ap (A .final) e ∙ f) cb sb ∙ ap (λ k. number (A .move k c s)) e;
           one = λ a b m k. index-one sameSet sameSet-says a b bs m k;
         }
 
@@ -152,10 +148,10 @@ module _ (o : Order) (sets successors : List ℕ) (n choices observations hidden
   solution = memorySolution o sets successors n choices observations hiddens
 
   abbrev counts : Listing Belief
-  counts = countedBeliefs successors n (choices * observations) hiddens beliefLimit
+  counts = countedBeliefs sets successors n (choices * observations) hiddens beliefLimit
 
   pub solved-verdict : Widths choices observations hiddens → (k : ℕ) → Found k ≡ exploredOf counts
-      → (rows : List ℕ) → rows ≡ padded (beliefLimit * pairLimit) (movesOf successors n (choices * observations) hiddens counts)
+      → (rows : List ℕ) → rows ≡ padded (beliefLimit * pairLimit) (movesOf sets successors n (choices * observations) hiddens counts)
       → (finals room : List ℕ) → finals ≡ written (finalsOf sets n (listOf counts)) room
       → (x : Outcome) (table table′ : List ℕ) → x ≡ outcomeOf (verdictOf o (arenaIn choices rows finals) eqb choices observations k)
       → table′ ≡ written (verdictCells (verdictOf o (arenaIn choices rows finals) eqb choices observations k)) table
@@ -170,7 +166,7 @@ module _ (o : Order) (sets successors : List ℕ) (n choices observations hidden
           ap (λ m. verdict (verdictOf o (arenaIn choices rows finals) eqb choices observations m)) (sym count)
           ∙ verdict-kept sets successors n choices observations hiddens (widths-pairs choices observations hiddens w) beliefLimit bs tried finals _
           (marked ∙ ap (λ r. written (finalsOf sets n (listOf r)) room) tried) (beliefLimit * pairLimit) rows
-          (rows-are ∙ ap (λ r. padded (beliefLimit * pairLimit) (movesOf successors n (choices * observations) hiddens r)) tried) o (w .some-observation)
+          (rows-are ∙ ap (λ r. padded (beliefLimit * pairLimit) (movesOf sets successors n (choices * observations) hiddens r)) tried) o (w .some-observation)
 
   pub solved-many : TooMany ≡ exploredOf counts → (table : List ℕ) → Answered o observed solution (Refused refusal.TooManyBeliefs) table table
   unfolding memorySolution

@@ -24,8 +24,8 @@ listed-few over limit n few q = let z : _≡_ {A = ℕ} 0 1 = cc in absurd (omeg
 pub answer-few : (d : ℕ) (back : ℕ → ℕ → ℕ) (letters : List ℕ) (limit n : ℕ) → Found n ≡ exploredOf (reachableSets d back letters limit) → n ≤ limit
 answer-few d back letters limit n q = listed-few (reachableSets d back letters limit) limit n (λ xs e. sets-closed d back letters limit xs e .1) q
 
-module _ (w : ℕ) (pack : List Bool → List ℕ) (f : List Bool → ℕ → List Bool) (steps : List ℕ) (width : ℕ) (l : Listing (List Bool)) (mem rows : List ℕ)
-    (ran : RanItems w pack f steps width l mem rows) where
+module _ (w : ℕ) (pack : List Bool → List ℕ) (f : List Bool → ℕ → List Bool) (steps : List Bool → List ℕ) (width : ℕ) (l : Listing (List Bool))
+    (mem rows : List ℕ) (ran : RanItems w pack f steps width l mem rows) where
   -- behind the items all is cleared
   pub end-items : (n k m : ℕ) (rest : List ℕ) → Found n ≡ exploredOf l → n * w ≤ length mem → k ≡ length mem - n * w
       → rest ≡ replicate (length (take k (drop (n * w) mem))) 0 → m ≡ length mem → putMid (n * w) k mem rest ≡ padded m (itemsOf pack l)
@@ -61,8 +61,9 @@ module _ (w : ℕ) (pack : List Bool → List ℕ) (f : List Bool → ℕ → Li
       at over r p = let z : _≡_ {A = ℕ} 0 1 = cc in absurd (omega arith)
 
 -- too many leave nothing
-pub end-many : (pack : List Bool → List ℕ) (f : List Bool → ℕ → List Bool) (steps : List ℕ) (width : ℕ) (l : Listing (List Bool)) → TooMany ≡ exploredOf l
-    → (m n : ℕ) (mem : List ℕ) → mem ≡ replicate n 0 → n ≡ m → (mem ≡ padded m (itemsOf pack l)) × (mem ≡ padded m (rowsOver sameSet f steps width l))
+pub end-many : (pack : List Bool → List ℕ) (f : List Bool → ℕ → List Bool) (steps : List Bool → List ℕ) (width : ℕ) (l : Listing (List Bool))
+    → TooMany ≡ exploredOf l → (m n : ℕ) (mem : List ℕ) → mem ≡ replicate n 0 → n ≡ m
+    → (mem ≡ padded m (itemsOf pack l)) × (mem ≡ padded m (rowsOver sameSet f steps width l))
 end-many pack f steps width (closed xs) q m n mem z e = let f : _≡_ {A = ℕ} 0 1 = cc in absurd (omega arith)
 end-many pack f steps width over q m n mem z e =
     let s : n ≡ m - 0 = omega arith in

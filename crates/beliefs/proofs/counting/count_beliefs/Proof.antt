@@ -2,9 +2,10 @@
 -- have their rows and marks.
 -- Assumes nothing.
 use Prim.Native.Nat.{ℕ, _+_, _-_, _*_, _≤_}
+use native.Mathlib.Nat.{le-trans}
 use native.Mathlib.Omega.{arith}
 use mathlib.Core.Path.{_≡_, refl, sym, _∙_, subst}
-use lib.ListN.{length, replicate, length-set, length-replicate}
+use lib.ListN.{length, take, drop, replicate, length-set, length-replicate}
 use borrow.Author.Needs.{needs}
 use borrow.Rule.Slice.PartMut.{same-len-mid}
 use Rattle.search.specs.Limits.{letterLimit}
@@ -12,11 +13,12 @@ use Rattle.basics.specs.Member.{Distinct}
 use Rattle.basics.proofs.ListsLaws.{zeros-length}
 use Rattle.search.proofs.SearchTurns.{turn-next, turn-row}
 use Rattle.play.specs.Limits.{beliefLimit, pairLimit}
-use Rattle.beliefs.specs.BeliefMemory.{beliefSize, hintSize, beliefsIn, Successors}
+use Rattle.beliefs.specs.BeliefMemory.{beliefSize, hintSize, beliefIn, beliefsIn, Successors, pairsFrom}
 use Rattle.beliefs.specs.Twins.{Twins}
 use Rattle.beliefs.proofs.TwinsLaws.{twins-are}
 use Rattle.beliefs.proofs.ApartPlaces.{distinct-one, distinct-next}
-use Rattle.beliefs.proofs.counting.PairLoop.{same-count}
+use Rattle.beliefs.proofs.BeliefMemoryLaws.{pairs-le}
+use Rattle.beliefs.proofs.counting.PairLoop.{same-pairs}
 use Rattle.beliefs.proofs.counting.VisitLoop.{Marked, marked-none, belief-stays, marked-more, BeliefTurn, turn-first, turn-many, turn-ran}
 use Rattle.beliefs.proofs.counting.count_beliefs.Statement.{statement}
 use Rattle.beliefs.proofs.counting.count_beliefs.Tie as tie
@@ -77,7 +79,7 @@ part-visit-belief-end : tie.Need-part-visit-belief-end Inv-loop μ-loop
 part-visit-belief-end c =
     let l = c .before .before .before .before .loop in
     let p = c .before .before .before .before .before .before .before .before .before .before .before .before .pre in
-    turn-row (l .inv .2) (c .before .before .before .loop-test .taken) (p .1 .1 .1 .1 .0) (l .inv .1) .0
+    turn-row (l .inv .2) (c .before .before .before .loop-test .taken) _ (p .1 .1 .1 .1 .0) (l .inv .1) .0
 
 visit-belief-requires : tie.Need-visit-belief-requires Inv-loop μ-loop
 visit-belief-requires c κs =
@@ -89,7 +91,7 @@ visit-belief-requires c κs =
     let l = c .before .before .before .before .before .before .loop in
     let t = l .inv .2 in
     let here = c .before .before .before .before .before .loop-test .taken in
-    let size = turn-row t here (p .0) (l .inv .1) .1 in
+    let size = turn-row t here _ (p .0) (l .inv .1) .1 in
     let letters = subst (λ j. a .hiddens * j ≤ letterLimit) (sym size) (p .1 .0) in
     let right = subst (λ j. Successors (a .successors .now) (a .n) j (a .hiddens)) (sym size) (p .1 .1 .0) in
     let twins = put-twins .last .1 .1 .1 .1 .0 in
@@ -143,8 +145,9 @@ returns c =
     let t = l .inv .2 in
     let r = c .before .before .before .before .before .before .before .before .visit-belief in
     let here = c .before .before .before .before .before .before .before .before .before .before .before .before .before .before .loop-test .taken in
-    let row = turn-row t here (o .pre .1 .1 .1 .1 .0) (l .inv .1) in
-    let tried = same-count _ _ _ _ _ _ (a .pairs) _ _ _ _ (row .1) (r .ensures .0, r .ensures .1 .0) in
+    let row = turn-row t here _ (o .pre .1 .1 .1 .1 .0) (l .inv .1) in
+    let b = beliefIn (a .n) (l .mem) (l .i) in
+    let tried = same-pairs _ _ _ _ _ _ (λ j. pairsFrom (a .sets .now) (a .n) j b) _ (a .pairs) b _ _ _ (row .1) (r .ensures .0, r .ensures .1 .0) in
     turn-many (a .sets .now) _ _ _ _ t here _ _ (sym (c .enum-told .given .1) ∙ tried .0)
 
 add-i : tie.Need-add-i Inv-loop μ-loop
@@ -163,20 +166,25 @@ loop-again c =
     let r = c .before .before .before .before .before .before .before .before .before .visit-belief in
     let here = c .before .before .before .before .before .before .before .before .before .before .before .before .before .before
     .before .loop-test .taken in
+    let b = beliefIn (a .n) (l .mem) (l .i) in
     let small = o .pre .1 .1 .1 .1 .0 in
-    let row = turn-row t here small (l .inv .1) in
+    let row = turn-row t here _ small (l .inv .1) in
     let at = l .i * pairLimit in
+    let part = take (at + a .pairs - at) (drop at (l .moves)) in
+    let some = pairsFrom (a .sets .now) (a .n) (a .pairs) b in
     let new = r .last .1 .1 .1 .1 .1 .1 .1 .1 .1 .0 in
     let kept = r .kept .1 .1 .1 .1 .1 .1 .1 in
-    let tried = same-count _ _ _ _ _ _ (a .pairs) _ _ _ _ (row .1) (r .ensures .0, r .ensures .1 .0) in
+    let tried = same-pairs _ _ _ _ _ _ (λ j. pairsFrom (a .sets .now) (a .n) j b) _ (a .pairs) b _ _ _ (row .1) (r .ensures .0, r .ensures .1 .0) in
     let count = sym (c .before .m .given .1) ∙ tried .0 in (
       kept .0 ∙ l .inv .0,
       same-len-mid at (at + a .pairs - at) (l .moves) new (kept .1 .1 .0) ∙ l .inv .1,
-      turn-next t here (a .pairs) refl _ at (at + a .pairs - at) _ new small refl (omega arith) (omega (arith, row .0)) count (tried .1),
+      turn-next t here some refl _ at (at + a .pairs - at) _ new
+          (λ x. le-trans (pairs-le (a .sets .now) (a .n) (a .pairs) x) small) (omega (arith, pairs-le (a .sets .now) (a .n) (a .pairs) b))
+          (omega (arith, small)) refl (omega (arith, row .0)) count (tried .1),
       kept .1 .0 ∙ l .inv .3,
       distinct-next (a .n) beliefLimit _ _ _ _ _ _ _ _ (l .inv .4) count (tried .1),
       marked-more (a .sets .now) (a .n) (l .mem) _ (l .k) (l .i) (l .finals) _ (l .inv .5) here (t .few)
-          (belief-stays (a .successors .now) (a .n) (a .pairs) (a .hiddens) (l .mem) (l .k) _ _ _ _ count (tried .1)) (r .ensures .1 .1),
+          (belief-stays (a .successors .now) (a .n) (a .pairs) (a .hiddens) some (l .mem) (l .k) b _ part _ _ count (tried .1)) (r .ensures .1 .1),
     )
 
 same-length-3 : tie.Need-same-length-3 Inv-loop μ-loop

@@ -3,12 +3,11 @@
 -- Assumes nothing.
 use Prim.Native.Nat.{_-_}
 use native.Mathlib.Omega.{arith}
-use mathlib.Core.Path.{sym, ap, _∙_}
+use mathlib.Core.Path.{refl, sym, ap, _∙_}
 use mathlib.Core.Logic.{⊎-elim}
 use lib.ListN.{length}
 use borrow.Author.Needs.{needs}
-use Rattle.search.proofs.StepsFromItem.{adding-all}
-use Rattle.beliefs.proofs.counting.PairLoop.{place-small, Kept, kept-none, put-asked, kept-copy, kept-old, kept-new, kept-over}
+use Rattle.beliefs.proofs.counting.PairLoop.{place-small, Kept, kept-none, put-asked, kept-copy, kept-old, kept-new, kept-over, kept-all}
 use Rattle.beliefs.proofs.counting.expand_belief.Statement.{statement}
 use Rattle.beliefs.proofs.counting.expand_belief.Tie as tie
 
@@ -72,7 +71,7 @@ returns c =
     let put-belief = c .before .before .before .before .before .put-belief in
     kept-over _ _ _ _ _ _ _ _ _ _ _ _ (l .mem) (l .hints) (l .row) (l .inv) (test .taken) _ _ (put-belief .ensures .1) (put-belief .ensures .0)
     (c .if2 .taken)
-    _ _
+    _ _ _ refl
 
 add-m : tie.Need-add-m Inv-loop μ-loop
 add-m c = search needs
@@ -118,7 +117,9 @@ same-length-6 : tie.Need-same-length-6 Inv-loop μ-loop
 same-length-6 c = search needs
 
 returns-2 : tie.Need-returns-2 Inv-loop μ-loop
-returns-2 c = adding-all _ _ _ _ _ _ (c .before .loop .inv .0) (c .loop-test .left)
+returns-2 c =
+    let l = c .before .loop in
+    kept-all _ _ _ _ _ _ _ _ _ _ _ _ (l .mem) (l .hints) (l .row) (l .inv) (c .loop-test .left) _ refl
 
 pub expand-belief-spec : {M : Type 1} → statement M
 expand-belief-spec =

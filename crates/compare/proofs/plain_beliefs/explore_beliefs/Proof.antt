@@ -6,10 +6,10 @@ use Rattle.compare.proofs.plain_beliefs.explore_beliefs.Statement.{stat
 use Rattle.compare.proofs.plain_beliefs.explore_beliefs.Tie as tie
 
 abbrev Inv-loop : tie.InvT-loop
-Inv-loop successors w beliefs₀ moves₀ n₀ i₀ beliefs moves n i = (i ≤ n) × (n ≤ beliefLimit)
+Inv-loop states successors w beliefs₀ moves₀ n₀ i₀ beliefs moves n i = (i ≤ n) × (n ≤ beliefLimit)
 
 abbrev μ-loop : tie.MeasureT-loop
-μ-loop successors w beliefs₀ moves₀ n₀ i₀ beliefs moves n i = beliefLimit - i
+μ-loop states successors w beliefs₀ moves₀ n₀ i₀ beliefs moves n i = beliefLimit - i
 
 index-1-beliefs : tie.Need-index-1-beliefs Inv-loop μ-loop
 index-1-beliefs c = search needs

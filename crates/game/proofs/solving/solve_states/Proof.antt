@@ -58,7 +58,7 @@ answer-requires c κs =
     let a = s .args in
     let p = s .pre in
     let count = sym (k .given .1) ∙ found .ensures .0 in (
-      counted-positions (a .successors .now) (a .n) (a .choices) (a .observations) (a .hiddens) (p .1 .1 .1 .1 .0) (k .given .0 .0) count
+      counted-positions (a .sets .now) (a .successors .now) (a .n) (a .choices) (a .observations) (a .hiddens) (p .1 .1 .1 .1 .0) (k .given .0 .0) count
           (found .last .1 .1 .1 .1 .1 .0) (found .last .1 .1 .1 .1 .1 .1 .0) (found .ensures .1 .0) (found .kept .1 .1 .1 .1 .1 .0)
           (found .kept .1 .1 .1 .1 .1 .1 .0),
       p .1 .1 .1 .1 .1 .1,

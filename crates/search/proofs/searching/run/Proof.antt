@@ -17,14 +17,14 @@ use Rattle.basics.proofs.ListsLaws.{zeros-length}
 use Rattle.search.proofs.PatternSetLaws.{length-start}
 use Rattle.search.proofs.ReachableSetsLaws.{sets-reachable}
 use Rattle.search.proofs.LimitsLaws.{set-packing}
-use Rattle.search.proofs.SearchTurns.{turn-begin, turn-many, turn-next, turn-answer, turn-left, Turn, turn-row}
+use Rattle.search.proofs.SearchTurns.{turn-begin, turn-many, turn-whole, turn-answer, turn-left, Turn, turn-row}
 use Rattle.search.proofs.searching.run.Statement.{statement}
 use Rattle.search.proofs.searching.run.Tie as tie
 
 abbrev Inv-loop : tie.InvT-loop
 Inv-loop maps firsts d count mem₀ successors₀ n₀ i₀ mem successors n i =
     (length mem ≡ (stateLimit + 1) * setSize) × (length successors ≡ stateLimit * letterLimit)
-    × Turn setSize (2 ^ suc d) setBytes (next d (mapIn maps firsts d)) (start d) stateLimit letterLimit count
+    × Turn setSize (2 ^ suc d) setBytes (next d (mapIn maps firsts d)) (start d) stateLimit letterLimit (λ s. count)
     (reachableSets d (mapIn maps firsts d) (below count) stateLimit) mem successors n i
 
 abbrev μ-loop : tie.MeasureT-loop
@@ -84,7 +84,7 @@ expand-requires c κs =
     let l = c .before .before .before .loop in
     let t = l .inv .2 in
     let here = c .before .before .loop-test .taken in
-    let size = turn-row t here (p .1 .1 .0) (l .inv .1) .1 in
+    let size = turn-row t here (a .count) (p .1 .1 .0) (l .inv .1) .1 in
     let maps = subst (λ k. Maps (a .d) k (a .maps .now) (a .firsts .now)) (sym size) (p .1 .1 .1 .0) in
     (s .pre .0, (p .0, (p .1 .0, (omega (arith, size, p .1 .1 .0), (maps, (here, (t .few, (l .inv .0, t .holds))))))))
 
@@ -115,7 +115,7 @@ returns c =
     let a = s .args in
     let t = l .inv .2 in
     let here = r .before .before .before .loop-test .taken in
-    let row = turn-row t here (s .pre .1 .1 .1 .0) (l .inv .1) in
+    let row = turn-row t here (a .count) (s .pre .1 .1 .1 .0) (l .inv .1) in
     turn-many t here _ (row .1) _ _ (sym (c .enum-told .given .1) ∙ r .expand .ensures .0)
 
 add-i : tie.Need-add-i Inv-loop μ-loop
@@ -133,14 +133,14 @@ loop-again c =
     let t = l .inv .2 in
     let here = r .before .before .before .loop-test .taken in
     let small = s .pre .1 .1 .1 .0 in
-    let row = turn-row t here small (l .inv .1) in
+    let row = turn-row t here (a .count) small (l .inv .1) in
     let at = l .i * letterLimit in
     let new = r .expand .last .1 .1 .1 .1 .1 .1 .0 in
     let kept = r .expand .kept .1 .1 .1 .1 .1 in (
       kept .0 ∙ l .inv .0,
       same-len-mid at (at + a .count - at) (l .successors) new (kept .1 .0) ∙ l .inv .1,
-      turn-next t here _ (row .1) _ at (at + a .count - at) _ new
-          small refl (omega arith) (omega (arith, row .0)) (sym (c .before .m .given .1) ∙ r .expand .ensures .0) (r .expand .ensures .1),
+      turn-whole t here _ (row .1) _ at (at + a .count - at) _ new (λ x. small) (omega (arith, row .1)) refl (omega (arith, row .0))
+          (sym (c .before .m .given .1) ∙ r .expand .ensures .0) (r .expand .ensures .1),
     )
 
 same-length-3 : tie.Need-same-length-3 Inv-loop μ-loop
@@ -159,7 +159,7 @@ returns-2 c =
     let t = l .inv .2 in
     let all = c .loop-test .left in (
       turn-answer t all,
-      turn-left t all (set-packing (a .d) (s .pre .0)) (omega arith) (s .pre .1 .1 .1 .0)
+      turn-left t all (set-packing (a .d) (s .pre .0)) (omega arith) (λ x. s .pre .1 .1 .1 .0)
           (omega (arith, t .few, l .inv .0)) (omega (arith, t .few, l .inv .1)),
     )
 

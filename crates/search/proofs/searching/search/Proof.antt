@@ -90,9 +90,9 @@ returns c =
     let clear = c .before .before .clear in (
       q,
       (
-        end-items setSize setBytes (next (a .d) back) letters letterLimit all mem rows ran (n .0 .0) _ _ (clear .last .0) q room refl
+        end-items setSize setBytes (next (a .d) back) (λ x. letters) letterLimit all mem rows ran (n .0 .0) _ _ (clear .last .0) q room refl
             (clear .ensures) (sym (kept .0)),
-        end-rows setSize setBytes (next (a .d) back) letters letterLimit all mem rows ran (n .0 .0) _ q (sym (kept .1 .0)),
+        end-rows setSize setBytes (next (a .d) back) (λ x. letters) letterLimit all mem rows ran (n .0 .0) _ q (sym (kept .1 .0)),
       ),
     )
 
@@ -117,8 +117,8 @@ returns-2 c =
     let two = c .before .before .clear3 in (
       q,
       (
-        end-many setBytes (next (a .d) back) letters letterLimit all q _ _ (one .last .0) (one .ensures) (kept .0) .0,
-        end-many setBytes (next (a .d) back) letters letterLimit all q _ _ (two .last .0) (two .ensures) (kept .1 .0) .1,
+        end-many setBytes (next (a .d) back) (λ x. letters) letterLimit all q _ _ (one .last .0) (one .ensures) (kept .0) .0,
+        end-many setBytes (next (a .d) back) (λ x. letters) letterLimit all q _ _ (two .last .0) (two .ensures) (kept .1 .0) .1,
       ),
     )
 

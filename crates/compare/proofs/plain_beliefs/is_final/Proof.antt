@@ -1,9 +1,9 @@
--- `compare::plain_ranks::is_final` is safe and ends. Assumes nothing.
+-- `compare::plain_beliefs::is_final` is safe and ends. Assumes nothing.
 use Prim.Native.Nat.{_-_, _≤_}
 use borrow.Author.Needs.{needs}
 use Rattle.search.specs.Limits.{stateLimit}
-use Rattle.compare.proofs.plain_ranks.is_final.Statement.{statement}
-use Rattle.compare.proofs.plain_ranks.is_final.Tie as tie
+use Rattle.compare.proofs.plain_beliefs.is_final.Statement.{statement}
+use Rattle.compare.proofs.plain_beliefs.is_final.Tie as tie
 
 abbrev Inv-loop : tie.InvT-loop
 Inv-loop states belief s₀ s = s ≤ stateLimit
