@@ -14,7 +14,6 @@ use Rattle.basics.specs.Reach.{Listing, closed, over, Reached, reached-first, r
 use Rattle.basics.specs.declared.order.Order.{Order}
 use Rattle.basics.proofs.Booleans.{test, clash}
 use Rattle.basics.proofs.BoundedLaws.{first-passes, first-least}
-use Rattle.basics.proofs.MemberLaws.{distinct-length-le}
 use Rattle.basics.proofs.ReachLaws.{closed-lists, over-iff, closed-not-over}
 use Rattle.play.specs.Limits.{sideLimit}
 use Rattle.play.specs.Cells.{stopCell}
@@ -109,19 +108,13 @@ module _ (A : Arena) (same : A .K → A .K → Bool) (says : (a b : A .K) → Sa
       reached-step r (all-moves-iff A same choices observations k j .1 (moves-iff A same choices observations k j .0 m .1)))
 
   -- what was within the limit is
-  pub counted-too : (limit : ℕ) (all : List (A .K)) → earlierPositions A same choices observations limit ≡ closed all
-      → (few : List (A .K)) × (positions A same choices observations limit ≡ closed few) × (length few ≤ length all)
+  counted-too : (limit : ℕ) (all : List (A .K)) → earlierPositions A same choices observations limit ≡ closed all
+      → (few : List (A .K)) × (positions A same choices observations limit ≡ closed few)
   counted-too limit all e = at (positions A same choices observations limit) refl
     where
       at : (l : Listing (A .K)) → positions A same choices observations limit ≡ l
-          → (few : List (A .K)) × (positions A same choices observations limit ≡ closed few) × (length few ≤ length all)
-      at (closed few) q =
-          let listed = closed-lists same says now (A .start) limit few q .0 in (
-            few,
-            q,
-            distinct-length-le (listed .distinct) all (λ x m.
-                closed-lists same says before (A .start) limit all e .0 .exact x .1 (reached-before x (listed .exact x .0 m))),
-          )
+          → (few : List (A .K)) × (positions A same choices observations limit ≡ closed few)
+      at (closed few) q = (few, q)
       at over q =
           let many = over-iff same says now (A .start) limit .0 q in
           absurd (closed-not-over all (sym e ∙ over-iff same says before (A .start) limit .1
@@ -133,7 +126,7 @@ module _ (A : Arena) (same : A .K → A .K → Bool) (says : (a b : A .K) → Sa
       → (few : List (A .K)) × (positions A same choices observations limit ≡ closed few)
       × (verdictOf o A same choices observations (length few) ≡ verdictOf o A same choices observations (length all))
   answer-kept o some-observation few-choices few-observations limit all e =
-      let (few, q, le) = counted-too limit all e in
+      let (few, q) = counted-too limit all e in
       let exact = closed-lists same says before (A .start) limit all e .0 .exact in (
         few,
         q,
