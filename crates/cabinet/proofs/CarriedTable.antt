@@ -9,16 +9,14 @@ use mathlib.Core.List.{List, [], _∷_}
 use lib.Dec.{ltb}
 use lib.ListN.{length, take}
 use borrow.Author.Tests.{le-ltb, ltb-false}
-use Rattle.basics.specs.declared.order.Order.{Order}
-use Rattle.basics.specs.declared.order.Order.the-variants.{Set, Read}
 use Rattle.basics.proofs.Booleans.{test}
 use Rattle.basics.proofs.BoundedLaws.{all-fails}
 use Rattle.basics.proofs.ListsLaws.{front-in, front-taken}
 use Rattle.lines.proofs.RefusalLaws.{told-apart}
-use Rattle.lines.specs.Refusal.{Told}
+use Rattle.lines.specs.Refusal.{values}
 use Rattle.rules.specs.Denotes.{Denotes}
 use Rattle.rules.specs.Problem.{Problem}
-use Rattle.play.specs.Cells.{rowSize, tableSize, isStop, nextCell}
+use Rattle.play.specs.Cells.{rowSize, tableSize, isStop, rankCell}
 use Rattle.play.proofs.CellsLaws.{stop-taken}
 use Rattle.play.specs.Game.{Play}
 use Rattle.play.specs.Table.{tableStrategy}
@@ -32,27 +30,18 @@ use Rattle.loader.proofs.LoadedIffDue.{accepted-iff as print-iff, loaded-iff}
 use Rattle.loader.proofs.SameRows.{behind-rows, table-of-print}
 use Rattle.printer.specs.Limits.{textSize}
 use Rattle.printer.specs.Text.{tableText}
-use Rattle.printer.specs.WellFormed.{Printable, isPrintable}
-use Rattle.printer.proofs.WellFormedLaws.{printable-says}
+use Rattle.wellformed.specs.WellFormed.{Printable, isPrintable}
+use Rattle.wellformed.proofs.TestsSay.{printable-says, printable-row}
 use Rattle.stepping.specs.declared.position.Position.{Position}
 use Rattle.cabinet.specs.declared.printing.Printed.the-variants.{Text}
 use Rattle.stepping.specs.declared.position.Moved.{Moved}
-use Rattle.stepping.specs.Position.{startOf, stepOf, toldAnswer, Standing, startChoice, stepChoice, started}
-use Rattle.stepping.specs.Position.{Held, Holds, SteppedAs, bad-place, stopped, bad-observation, moved}
+use Rattle.stepping.specs.Position.{startOf, stepOf, toldAnswer, Standing, Held, Holds}
+use Rattle.stepping.specs.Stopping.{AllPossible, StopsWithin}
 use Rattle.cabinet.specs.Print.{printedBy, bytesBy, toldPrinted, IsPrinted}
 use Rattle.cabinet.specs.Running.{stepAll, answerTo, Runs}
-use Rattle.stepping.proofs.AnswersDue.{start-iff, step-due}
+use Rattle.stepping.proofs.StopsInTime.{start-holds, step-holds, stops-from as any-stops-from, stops-started}
 use Rattle.cabinet.proofs.RunningLaws.{row-goes}
 use Rattle.cabinet.proofs.SolvedTable.{some, running, can-print, solves}
-
--- the standing choice is the row's after a start, and after a step
-start-held : (o : Order) (t : List ℕ) → Held o t (record { row = 0; choice = startChoice o t })
-start-held Set t = refl
-start-held Read t = tt
-
-step-held : (o : Order) (t : List ℕ) (row s : ℕ) → Held o t (record { row = nextCell o t row s; choice = stepChoice o t row s })
-step-held Set t row s = refl
-step-held Read t row s = tt
 
 -- a table that is not refused is printed as its text
 printed-so : (s t : List ℕ) (shape : Shape) (worst room : ℕ) → textSize ≤ room → Printable t shape worst → tableText t shape worst ≡ s
@@ -97,35 +86,35 @@ module _ (s t : List ℕ) (shape : Shape) (worst : ℕ) (e : loadedBy (length t)
 
   -- a cabinet may stand on every row of it ..
   standing : (row : ℕ) → row < shape .rows → Standing (tableAfter s t) shape row
-  standing row h = record { sized = printable .0 .sized; inside = h; good = printable .0 .each row h .good }
+  standing row h =
+      record { sized = printable .0 .shaped .sized; inside = h; good = printable-row (tableAfter s t) shape worst (printable .0) row h }
+
+  some-row : 0 < shape .rows
+  some-row = printable .0 .shaped .sized .some
 
   -- .. so it stands on a row after every step
-  holds-on : (observation : ℕ) (p : Position) → Holds (tableAfter s t) shape p
-      → (a : Told) (q : Position) → SteppedAs (tableAfter s t) shape observation p a q → Holds (tableAfter s t) shape q
-  holds-on observation p h a q (bad-place n) = h
-  holds-on observation p h a q (stopped k e) = h
-  holds-on observation p h a q (bad-observation k n o) = h
-  holds-on observation p h a q (moved k n o) = (
-    standing (nextCell (shape .order) (tableAfter s t) (p .row) observation) (h .0 .good .goes n observation o .next),
-    step-held (shape .order) (tableAfter s t) (p .row) observation,
-  )
-
   steps-hold : (h : List ℕ) (m : Moved) → Holds (tableAfter s t) shape (m .position) → Holds (tableAfter s t) shape (stepAll (tableAfter s t) shape m h .position)
   steps-hold [] m k = k
   steps-hold (o ∷ h) m k =
-      let next = stepOf (tableAfter s t) shape o (m .position) in
-      steps-hold h next (holds-on o (m .position) k (toldAnswer (next .answer)) (next .position) (step-due (tableAfter s t) shape o (m .position)))
-
-  start-holds : (old : Position) → Holds (tableAfter s t) shape (startOf (tableAfter s t) shape old .position)
-  start-holds old =
-      let at-0 = standing 0 (printable .0 .sized .some) in
-      subst (Holds (tableAfter s t) shape)
-      (sym (start-iff (tableAfter s t) shape old _ _ .1 (started at-0) .1))
-      (at-0, start-held (shape .order) (tableAfter s t))
+      steps-hold h (stepOf (tableAfter s t) shape o (m .position)) (step-holds (tableAfter s t) shape standing o (m .position) k)
 
   pub loaded-holds : (old : Position) (h : List ℕ)
       → Holds (tableAfter s t) shape (stepAll (tableAfter s t) shape (startOf (tableAfter s t) shape old) h .position)
-  loaded-holds old h = steps-hold h (startOf (tableAfter s t) shape old) (start-holds old)
+  loaded-holds old h = steps-hold h (startOf (tableAfter s t) shape old) (start-holds (tableAfter s t) shape standing some-row old)
+
+  -- and it stops within the number shown
+  module _ (observation : ℕ → ℕ) (possible : AllPossible shape observation) where
+    pub stops-from : (p : Position) → p .row < shape .rows → Held (shape .order) (tableAfter s t) p
+        → StopsWithin (tableAfter s t) shape observation p (rankCell (shape .order) (tableAfter s t) (p .row))
+    stops-from p h k = any-stops-from (tableAfter s t) shape standing observation possible p (standing (p .row) h, k)
+
+    pub loaded-stops : (old : Position)
+        → (c : ℕ) × (toldAnswer (startOf (tableAfter s t) shape old .answer) ≡ values (c ∷ []))
+        × StopsWithin (tableAfter s t) shape observation (startOf (tableAfter s t) shape old .position) worst
+    loaded-stops old =
+        subst (λ (r : ℕ). (c : ℕ) × (toldAnswer (startOf (tableAfter s t) shape old .answer) ≡ values (c ∷ []))
+        × StopsWithin (tableAfter s t) shape observation (startOf (tableAfter s t) shape old .position) r)
+        (printable .0 .first) (stops-started (tableAfter s t) shape standing some-row observation possible old)
 
 -- ---- loading what was printed
 

@@ -8,7 +8,7 @@ use lib.ListN.{length, take, drop, replicate}
 use Rattle.lines.specs.Refusal.{Told, values, refused}
 use Rattle.rules.specs.Denotes.{Denotes}
 use Rattle.rules.specs.Problem.{Problem}
-use Rattle.play.specs.Cells.{rowSize, tableSize}
+use Rattle.play.specs.Cells.{rowSize, tableSize, rankCell}
 use Rattle.tables.specs.declared.shape.Shape.{Shape}
 use Rattle.play.specs.Game.{Play, Strategy}
 use Rattle.play.specs.Table.{tableStrategy}
@@ -21,12 +21,14 @@ use Rattle.stepping.specs.declared.position.Position.{Position}
 use Rattle.cabinet.specs.declared.printing.Printed.the-variants.{Text}
 use Rattle.printer.specs.Limits.{textSize}
 use Rattle.printer.specs.Text.{tableText}
-use Rattle.stepping.specs.Position.{startOf, stepOf, isStopped, toldAnswer, StartedAs, Holds, SteppedAs}
+use Rattle.stepping.specs.Position.{startOf, stepOf, isStopped, leftOf, toldAnswer, toldLeft, StartedAs, Held, Holds, SteppedAs, LeftAs}
+use Rattle.stepping.specs.Stopping.{AllPossible, StopsWithin}
 use Rattle.cabinet.specs.Print.{printedBy, bytesBy, textAfter, toldPrinted, IsPrinted, PrintedAs}
 use Rattle.cabinet.specs.Response.{respondedBy, bytesFor, responseAfter, respondedTable, respondedWork, RespondedAs}
 use Rattle.cabinet.specs.Running.{stepAll, answerTo, Runs}
 use Rattle.cabinet.proofs.ResponseLaws
 use Rattle.stepping.proofs.AnswersDue
+use Rattle.stepping.proofs.StopsInTime
 use Rattle.cabinet.proofs.PrintedIffDue
 use Rattle.cabinet.proofs.SolvedTable
 use Rattle.cabinet.proofs.CarriedTable
@@ -83,6 +85,10 @@ pub stepping : (t : List ℕ) (shape : Shape) (observation : ℕ) (old : Positio
     ↔ SteppedAs t shape observation old a p
 stepping = AnswersDue.step-iff
 
+-- the steps left: 13, or the rank of the row
+pub steps-left : (t : List ℕ) (shape : Shape) (p : Position) (a : Told) → (toldLeft (leftOf t shape p) ≡ a) ↔ LeftAs t shape p a
+steps-left = AnswersDue.left-iff
+
 -- the position is told to be stopped exactly where a step is refused with 14, whatever the observation
 pub stopped : (t : List ℕ) (shape : Shape) (observation : ℕ) (p : Position)
     → (isStopped t shape p ≡ true) ↔ (toldAnswer (stepOf t shape observation p .answer) ≡ refused 14 0)
@@ -111,6 +117,28 @@ pub load-printed : (t : List ℕ) (shape : Shape) (worst room n : ℕ) → print
     → (loadedBy cells (bytesBy t shape worst room) ≡ Table (toldShape t shape) worst)
     × (cellsBy cells (bytesBy t shape worst room) ≡ take (shape .rows * rowSize (shape .order)) t)
 load-printed = CarriedTable.load-printed
+
+-- ---- a table stops within the number shown, solved or not, under either order
+
+-- a step that is answered leads to a lower rank, whatever the table
+pub step-lowers : (t : List ℕ) (shape : Shape) (observation c : ℕ) (p : Position)
+    → toldAnswer (stepOf t shape observation p .answer) ≡ values (c ∷ [])
+    → rankCell (shape .order) t (stepOf t shape observation p .position .row) < rankCell (shape .order) t (p .row)
+step-lowers = StopsInTime.step-lowers
+
+-- any table that is loaded, stepped with any possible observations
+module _ (s t : List ℕ) (shape : Shape) (worst : ℕ) (loads : loadedBy (length t) s ≡ Table shape worst)
+    (observation : ℕ → ℕ) (possible : AllPossible shape observation) where
+  -- started at any old position it is answered; it is refused nothing before it stops, and stops within the worst case that the text tells
+  pub loaded-stops : (old : Position)
+      → (c : ℕ) × (toldAnswer (startOf (loadedTable s t) shape old .answer) ≡ values (c ∷ []))
+      × StopsWithin (loadedTable s t) shape observation (startOf (loadedTable s t) shape old .position) worst
+  loaded-stops = CarriedTable.loaded-stops s t shape worst loads observation possible
+
+  -- so it does from each row, within the row's rank
+  pub stops-from : (p : Position) → p .row < shape .rows → Held (shape .order) (loadedTable s t) p
+      → StopsWithin (loadedTable s t) shape observation p (rankCell (shape .order) (loadedTable s t) (p .row))
+  stops-from = CarriedTable.stops-from s t shape worst loads observation possible
 
 -- ---- DEMAND 3 carried to the desk
 

@@ -15,11 +15,11 @@ use Rattle.basics.specs.Lists.{written}
 use Rattle.cabinet.specs.declared.printing.Printed.{Printed}
 use Rattle.cabinet.specs.declared.printing.Printed.the-variants.{Text, Refused}
 use Rattle.printer.specs.Limits.{textSize}
-use Rattle.printer.specs.WellFormed.{isPrintable}
+use Rattle.wellformed.specs.WellFormed.{isPrintable}
 use Rattle.printer.specs.Text.{tableText}
 use Rattle.cabinet.specs.Print.{printedBy, bytesBy, textAfter, toldPrinted, usedText, PrintedAs}
 use Rattle.cabinet.proofs.PrintedIffDue.{print-told}
-use Rattle.printer.proofs.WellFormedLaws.{printable-says}
+use Rattle.wellformed.proofs.TestsSay.{printable-says}
 use Rattle.printer.proofs.TextLaws.{text-fits}
 
 module _ (t : List ℕ) (shape : Shape) (worst : ℕ) (text : List ℕ) where
@@ -51,8 +51,8 @@ module _ (t : List ℕ) (shape : Shape) (worst : ℕ) (text : List ℕ) where
       -- what the writing of the table asks
       pub print-asks : (shape .observed ≤ kindLimit) × ((shape .rows * rowSize (shape .order) ≤ length t) × (length (tableText t shape worst) ≤ length text))
       print-asks =
-          let s = printable-says t shape worst .0 passes .sized in
-          (s .seen, (s .room, le-trans (text-fits t shape worst passes) h))
+          let p = printable-says t shape worst .0 passes .shaped in
+          (p .sized .seen, (p .sized .room, le-trans (text-fits t shape worst p) h))
 
       pub print-done : (n : ℕ) (after : List ℕ) → n ≡ length (tableText t shape worst) → after ≡ written (tableText t shape worst) text
           → Prints (Text n) after

@@ -15,10 +15,10 @@ use Rattle.basics.proofs.ListsLaws.{written-rest}
 use Rattle.lines.specs.Refusal.{Told, values, refused}
 use Rattle.tables.specs.declared.shape.Shape.{Shape}
 use Rattle.printer.specs.Limits.{textSize}
-use Rattle.printer.specs.WellFormed.{isPrintable}
+use Rattle.wellformed.specs.WellFormed.{isPrintable}
 use Rattle.printer.specs.Text.{tableText}
 use Rattle.cabinet.specs.declared.printing.Printed.{Printed}
-use Rattle.printer.proofs.WellFormedLaws.{printable-says}
+use Rattle.wellformed.proofs.TestsSay.{printable-says}
 use Rattle.cabinet.specs.Print.{printedBy, bytesBy, textAfter, toldPrinted, usedText, PrintedAs, short-memory, bad-table, text}
 
 -- bytes that are an answer's own

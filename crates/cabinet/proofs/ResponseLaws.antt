@@ -34,13 +34,13 @@ use Rattle.game.proofs.SolvedAsCases.{due-table}
 use Rattle.cabinet.specs.declared.printing.Printed.{Printed}
 use Rattle.cabinet.specs.declared.printing.Printed.the-variants.{Text, Refused}
 use Rattle.printer.specs.Limits.{textSize}
-use Rattle.printer.specs.WellFormed.{isPrintable}
+use Rattle.wellformed.specs.WellFormed.{isPrintable}
 use Rattle.printer.specs.Text.{tableText, refusalText}
 use Rattle.cabinet.specs.Print.{printedBy, bytesBy, textAfter, toldPrinted, usedText}
 use Rattle.cabinet.specs.Response.{solvedText, response, isTight, respondedBy, bytesFor, responseAfter, respondedTable}
 use Rattle.cabinet.specs.Response.{respondedWork, RespondedAs, short-memory, answered}
 use Rattle.cabinet.proofs.PrintedIffDue.{OwnBytes}
-use Rattle.printer.proofs.WellFormedLaws.{printable-says}
+use Rattle.wellformed.proofs.TestsSay.{printable-says}
 use Rattle.cabinet.proofs.SolvedTable.{can-print}
 
 -- the whole call: its answer, and what it leaves in text, table and work memory

@@ -21,7 +21,7 @@ use Rattle.play.specs.Game.{Game, Play, seen, Answer as StrategyAnswer, chosen,
 use Rattle.play.specs.Rank.{answerOf}
 use Rattle.play.specs.Table.{readFrom, tableStrategy, Laid}
 use Rattle.play.proofs.Plans.{rest}
-use Rattle.printer.proofs.WellFormedLaws.{side-le}
+use Rattle.wellformed.proofs.WellFormedLaws.{side-le}
 use Rattle.stepping.specs.declared.position.Position.{Position}
 use Rattle.stepping.specs.declared.position.Answer.{Answer}
 use Rattle.stepping.specs.declared.position.Answer.the-variants.{Choice, Refused}
@@ -155,7 +155,7 @@ module _ (G : Game) (shape : Shape) (t : List ℕ) (few-choices : G .choices ≤
       let (c, q) = g 0 (suc-le-suc zero-le) in
       let f = row-goes o T i c q .0 in
       let goes = sym (stop-taken o n t i h) ∙ f in
-      let next = stands i h .good .goes (eqb-false (firstCell o t i) stopCell goes) s (seen-below play 0) .next in
+      let next = stands i h .good .formed .goes s (eqb-false (firstCell o t i) stopCell goes, seen-below play 0) .next in
       let on : (k : List ℕ) → readFrom o T i (s ∷ k) ≡ readFrom o T (nextCell o t i s) k = λ k.
       row-next o T i f s k ∙ ap (λ (row : ℕ). readFrom o T row k) (next-taken o n t i h s (few-seen play 0)) in
       let there = subst (At o t (nextCell o t i s)) (sym (goes-on i h d a goes s (seen-below play 0))) (at-next t o i s) in

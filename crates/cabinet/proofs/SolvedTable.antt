@@ -25,11 +25,12 @@ use Rattle.game.proofs.SolvedAsCases.{due-table}
 use Rattle.stepping.specs.declared.position.Position.{Position}
 use Rattle.cabinet.specs.declared.printing.Printed.the-variants.{Text}
 use Rattle.printer.specs.Limits.{textSize}
-use Rattle.printer.specs.WellFormed.{Printable}
+use Rattle.wellformed.specs.WellFormed.{Printable}
 use Rattle.printer.specs.Text.{tableText}
 use Rattle.cabinet.specs.Print.{printedBy, bytesBy}
 use Rattle.cabinet.specs.Running.{answerTo, Runs}
-use Rattle.printer.proofs.WellFormedLaws.{side-le, printable-says}
+use Rattle.wellformed.proofs.WellFormedLaws.{side-le}
+use Rattle.wellformed.proofs.TestsSay.{printable-says}
 use Rattle.cabinet.proofs.LaidRows.{printable}
 use Rattle.cabinet.proofs.RunningLaws.{runs}
 
@@ -77,7 +78,7 @@ module _ (work room : ℕ) (source : List ℕ) (shape : Shape) (r : ℕ) (table 
   pub can-print : Printable table shape r
   can-print =
       printable (gameOf p .choices) shape table few-choices few-observed some (solves .within)
-      (subst (λ (k : ℕ). Laid (shape .order) (gameOf p .choices) k (shape .rows) used) declared (solves .laid)) r (solves .below)
+      (subst (λ (k : ℕ). Laid (shape .order) (gameOf p .choices) k (shape .rows) used) declared (solves .laid)) r (solves .first)
 
   pub printed : (text : ℕ) → textSize ≤ text
       → (printedBy table shape r text ≡ Text (length (tableText table shape r))) × (bytesBy table shape r text ≡ tableText table shape r)

@@ -13,7 +13,7 @@ use Rattle.tables.specs.declared.shape.Shape.{Shape}
 use Rattle.cabinet.specs.declared.printing.Printed.{Printed}
 use Rattle.cabinet.specs.declared.printing.Printed.the-variants.{Text, Refused}
 use Rattle.printer.specs.Limits.{textSize}
-use Rattle.printer.specs.WellFormed.{Printable, isPrintable}
+use Rattle.wellformed.specs.WellFormed.{Printable, isPrintable}
 use Rattle.printer.specs.Text.{tableText}
 
 -- the text's length; 12 is tested before 13

@@ -4,9 +4,9 @@ ghost use lib.ListN.{length};
 ghost use Rattle.cabinet.specs.Print.{printedBy, textAfter, toldPrinted, usedText, PrintedAs};
 use lines::Refusal;
 use printer::TEXT_SIZE;
-use printer::is_printable;
 use printer::put_table;
 use tables::Shape;
+use wellformed::is_printable;
 
 // The length of the text, or one refusal.
 pub enum Printed {

@@ -1,10 +1,12 @@
 // What a call answers, written as fields behind the case's name.
 use basics::Order;
 use cabinet::Answer;
+use cabinet::Left;
 use cabinet::Loaded;
 use cabinet::Moved;
 use cabinet::Printed;
 use cabinet::is_stopped;
+use cabinet::steps_left;
 use game::Shape;
 use game::Solved;
 use lines::order_of;
@@ -120,7 +122,14 @@ fn choice(a: Answer) {
     }
 }
 
-// The answer and the position behind it, and whether the cabinet stands on a stop row there.
+fn left(l: Left) {
+    match l {
+        Left::Steps(n) => tell(b"\tleft\t", n as usize),
+        Left::Refused(r) => refused(r),
+    }
+}
+
+// The answer and the position behind it, whether the cabinet stands on a stop row there, and how many steps are left.
 pub(crate) fn moved(table: &[u16], shape: Shape, m: Moved) {
     let answer = m.answer;
     choice(answer);
@@ -130,4 +139,5 @@ pub(crate) fn moved(table: &[u16], shape: Shape, m: Moved) {
     if is_stopped(table, shape, position) {
         say(b"\tstopped");
     }
+    left(steps_left(table, shape, position));
 }

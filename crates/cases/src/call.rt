@@ -6,6 +6,7 @@ use crate::answer::verdict;
 use crate::answer::wrong;
 use crate::cards::card;
 use crate::cards::fill;
+use crate::cards::ladder;
 use crate::cards::load;
 use crate::cards::prefixes;
 use crate::line::argument;
@@ -71,16 +72,16 @@ fn is_call(name: &[u8], k: usize) -> bool {
     same(
         name,
         field(
-            b"judge\tsolve\tprint\tstart\tstep\tlist\tjudge-list\tload\tprefixes\tcard\tfill",
+            b"judge\tsolve\tprint\tstart\tstep\tlist\tjudge-list\tload\tprefixes\tcard\tfill\tladder",
             k,
         ),
     )
 }
 
-// The number of a call by its name, from 0; 11 for an unknown one.
+// The number of a call by its name, from 0; 12 for an unknown one.
 fn call_number(name: &[u8]) -> usize {
     let mut k = 0;
-    while k < 11 && !is_call(name, k) {
+    while k < 12 && !is_call(name, k) {
         k += 1;
     }
     k
@@ -100,6 +101,7 @@ fn call_in(line: &[u8], text: &[u8], cells: &[u16], memory: &mut [u8]) {
         8 => prefixes(text, cells),
         9 => card(text, memory),
         10 => fill(line, cells),
+        11 => ladder(line, cells),
         _ => wrong(),
     }
 }

@@ -1,5 +1,5 @@
 // Tables and their texts: what is loaded is printed again, and what is printed is loaded again.
-ghost use Prim.Native.Nat.{_<_};
+ghost use Prim.Native.Nat.{_<_, _≤_};
 use crate::answer::fault;
 use crate::answer::loaded;
 use crate::answer::printed;
@@ -18,6 +18,8 @@ use game::Solved;
 use game::TABLE_SIZE;
 use streams::first;
 use tables::SIDE_LIMIT;
+use tables::STOP;
+use tables::rank_at;
 
 // Says so where the print of a loaded table is not its text.
 fn look_at_print(l: Loaded, cells: &[u16], text: &[u8]) {
@@ -85,9 +87,9 @@ pub(crate) fn card(source: &[u8], work: &mut [u8]) {
 }
 
 // Cells of a row.
-const SET_ROW: usize = 1 + SIDE_LIMIT;
+const SET_ROW: usize = 2 + SIDE_LIMIT;
 
-const READ_ROW: usize = 1 + 2 * SIDE_LIMIT;
+const READ_ROW: usize = 2 + 2 * SIDE_LIMIT;
 
 // Room for one row more than a table may have.
 const CELLS: usize = TABLE_SIZE + READ_ROW;
@@ -124,5 +126,59 @@ pub(crate) fn fill(line: &[u8], row: &[u16]) {
     let mut cells = [1u16; CELLS];
     let order = shape.order;
     put_rows(&mut cells, row, row_size(order), shape.rows);
+    copy(&cells, shape, worst);
+}
+
+// Whether cell k of a row is a next row.
+fn is_next(order: Order, k: usize) -> bool {
+    match order {
+        Order::Set => k > 0,
+        Order::Read => (k > 0) & (k % 2 == 0),
+    }
+}
+
+// The row so many rows further down than row i, but not past the last.
+fn further(i: usize, down: usize, last: usize) -> usize
+    requires { ⌜ i ≤ last ⌝ }
+    ensures { λ r. ⌜ r ≤ last ⌝ }
+{
+    if down < last - i { i + down } else { last }
+}
+
+// Cell k of row i of a ladder whose last row stops.
+fn rung(row: &[u16], order: Order, k: usize, i: usize, last: usize) -> u16
+    requires { ⌜ (i ≤ last) × (last < 65536) ⌝ }
+{
+    if i == last {
+        return cell_at(&[STOP], k);
+    }
+    if k == rank_at(order) {
+        return (last - i) as u16;
+    }
+    let cell = cell_at(row, k);
+    if is_next(order, k) & (cell > 0) {
+        return further(i, cell as usize, last) as u16;
+    }
+    cell
+}
+
+// Puts a ladder of so many rows, each of so many cells, into a table, as far as there is room.
+fn put_ladder(cells: &mut [u16], row: &[u16], order: Order, size: usize, rows: usize)
+    requires { ⌜ (0 < size) × (rows < 65536) ⌝ }
+{
+    let mut i = 0;
+    while i < cells.len() && i / size < rows {
+        cells[i] = rung(row, order, i % size, i / size, rows - 1);
+        i += 1;
+    }
+}
+
+// Copies a table of rows that lead down to the last.
+pub(crate) fn ladder(line: &[u8], row: &[u16]) {
+    let shape = shape_at(line, 5, 7, 8);
+    let worst = argument(line, 6);
+    let mut cells = [1u16; CELLS];
+    let order = shape.order;
+    put_ladder(&mut cells, row, order, row_size(order), shape.rows);
     copy(&cells, shape, worst);
 }

@@ -50,7 +50,9 @@ fn order_at(line: &[u8], k: usize) -> Order {
 }
 
 // The shape whose row count, observed signals and order stand in these fields.
-pub(crate) fn shape_at(line: &[u8], rows: usize, observed: usize, order: usize) -> Shape {
+pub(crate) fn shape_at(line: &[u8], rows: usize, observed: usize, order: usize) -> Shape
+    ensures { λ r. ⌜ r .rows < 65536 ⌝ }
+{
     Shape {
         rows: argument(line, rows),
         observed: argument(line, observed),

@@ -3,16 +3,18 @@
 // is not given is 0:
 //
 //     name, judge, the problem, the trace, how many of the 65,536 bytes of memory are not lent
-//     name, solve, the problem, the table afterwards, bytes not lent, how many of the table's 8,448 cells are not lent
+//     name, solve, the problem, the table afterwards, bytes not lent, how many of the table's 8,704 cells are not lent
 //     name, print, the text afterwards, the table, bytes not lent, rows, worst case, observed signals, order
 //     name, start, nothing, the table, 0, rows, observed signals, row and choice before, 0, order
 //     name, step, nothing, the table, 0, rows, observed signals, row and choice before, observation, order
 //     name, list, the problem, its parts, 0, records lent
 //     name, judge-list, nothing, the trace, 0, records lent, signals of each kind, parts counted, the parts
-//     name, load, the text, the table afterwards, 0, how many of the table's 8,448 cells are not lent
+//     name, load, the text, the table afterwards, 0, how many of the table's 8,704 cells are not lent
 //     name, prefixes, the text, the table afterwards: each proper beginning is loaded before, and the refusals' places are told
 //     name, card, the problem: the table that solves it is printed, and its text is loaded
 //     name, fill, nothing, the cells of a row, 0, rows, worst case, observed signals, order: the same with a table of equal rows
+//     name, ladder, the fields of `fill`: the same with rows of falling ranks, the last of which stops. A next row of the row that is given
+//         says how many rows further down it is, but not past the last
 //
 // `line.rt` says how a text, a list of numbers and an order are written, `parts.rt` how parts are. Lent memory holds ones before a call, and
 // all of it is looked at afterwards: the answer has the field `wrong` where it is not as it should be, or where the line is not of this

@@ -1,6 +1,6 @@
 -- The sizes of the plain solver's arrays. All follow from the limits of operators, signals, states and beliefs.
 -- Assumes nothing.
-use Prim.Native.Nat.{ℕ, suc, _*_, _^_}
+use Prim.Native.Nat.{ℕ, suc, _+_, _*_, _^_}
 use Rattle.basics.specs.Limits.{operatorLimit}
 use Rattle.search.specs.Limits.{stateLimit}
 use Rattle.play.specs.Limits.{beliefLimit, sideLimit, pairLimit}
@@ -16,9 +16,9 @@ patternCount = 2 ^ bitCount
 abbrev pub letterCount : ℕ
 letterCount = pairLimit * sideLimit
 
--- cells of a row: under `read` a first one, and two for each observation
+-- cells of a row: under `read` a first one, two for each observation, and one for the rank
 abbrev pub longRow : ℕ
-longRow = suc (2 * sideLimit)
+longRow = 2 + 2 * sideLimit
 
 -- counts of states and of beliefs that say that there are too many
 abbrev pub manyStates : ℕ

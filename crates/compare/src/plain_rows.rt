@@ -33,9 +33,9 @@ fn add_row(rows: &mut Rows, n: usize, belief: u8) -> usize
 }
 
 // Cells of a row.
-const SET_ROW: usize = 1 + SIDE_LIMIT;
+const SET_ROW: usize = 2 + SIDE_LIMIT;
 
-const READ_ROW: usize = 1 + 2 * SIDE_LIMIT;
+const READ_ROW: usize = 2 + 2 * SIDE_LIMIT;
 
 fn row_size(read: bool) -> usize
     ensures { λ r. ⌜ r ≤ longRow ⌝ }
@@ -77,6 +77,13 @@ fn next_at(read: bool, o: usize) -> usize
     ensures { λ r. ⌜ r < longRow ⌝ }
 {
     if read { 2 + 2 * o } else { 1 + o }
+}
+
+// Where in a row the rank of its belief stands: at its end.
+fn rank_at(read: bool) -> usize
+    ensures { λ r. ⌜ r < longRow ⌝ }
+{
+    if read { READ_ROW - 1 } else { SET_ROW - 1 }
 }
 
 // Writes the choice and the next row for an observation.
@@ -133,6 +140,7 @@ fn put_row(
     ensures { λ r. ⌜ (n ≤ r) × (r ≤ beliefLimit) ⌝ }
 {
     clear_row(w.read, row, table);
+    table[cell_at(w.read, row, rank_at(w.read))] = rank;
     if rank == 0 {
         table[cell_at(w.read, row, 0)] = STOP;
         return n;

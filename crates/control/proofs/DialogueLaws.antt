@@ -7,10 +7,10 @@ use native.Mathlib.Omega.{arith}
 use mathlib.Core.Path.{_≡_, refl, sym, ap, subst, _∙_}
 use mathlib.Core.Logic.{_↔_, inl, inr}
 use mathlib.Core.Bool.{true, false}
-use mathlib.Core.List.{List, [], _∷_, _++_, flatMap, append-nil}
+use mathlib.Core.List.{List, [], _∷_, _++_, flatMap}
 use lib.ListN.{length, take, length-append}
-use lib.Seq.{take-at, length-sets}
-use Rattle.basics.specs.Bytes.{bytesOf, sameBytes}
+use lib.Seq.{sets, take-at, length-sets}
+use Rattle.basics.specs.Bytes.{sameBytes}
 use Rattle.basics.specs.Lists.{written}
 use Rattle.basics.specs.Numbers.{numberBelow}
 use Rattle.basics.specs.Text.{decimal, field, line}
@@ -22,13 +22,13 @@ use Rattle.basics.proofs.TextLaws.{decimal-length, field-length, line-parts}
 use Rattle.stepping.specs.Position.{Holds, OnStop, SteppedAs, bad-observation}
 use Rattle.stepping.specs.declared.position.Position.{Position}
 use Rattle.stepping.specs.declared.position.Answer.{Answer}
-use Rattle.stepping.specs.declared.position.Answer.the-variants.{Choice}
 use Rattle.lines.specs.Refusal.{refused}
 use Rattle.play.specs.Limits.{sideLimit}
 use Rattle.printer.specs.Limits.{textSize}
-use Rattle.printer.proofs.WellFormedLaws.{side-le}
+use Rattle.wellformed.proofs.WellFormedLaws.{side-le}
+use Rattle.printer.proofs.TextLaws.{words-fit}
 use Rattle.tables.specs.declared.shape.Shape.{Shape}
-use Rattle.control.specs.Dialogue.{answerText, observationIn}
+use Rattle.control.specs.Dialogue.{wordRoom, answerText, observationIn}
 
 -- ---- an answer is put at the front of a text
 
@@ -38,42 +38,61 @@ Written l x end y = (end ≡ length l) × (y ≡ written l x)
 front-put : (l x : List ℕ) → length l ≤ length x → (end : ℕ) (y : List ℕ) → Put 0 l x end y → Written l x end y
 front-put l x room end y p = (p .0 ∙ zero-add (length l), p .1 ∙ put-front l x room)
 
-pub same-answer : {a b : Answer} → a ≡ b → (x : List ℕ) (end : ℕ) (y : List ℕ) → Written (answerText b) x end y
-    → Written (answerText a) x end y
-same-answer e x end y p = subst (λ (a : Answer). Written (answerText a) x end y) (sym e) p
+pub same-answer : {a b : Answer} → a ≡ b → (left : ℕ) (x : List ℕ) (end : ℕ) (y : List ℕ) → Written (answerText b left) x end y
+    → Written (answerText a left) x end y
+same-answer e left x end y p = subst (λ (a : Answer). Written (answerText a left) x end y) (sym e) p
 
--- a choice: its word, its number and the end, 13 bytes at most
-module _ (c : ℕ) (small : c < 65536) (x : List ℕ) (room : textSize ≤ length x) where
-  parts : answerText (Choice c) ≡ bytesOf "choice" ++ (field (decimal c) ++ (10 ∷ []))
+-- a line of a word and two numbers
+module _ (word : List ℕ) (short : length word ≤ 100) (c left : ℕ) (c-small : c < 65536) (left-small : left < 65536)
+    (x : List ℕ) (room : textSize ≤ length x) where
+  pub two-room : length (line word (decimal c ∷ decimal left ∷ [])) ≤ length x
+  two-room = omega (arith, words-fit word c left short (omega arith) (omega arith))
+
+  pub two-written : {end : ℕ} {y : List ℕ} → (end ≡ length (line word (decimal c ∷ decimal left ∷ [])))
+      × (y ≡ sets x 0 (line word (decimal c ∷ decimal left ∷ []))) → Written (line word (decimal c ∷ decimal left ∷ [])) x end y
+  two-written p = (p .0, p .1 ∙ put-front (line word (decimal c ∷ decimal left ∷ [])) x two-room)
+
+-- a line of a word and one number: the word, the number and the end
+module _ (word : List ℕ) (short : length word ≤ wordRoom) (n : ℕ) (small : n < 65536) (x : List ℕ) (room : textSize ≤ length x) where
+  abbrev whole : List ℕ
+  whole = line word (decimal n ∷ [])
+
+  parts : whole ≡ word ++ (field (decimal n) ++ (10 ∷ []))
   unfolding flatMap
-  parts = line-parts (bytesOf "choice") (decimal c) []
+  parts = line-parts word (decimal n) []
 
-  fits : length (answerText (Choice c)) ≤ length x
-  fits = omega (arith, ap length parts, length-append (field (decimal c)) (10 ∷ []), field-length 4 c (omega arith))
+  fits : length whole ≤ length x
+  fits =
+      omega (
+        arith,
+        ap length parts,
+        length-append word (field (decimal n) ++ (10 ∷ [])),
+        length-append (field (decimal n)) (10 ∷ []),
+        field-length 4 n (omega arith),
+      )
 
-  module _ {w : ℕ} {y₁ : List ℕ} (p₁ : Put 0 (bytesOf "choice") x w y₁) where
-    rest₁ : Rest 0 (answerText (Choice c)) x w (field (decimal c) ++ (10 ∷ [])) y₁
-    rest₁ = rest-next (bytesOf "choice") _ (rest-all 0 (answerText (Choice c)) x (omega (arith, fits)) _ parts) p₁
+  rest₀ : Rest 0 whole x 0 (word ++ (field (decimal n) ++ (10 ∷ []))) x
+  rest₀ = rest-all 0 whole x (omega (arith, fits)) _ parts
 
-    pub number-room : w + length (field (decimal c)) ≤ length y₁
-    number-room = rest-room (field (decimal c)) _ rest₁
+  pub word-room : 0 + length word ≤ length x
+  word-room = rest-room word _ rest₀
 
-    module _ {n : ℕ} {y₂ : List ℕ} (p₂ : Put w (field (decimal c)) y₁ n y₂) where
-      rest₂ : Rest 0 (answerText (Choice c)) x n (10 ∷ []) y₂
-      rest₂ = rest-next (field (decimal c)) _ rest₁ p₂
+  module _ {w : ℕ} {y₁ : List ℕ} (p₁ : Put 0 word x w y₁) where
+    rest₁ : Rest 0 whole x w (field (decimal n) ++ (10 ∷ [])) y₁
+    rest₁ = rest-next word _ rest₀ p₁
 
-      pub end-room : n < length y₂
+    pub number-room : w + length (field (decimal n)) ≤ length y₁
+    number-room = rest-room (field (decimal n)) _ rest₁
+
+    module _ {e : ℕ} {y₂ : List ℕ} (p₂ : Put w (field (decimal n)) y₁ e y₂) where
+      rest₂ : Rest 0 whole x e (10 ∷ []) y₂
+      rest₂ = rest-next (field (decimal n)) _ rest₁ p₂
+
+      pub end-room : e < length y₂
       end-room = omega (arith, rest₂ .room)
 
-      pub choice-put : {end : ℕ} {y : List ℕ} → Put n (10 ∷ []) y₂ end y → Written (answerText (Choice c)) x end y
-      choice-put p₃ = front-put (answerText (Choice c)) x fits _ _ (rest₂ .puts _ _ p₃)
-
--- a word alone
-pub word-put : (word : List ℕ) → length word < textSize → (x : List ℕ) → textSize ≤ length x → {end : ℕ} {y : List ℕ}
-    → Put 0 (word ++ (10 ∷ [])) x end y → Written (line word []) x end y
-unfolding flatMap
-word-put word short x room p =
-    rw (append-nil word) (front-put (word ++ (10 ∷ [])) x (omega (arith, length-append word (10 ∷ []))) _ _ p)
+      pub word-put : {end : ℕ} {y : List ℕ} → Put e (10 ∷ []) y₂ end y → Written whole x end y
+      word-put p₃ = front-put whole x fits _ _ (rest₂ .puts _ _ p₃)
 
 -- ---- an observation
 

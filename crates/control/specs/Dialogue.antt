@@ -11,12 +11,16 @@ use Rattle.stepping.specs.declared.position.Answer.the-variants.{Choice, Stop, 
 use Rattle.play.specs.Limits.{sideLimit}
 use Rattle.printer.specs.Text.{refusalText}
 
--- the line of an answer
-abbrev pub answerText : Answer → List ℕ
-answerText (Choice c) = line (bytesOf "choice") (decimal c ∷ [])
-answerText Stop = line (bytesOf "stop") []
-answerText Ready = line (bytesOf "ready") []
-answerText (Refused r) = refusalText r
+-- the longest word of a line with one number
+abbrev pub wordRoom : ℕ
+wordRoom = 5
+
+-- the line of an answer; the last field of one that is no refusal is how many steps are left at most
+abbrev pub answerText : Answer → ℕ → List ℕ
+answerText (Choice c) left = line (bytesOf "choice") (decimal c ∷ decimal left ∷ [])
+answerText Stop left = line (bytesOf "stop") (decimal left ∷ [])
+answerText Ready left = line (bytesOf "ready") (decimal left ∷ [])
+answerText (Refused r) left = refusalText r
 
 -- the observation that a line holds, without its end; one that is not written as the printer writes it counts as 16, which is no observation
 -- of any table

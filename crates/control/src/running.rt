@@ -2,12 +2,14 @@
 use crate::dialogue::observation_in;
 use crate::dialogue::put_answer;
 use cabinet::Answer;
+use cabinet::Left;
 use cabinet::Moved;
 use cabinet::Position;
 use cabinet::TEXT_SIZE;
 use cabinet::is_stopped;
 use cabinet::start_from;
 use cabinet::step_from;
+use cabinet::steps_left;
 use libc::STDIN_FILENO;
 use lines::Refusal;
 use streams::Line;
@@ -24,43 +26,53 @@ enum Next {
 // Room for a line, much more than an observation takes: a line that fills it is none.
 const LINE_ROOM: usize = 32;
 
-// Writes an answer, and says whether all of it was taken. `put_refusal` asks for the room of a whole text.
-fn write(a: Answer) -> bool {
+// Writes an answer with the steps left, which a refusal does not show, and says whether all of it was taken. `put_refusal` asks for the room of
+// a whole text.
+fn write(a: Answer, left: u16) -> bool {
     let mut text = [0u8; TEXT_SIZE];
-    let n = put_answer(&mut text, a);
+    let n = put_answer(&mut text, a, left);
     streams::say(b"control", streams::first(&text, n))
 }
 
 // Answers that a text is no table. There is no other answer then.
 pub(crate) fn refuse_text(r: Refusal) {
-    if write(Answer::Refused(r)) {
+    if write(Answer::Refused(r), 0) {
         streams::close_output(b"control");
     }
 }
 
-// Ends a run by the line `stop`.
-fn stop() -> Next {
-    if write(Answer::Stop) {
+// Ends a run by an answer.
+fn end(a: Answer, left: u16) -> Next {
+    if write(a, left) {
         Next::End
     } else {
         Next::Lost
     }
 }
 
-// Answers a start or a step. Behind a choice that leads to a stop row, as under `read`, comes a line `stop`.
-fn answer(table: &[u16], shape: Shape, m: Moved) -> Next {
+// Answers a start or a step, with the steps left. Behind a choice that leads to a stop row, as under `read`, comes a line `stop`.
+fn tell(table: &[u16], shape: Shape, m: Moved, left: u16) -> Next {
     let position = m.position;
     let a = m.answer;
     if let Answer::Stop = a {
-        return stop();
+        return end(Answer::Stop, left);
     }
-    if !write(a) {
+    if !write(a, left) {
         return Next::Lost;
     }
     if is_stopped(table, shape, position) {
-        return stop();
+        return end(Answer::Stop, left);
     }
     Next::At(position)
+}
+
+// The same, with the steps left where the position is then. A table that was loaded is refused nothing there.
+fn answer(table: &[u16], shape: Shape, m: Moved) -> Next {
+    let position = m.position;
+    match steps_left(table, shape, position) {
+        Left::Steps(n) => tell(table, shape, m, n),
+        Left::Refused(r) => end(Answer::Refused(r), 0),
+    }
 }
 
 fn fail_input() -> Next {

@@ -27,7 +27,7 @@ use Rattle.obligations.specs.Letters.{lettersOf}
 use Rattle.search.specs.PatternSet.{member, setOf, start, accepts, next, after}
 use Rattle.search.specs.ReachableSets.{sameSet, nextSets, reachableSets}
 use Rattle.states.specs.States.{startState, nextState, stateAfter, statesOf}
-use Rattle.play.specs.Cells.{stopRow, choiceRow}
+use Rattle.play.specs.Cells.{stopRow, choiceRow, withRank}
 use Rattle.game.specs.SolvedAs.{solvedBy, cellsBy}
 use Rattle.cabinet.specs.Response.{response}
 use Rattle.examples.specs.Examples.{answer, expected, examples}
@@ -39,5 +39,5 @@ unfolding fromBits firstThat lower wordByte run past sameBytes isIn indexIn addN
     size operators isLetter opOf temporals partsFrom partsOf partAt bottomUp resultAt holds valueWith
     lines tabPlace wordOf isName isText orderNamed formulaOf allDeclared declareEffect stateEffect effectOf readLines readProblem badStep verdictOn judged
     operatorsOf numberOf spotsTo spots valueAt owedAt back lettersOf member setOf start accepts next after sameSet nextSets reachableSets
-    startState nextState stateAfter statesOf stopRow choiceRow solvedBy cellsBy response
+    startState nextState stateAfter statesOf stopRow choiceRow withRank solvedBy cellsBy response
 computed = refl

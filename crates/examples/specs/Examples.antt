@@ -19,7 +19,7 @@ use Rattle.search.specs.PatternSet.{PatternSet, accepts}
 use Rattle.search.specs.ReachableSets.{sameSet}
 use Rattle.states.specs.States.{stateAfter}
 use Rattle.play.specs.Limits.{beliefLimit}
-use Rattle.play.specs.Cells.{rowSize, stopCell, tableSize}
+use Rattle.play.specs.Cells.{rankAt, stopCell, tableSize}
 use Rattle.play.specs.Answer.{positions}
 use Rattle.play.specs.EarlierCount.{earlierPositions}
 use Rattle.game.specs.Solution.{gameOf, problemStates, beliefsOf}
@@ -73,9 +73,10 @@ abbrev pub examples : List Example
 examples =
     example "A" "out\tvalve\nhid\twet\nrule\tF valve\n" table (values (2 ∷ 0 ∷ 0 ∷ 1 ∷ []))
     ∷ example "B" "out\ta\nsee\ts\nrule\ts -> X a\n" table (values (3 ∷ 1 ∷ 0 ∷ 2 ∷ []))
-    ∷ example "B" "out\ta\nsee\ts\nrule\ts -> X a\n" text (values (bytesOf "table\t3\t2\nrow\t0\t0\t1\t2\nrow\t1\tstop\nrow\t2\t1\t1\t1\n"))
+    ∷ example "B" "out\ta\nsee\ts\nrule\ts -> X a\n" text
+    (values (bytesOf "table\t3\t2\nrow\t0\t2\t0\t1\t2\nrow\t1\t0\tstop\nrow\t2\t1\t1\t1\t1\n"))
     ∷ example "B" "out\ta\nsee\ts\nrule\ts -> X a\n" cells
-    (values (padded (rowSize Set) (0 ∷ 1 ∷ 2 ∷ []) ++ padded (rowSize Set) (stopCell ∷ []) ++ padded (rowSize Set) (1 ∷ 1 ∷ 1 ∷ [])))
+    (values (padded (rankAt Set) (0 ∷ 1 ∷ 2 ∷ []) ++ (2 ∷ padded (rankAt Set) (stopCell ∷ []) ++ (0 ∷ padded (rankAt Set) (1 ∷ 1 ∷ 1 ∷ []) ++ (1 ∷ [])))))
     ∷ example "B" "out\ta\nsee\ts\nrule\ts -> X a\n" beliefs (values (4 ∷ 4 ∷ []))
     ∷ example "C" "out\ta\nhid\ts\nrule\ts -> X a\n" beliefs (values (4 ∷ 4 ∷ []))
     ∷ example "D" "hid\ts\nrule\tF s\n" beliefs (values (2 ∷ 2 ∷ []))
@@ -101,22 +102,23 @@ examples =
     ∷ example "A, read" "out\tvalve\nhid\twet\nrule\tF valve\norder\tread\n" table (values (2 ∷ 0 ∷ 1 ∷ 1 ∷ []))
     ∷ example "B, read" "out\ta\nsee\ts\nrule\ts -> X a\norder\tread\n" table (values (3 ∷ 1 ∷ 1 ∷ 2 ∷ []))
     ∷ example "B, read" "out\ta\nsee\ts\nrule\ts -> X a\norder\tread\n" text
-    (values (bytesOf "rtable\t3\t2\nrow\t0\t0\t1\t0\t2\nrow\t1\tstop\nrow\t2\t1\t1\t1\t1\n"))
+    (values (bytesOf "rtable\t3\t2\nrow\t0\t2\t0\t1\t0\t2\nrow\t1\t0\tstop\nrow\t2\t1\t1\t1\t1\t1\n"))
     ∷ example "B, read" "out\ta\nsee\ts\nrule\ts -> X a\norder\tread\n" cells
-    (values (padded (rowSize Read) (0 ∷ 0 ∷ 1 ∷ 0 ∷ 2 ∷ []) ++ padded (rowSize Read) (stopCell ∷ []) ++ padded (rowSize Read) (0 ∷ 1 ∷ 1 ∷ 1 ∷ 1 ∷ [])))
+    (values (padded (rankAt Read) (0 ∷ 0 ∷ 1 ∷ 0 ∷ 2 ∷ [])
+    ++ (2 ∷ padded (rankAt Read) (stopCell ∷ []) ++ (0 ∷ padded (rankAt Read) (0 ∷ 1 ∷ 1 ∷ 1 ∷ 1 ∷ []) ++ (1 ∷ [])))))
     ∷ example "C, read" "out\ta\nhid\ts\nrule\ts -> X a\norder\tread\n" table (values (3 ∷ 0 ∷ 1 ∷ 2 ∷ []))
     ∷ example "D, read" "hid\ts\nrule\tF s\norder\tread\n" table (refused 11 0)
     ∷ example "E, read" "hid\ts\nrule\t(s & N false) | (!s & X N false)\norder\tread\n" table (refused 11 0)
     ∷ example "E, read" "see\ts\nrule\t(s & N false) | (!s & X N false)\norder\tread\n" table (values (4 ∷ 1 ∷ 1 ∷ 2 ∷ []))
-    ∷ example "F, read" "order\tread\nrule\ttrue\n" text (values (bytesOf "rtable\t2\t1\nrow\t0\t0\t1\nrow\t1\tstop\n"))
-    ∷ example "F, set" "order\tset\nrule\ttrue\n" text (values (bytesOf "table\t2\t1\nrow\t0\t0\t1\nrow\t1\tstop\n"))
+    ∷ example "F, read" "order\tread\nrule\ttrue\n" text (values (bytesOf "rtable\t2\t1\nrow\t0\t1\t0\t1\nrow\t1\t0\tstop\n"))
+    ∷ example "F, set" "order\tset\nrule\ttrue\n" text (values (bytesOf "table\t2\t1\nrow\t0\t1\t0\t1\nrow\t1\t0\tstop\n"))
     ∷ example "G, read" "order\tread\nrule\tfalse\n" table (refused 11 0)
     ∷ example "H, read" "order\tread\nrule\tX true\n" table (values (3 ∷ 0 ∷ 1 ∷ 2 ∷ []))
     ∷ example "gauge" "out\ta\nsee\ts\nrule\t(a -> s) & (s -> a) & N false\n" table (refused 11 0)
     ∷ example "gauge, read" "out\ta\nsee\ts\nrule\t(a -> s) & (s -> a) & N false\norder\tread\n" text
-    (values (bytesOf "rtable\t2\t1\nrow\t0\t0\t1\t1\t1\nrow\t1\tstop\n"))
+    (values (bytesOf "rtable\t2\t1\nrow\t0\t1\t0\t1\t1\t1\nrow\t1\t0\tstop\n"))
     ∷ example "best next rank, read" "out\ta\nsee\ts\nrule\tX X true | (s & a)\norder\tread\n" text
-    (values (bytesOf "rtable\t4\t3\nrow\t0\t0\t1\t1\t2\nrow\t1\t0\t3\t0\t3\nrow\t2\tstop\nrow\t3\t0\t2\t0\t2\n"))
+    (values (bytesOf "rtable\t4\t3\nrow\t0\t3\t0\t1\t1\t2\nrow\t1\t2\t0\t3\t0\t3\nrow\t2\t0\tstop\nrow\t3\t1\t0\t2\t0\t2\n"))
     ∷ example "no rule" "order\tread\n" table (refused 8 0)
     ∷ example "no order" "order\tRead\nrule\ttrue\n" table (refused 2 1)
     ∷ example "a second order" "order\tread\nrule\ttrue\norder\tread\n" table (refused 2 3)

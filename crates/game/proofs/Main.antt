@@ -15,7 +15,7 @@ use Rattle.rules.specs.Denotes.{Denotes}
 use Rattle.rules.specs.Refuses.{Refuses}
 use Rattle.search.specs.PatternSet.{PatternSet}
 use Rattle.play.specs.Limits.{sideLimit}
-use Rattle.play.specs.Cells.{rowSize, stopCell, tableSize}
+use Rattle.play.specs.Cells.{rowSize, stopCell, tableSize, rankCell}
 use Rattle.basics.specs.declared.order.Order.{Order}
 use Rattle.basics.specs.declared.order.Order.the-variants.{Set, Read}
 use Rattle.basics.specs.Order.{orderNumber}
@@ -125,6 +125,13 @@ pub plays : (p : Problem) (n r : ℕ) (t : List ℕ) → Controller p n r t
     × ((play : Play (gameOf p)) × Steps (tableStrategy (p .order) t) play r)
     × ((σ : Strategy (p .order)) → IsStrategy (gameOf p) σ → Wins (gameOf p) σ → (play : Play (gameOf p)) × (m : ℕ) × Steps σ play m × (r ≤ m))
 plays = SolvedAsCases.plays
+
+-- the last cell of each row is the rank of the row's belief, and that of row 0 the worst case
+pub ranks : (p : Problem) (n r : ℕ) (t : List ℕ) (c : Controller p n r t)
+    → ((i : ℕ) → i < n
+    → RankIs (p .order) (gameOf p .choices) (gameOf p .observations) (FinalBelief p) (c .isTable .history i) (rankCell (p .order) t i))
+    × (rankCell (p .order) t 0 ≡ r)
+ranks = SolvedAsCases.ranks
 
 -- the ranks in it are those of the reference (REFERENCE.md, The game), for any histories' final beliefs: a final belief has rank 0 ..
 pub final-rank : (o : Order) (choices observations : ℕ) (Final : History → Type 0) → 0 < observations → (h : History)

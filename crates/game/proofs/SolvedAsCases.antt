@@ -13,14 +13,15 @@ use Rattle.rules.specs.Denotes.{Denotes}
 use Rattle.rules.specs.Refuses.{Refuses}
 use Rattle.lines.proofs.RefusalLaws.{told-apart, one-number, one-place}
 use Rattle.rules.proofs.RefusesLaws.{refuses-number}
-use Rattle.play.specs.Cells.{tableSize}
+use Rattle.play.specs.Cells.{tableSize, rankCell}
 use Rattle.basics.specs.declared.order.Order.{Order}
 use Rattle.basics.specs.Order.{orderNumber}
 use Rattle.basics.proofs.OrderLaws.{one-order}
 use Rattle.play.specs.Game.{Play, Strategy, IsStrategy, Steps, run, Wins, Unrealizable}
+use Rattle.play.specs.IsTable.{RankIs}
 use Rattle.play.specs.Table.{tableStrategy}
 use Rattle.game.specs.Solution.{gameOf, Solution, solution}
-use Rattle.game.specs.Believed.{ManyStates, ManyBeliefs}
+use Rattle.game.specs.Believed.{FinalBelief, ManyStates, ManyBeliefs}
 use Rattle.game.specs.SolvedAs.{solvedOf, toldSolved, toldBy, cellsOf, cellsBy, Controller, Short, SolvedAs}
 use Rattle.game.specs.SolvedAs as due
 use Rattle.game.proofs.SolutionCases.{Solving, states, beliefs, none, table}
@@ -184,3 +185,10 @@ plays p n r t c =
       o .worst .reached,
       o .least,
     )
+
+-- what its last cells say
+pub ranks : (p : Problem) (n r : ℕ) (t : List ℕ) (c : Controller p n r t)
+    → ((i : ℕ) → i < n
+    → RankIs (p .order) (gameOf p .choices) (gameOf p .observations) (FinalBelief p) (c .isTable .history i) (rankCell (p .order) t i))
+    × (rankCell (p .order) t 0 ≡ r)
+ranks p n r t c = (c .isTable .rank, c .solves .first)

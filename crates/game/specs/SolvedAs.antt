@@ -92,11 +92,13 @@ usedRows (Refused x) table = []
 
 -- the table that the reference lays down for a problem (REFERENCE.md, The table), of n rows and with worst case r
 pub record Controller (p : Problem) (n r : ℕ) (cells : List ℕ) : Type 0 where
-  -- one row per belief met: row 0 the start, rows numbered as first met, the choices that the order takes, next rows by the moves
+  -- one row per belief met: row 0 the start, rows numbered as first met, the choices that the order takes, next rows by the moves, and the
+  -- belief's rank
   pub isTable : IsTable (p .order) (gameOf p .choices) (gameOf p .observations) (SameBelief p) (FinalBelief p) n cells
   -- the worst case is the rank of the start
   pub rank : RankIs (p .order) (gameOf p .choices) (gameOf p .observations) (FinalBelief p) [] r
-  -- read as a strategy of the order it wins, with exactly this worst case, and no strategy of the order that wins has a smaller one
+  -- read as a strategy of the order it wins, with exactly this worst case, which row 0 has as its rank, and no strategy of the order that wins
+  -- has a smaller one
   pub solves : Solves beliefLimit (p .order) (gameOf p) n r cells
 
 -- lent memory that is too short

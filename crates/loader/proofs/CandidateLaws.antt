@@ -4,7 +4,7 @@ use Prim.Native.Nat.{ℕ, zero, suc, _+_, _-_, _*_, _%_, _^_, _≤_, _<_}
 use native.Mathlib.Omega.{arith}
 use mathlib.Core.Path.{_≡_, refl, sym, ap, ap₂, _∙_}
 use mathlib.Core.Logic.{_⊎_, inl, inr}
-use mathlib.Core.Bool.{Bool, true, false, _||_}
+use mathlib.Core.Bool.{Bool, true, false, cond, _||_}
 use mathlib.Core.List.{List, flatMap}
 use lib.Dec.{leb, ltb}
 use lib.ListN.{length, getD}
@@ -20,17 +20,23 @@ use Rattle.basics.proofs.BitsLaws.{shl-one}
 use Rattle.basics.proofs.Booleans.{cond-elim, or-cases, or-left, or-right}
 use Rattle.basics.proofs.EqualRows.{length-rows}
 use Rattle.basics.proofs.ListsLaws.{length-tabulate, getD-tabulate}
+use Rattle.basics.proofs.NumbersLaws.{below-lt, below-le}
 use Rattle.basics.proofs.SaysLaws.{says-false}
 use Rattle.play.specs.Limits.{beliefLimit, sideLimit}
-use Rattle.play.specs.Cells.{rowSize, stopCell, stopRow}
-use Rattle.play.proofs.CellsLaws.{stop-length, stop-first, stop-rest}
+use Rattle.play.specs.Cells.{rankAt, rowSize, cellLimit, stopCell, stopRow}
+use Rattle.play.proofs.CellsLaws.{rank-last, first-before, before-inside, stop-length, stop-first, stop-rest, rank-length, rank-there, rank-other}
 use Rattle.printer.specs.Text.{shownFrom, shownCount, tableWord}
-use Rattle.printer.proofs.WellFormedLaws.{side-le}
+use Rattle.wellformed.proofs.WellFormedLaws.{side-le}
 use Rattle.tables.specs.declared.shape.Shape.{Shape}
-use Rattle.loader.specs.Candidate.{saysStop, limitAt, moveIn, rowIn, observedIn, orderIn, rowsIn, cellsIn}
+use Rattle.loader.specs.Candidate.{saysStop, rankIn, limitAt, moveIn, rowIn, observedIn, orderIn, rowsIn, cellsIn}
 use Rattle.loader.proofs.ShownCells.{Shown, shown-says}
 
 -- ---- a row, from its line
+
+-- a number below a limit that is not greater than a cell's is in a cell
+pub in-cell : (limit : ℕ) (s : List ℕ) → limit ≤ cellLimit → numberBelow limit s < cellLimit
+in-cell zero s h = omega (arith, below-le 0 s)
+in-cell (suc k) s h = omega (arith, below-lt (suc k) s (omega arith))
 
 module _ (o : Order) (rows i : ℕ) where
   pub set-first : o ≡ Set → i ≡ 0 → sideLimit ≡ limitAt o rows i
@@ -46,7 +52,7 @@ module _ (o : Order) (rows i : ℕ) where
   read-next e m = rw (e, ne-eqb (i % 2) 1 m) refl
 
 -- a row is not long
-pub size-small : (o : Order) → rowSize o ≤ 1 + 2 * sideLimit
+pub size-small : (o : Order) → rowSize o ≤ 2 + 2 * sideLimit
 size-small Set = omega arith
 size-small Read = omega arith
 
@@ -56,7 +62,7 @@ shown-small Read n h = omega arith
 
 module _ (o : Order) (n rows : ℕ) (line : List ℕ) (i : ℕ) where
   -- a cell that is printed, and one that is not
-  pub move-shown : Shown o n i → moveIn o n rows line i ≡ numberBelow (limitAt o rows i) (fieldAt (2 + (i - shownFrom o)) line)
+  pub move-shown : Shown o n i → moveIn o n rows line i ≡ numberBelow (limitAt o rows i) (fieldAt (3 + (i - shownFrom o)) line)
   unfolding moveIn
   move-shown h = rw (shown-says o n i .1 h) refl
 
@@ -80,40 +86,65 @@ module _ (o : Order) (n rows : ℕ) (line : List ℕ) (i : ℕ) where
         (omega arith, omega arith)
 
     pub move-number : (ltb i from || leb (from + count) i) ≡ false → (limit : ℕ) → limit ≡ limitAt o rows i
-        → numberBelow limit (fieldAt (2 + (i - from)) line) ≡ moveIn o n rows line i
+        → numberBelow limit (fieldAt (3 + (i - from)) line) ≡ moveIn o n rows line i
     move-number e limit q =
-        ap₂ (λ (m k : ℕ). numberBelow m (fieldAt (2 + (i - k)) line)) q f ∙ sym (move-shown (move-inside e))
+        ap₂ (λ (m k : ℕ). numberBelow m (fieldAt (3 + (i - k)) line)) q f ∙ sym (move-shown (move-inside e))
 
-pub row-length : (shape : Shape) (line : List ℕ) → length (rowIn shape line) ≡ rowSize (shape .order)
-unfolding rowIn
-row-length shape line =
-    let moves = moveIn (shape .order) (2 ^ (shape .observed)) (shape .rows) line in
-    cond-elim (λ l. length l ≡ rowSize (shape .order)) (saysStop line) (stopRow (shape .order)) (tabulate (rowSize (shape .order)) moves)
-    (λ e. stop-length (shape .order)) (λ e. length-tabulate (rowSize (shape .order)) moves)
-
--- its cells, by whether it stops
 module _ (shape : Shape) (line : List ℕ) where
+  abbrev o : Order
+  o = shape .order
+
+  abbrev moves : ℕ → ℕ
+  moves = moveIn o (2 ^ (shape .observed)) (shape .rows) line
+
+  -- its cells but for the rank
+  abbrev unranked : List ℕ
+  unranked = cond (saysStop line) (stopRow o) (tabulate (rowSize o) moves)
+
+  unranked-length : length unranked ≡ rowSize o
+  unranked-length =
+      cond-elim (λ l. length l ≡ rowSize o) (saysStop line) (stopRow o) (tabulate (rowSize o) moves)
+      (λ e. stop-length o) (λ e. length-tabulate (rowSize o) moves)
+
+  pub row-length : length (rowIn shape line) ≡ rowSize o
+  unfolding rowIn
+  row-length = rank-length o (rankIn line) unranked ∙ unranked-length
+
+  -- the last is the rank
+  pub row-rank : getD (rowIn shape line) (rankAt o) 0 ≡ rankIn line
+  unfolding rowIn
+  row-rank = rank-there o (rankIn line) unranked unranked-length
+
+  -- the others, by whether it stops
+  row-other : (i : ℕ) → i < rankAt o → getD (rowIn shape line) i 0 ≡ getD unranked i 0
+  unfolding rowIn
+  row-other i h = rank-other o (rankIn line) unranked i h
+
   pub row-stop : saysStop line ≡ true → getD (rowIn shape line) 0 0 ≡ stopCell
-  unfolding rowIn
-  row-stop e = rw e (stop-first (shape .order))
+  row-stop e = row-other 0 (first-before o) ∙ rw e (stop-first o)
 
-  pub row-rest : saysStop line ≡ true → (i : ℕ) → 0 < i → getD (rowIn shape line) i 0 ≡ 0
-  unfolding rowIn
-  row-rest e zero h = absurd (omega arith)
-  row-rest e (suc i) h = rw e (stop-rest (shape .order) i)
+  pub row-rest : saysStop line ≡ true → (i : ℕ) → 0 < i → i < rankAt o → getD (rowIn shape line) i 0 ≡ 0
+  row-rest e zero some h = absurd (omega arith)
+  row-rest e (suc i) some h = row-other (suc i) h ∙ rw e (stop-rest o i)
 
-  pub row-move : saysStop line ≡ false → (i : ℕ) → i < rowSize (shape .order)
-      → getD (rowIn shape line) i 0 ≡ moveIn (shape .order) (2 ^ (shape .observed)) (shape .rows) line i
-  unfolding rowIn
-  row-move e i h =
-      rw e (getD-tabulate (rowSize (shape .order)) (moveIn (shape .order) (2 ^ (shape .observed)) (shape .rows) line) i 0 h)
+  pub row-move : saysStop line ≡ false → (i : ℕ) → i < rankAt o → getD (rowIn shape line) i 0 ≡ moves i
+  row-move e i h = row-other i h ∙ rw e (getD-tabulate (rowSize o) moves i 0 (before-inside o i h))
+
+  -- by the test of the code
+  module _ (i at : ℕ) (is : at ≡ rankAt o) where
+    pub rank-here : i ≡ at → numberBelow cellLimit (fieldAt 2 line) ≡ getD (rowIn shape line) i 0
+    unfolding rankIn
+    rank-here e = sym (ap (λ (k : ℕ). getD (rowIn shape line) k 0) (e ∙ is) ∙ row-rank)
+
+    pub rank-behind : (i ≡ at → ⊥) → i < rowSize o → i < rankAt o
+    rank-behind m h = omega (arith, rank-last o, is, m)
 
 -- ---- the number of observed signals, tried from the greatest down
 
 module _ (o : Order) where
   field-tried : (k : ℕ) (line f : List ℕ) → k ≤ kindLimit → (m : ℕ) → m ≡ shownCount o (1 * 2 ^ k % 18446744073709551616)
-      → f ≡ fieldAt (1 + m) line → f ≡ fieldAt (1 + shownCount o (2 ^ k)) line
-  field-tried k line f h m q e = e ∙ ap (λ n. fieldAt (1 + n) line) (q ∙ ap (shownCount o) (shl-one k (omega arith)))
+      → f ≡ fieldAt (2 + m) line → f ≡ fieldAt (2 + shownCount o (2 ^ k)) line
+  field-tried k line f h m q e = e ∙ ap (λ n. fieldAt (2 + n) line) (q ∙ ap (shownCount o) (shl-one k (omega arith)))
 
   pub tried-small : (k : ℕ) → k ≤ kindLimit → 1 * 2 ^ k % 18446744073709551616 ≤ sideLimit
   tried-small k h = omega (arith, shl-one k (omega arith), side-le k h)
@@ -124,20 +155,20 @@ module _ (o : Order) where
   observed-none (suc k) line h = absurd (omega arith)
 
   pub observed-here : (k : ℕ) (line f : List ℕ) → k ≤ kindLimit → 0 < k → (m : ℕ) → m ≡ shownCount o (1 * 2 ^ k % 18446744073709551616)
-      → f ≡ fieldAt (1 + m) line → 0 < length f → k ≡ observedIn o k line
+      → f ≡ fieldAt (2 + m) line → 0 < length f → k ≡ observedIn o k line
   unfolding observedIn
   observed-here zero line f h some m q e l = absurd (omega arith)
   observed-here (suc k) line f h some m q e l =
-      let t : ltb 0 (length (fieldAt (1 + shownCount o (2 ^ suc k)) line)) ≡ true =
+      let t : ltb 0 (length (fieldAt (2 + shownCount o (2 ^ suc k)) line)) ≡ true =
       ap (λ u. ltb 0 (length u)) (sym (field-tried (suc k) line f h m q e)) ∙ lt-ltb 0 (length f) l in
       rw t refl
 
   pub observed-less : (k : ℕ) (line f : List ℕ) → k ≤ kindLimit → 0 < k → (m : ℕ) → m ≡ shownCount o (1 * 2 ^ k % 18446744073709551616)
-      → f ≡ fieldAt (1 + m) line → length f ≤ 0 → observedIn o k line ≡ observedIn o (k - 1) line
+      → f ≡ fieldAt (2 + m) line → length f ≤ 0 → observedIn o k line ≡ observedIn o (k - 1) line
   unfolding observedIn
   observed-less zero line f h some m q e l = absurd (omega arith)
   observed-less (suc k) line f h some m q e l =
-      let t : ltb 0 (length (fieldAt (1 + shownCount o (2 ^ suc k)) line)) ≡ false =
+      let t : ltb 0 (length (fieldAt (2 + shownCount o (2 ^ suc k)) line)) ≡ false =
       ap (λ u. ltb 0 (length u)) (sym (field-tried (suc k) line f h m q e)) ∙ le-ltb 0 (length f) l in
       let p : suc k - 1 ≡ k = omega arith in
       rw (t, p) refl

@@ -19,19 +19,16 @@ use Rattle.basics.proofs.ListsLaws.{front-in, front-taken, taken-length}
 use Rattle.lines.specs.declared.refusal.Refusal.the-variants.{ShortMemory, BadText}
 use Rattle.play.specs.Limits.{beliefLimit}
 use Rattle.play.specs.Cells.{rowSize, tableSize}
-use Rattle.printer.specs.Limits.{textSize}
 use Rattle.printer.specs.Text.{tableText}
-use Rattle.printer.specs.WellFormed.{Printable}
-use Rattle.printer.proofs.TextLaws.{text-fits}
-use Rattle.printer.proofs.WellFormedLaws.{printable-says}
+use Rattle.wellformed.specs.WellFormed.{Shaped}
 use Rattle.tables.specs.declared.shape.Shape.{Shape}
 use Rattle.loader.specs.declared.loading.Loaded.{Loaded}
 use Rattle.loader.specs.declared.loading.Loaded.the-variants.{Table, Refused}
 use Rattle.loader.specs.Candidate.{shapeIn, worstIn, cellsIn, printIn}
 use Rattle.loader.specs.Difference.{difference}
-use Rattle.loader.specs.LoadedAs.{loadedAt, cellsAt, loadedBy, cellsBy, tableAfter, toldLoaded, usedRows, LoadedAs}
+use Rattle.loader.specs.LoadedAs.{firstFault, faultIn, loadedAt, cellsAt, loadedBy, cellsBy, tableAfter, toldLoaded, usedRows, LoadedAs}
 use Rattle.loader.proofs.CandidateLaws.{cells-length}
-use Rattle.loader.proofs.CandidatePrint.{candidate-printable}
+use Rattle.loader.proofs.CandidatePrint.{candidate-shaped}
 use Rattle.loader.proofs.LoadedIffDue.{load-told}
 
 module _ (s table : List ℕ) where
@@ -76,15 +73,15 @@ few-cells Read rows h = omega arith
 
 -- the candidate of a text, as it is found
 module _ (s : List ℕ) {shape : Shape} (is-shape : shape ≡ shapeIn s) where
-  printable : (worst : ℕ) → worst ≡ worstIn (shape .rows) s → Printable (cellsIn shape s) shape worst
-  printable worst is-worst =
-      subst (Printable (cellsIn shape s) shape) (sym is-worst)
-      (subst (λ h. Printable (cellsIn h s) h (worstIn (h .rows) s)) (sym is-shape) (candidate-printable s))
+  shaped : (worst : ℕ) → worst ≡ worstIn (shape .rows) s → Shaped (cellsIn shape s) shape worst
+  shaped worst is-worst =
+      subst (Shaped (cellsIn shape s) shape) (sym is-worst)
+      (subst (λ h. Shaped (cellsIn h s) h (worstIn (h .rows) s)) (sym is-shape) (candidate-shaped s))
 
   -- what the writing of its cells asks
   pub cells-ask : (shape .observed ≤ kindLimit) × ((shape .rows ≤ beliefLimit) × (shape .rows * rowSize (shape .order) ≤ tableSize))
   cells-ask =
-      let z = printable (worstIn (shape .rows) s) refl .sized in
+      let z = shaped (worstIn (shape .rows) s) refl .sized in
       (z .seen, (z .few, few-cells (shape .order) (shape .rows) (z .few)))
 
   -- its cells stand in a memory, rows of k
@@ -122,26 +119,19 @@ module _ (s : List ℕ) {shape : Shape} (is-shape : shape ≡ shapeIn s) where
           at (suc k) = rw (ne-eqb (suc k) 0 (λ e. omega arith)) refl
 
     module _ {worst : ℕ} (is-worst : worst ≡ worstIn (shape .rows) s) where
-      abbrev print : List ℕ
-      print = tableText (take size cells) shape worst
+      -- what the search for the first fault asks
+      pub fault-asks : Shaped (take size cells) shape worst
+      fault-asks = subst (λ t. Shaped t shape worst) (sym cells-taken) (shaped worst is-worst)
 
-      -- what the comparison asks
-      pub print-asks : (shape .observed ≤ kindLimit)
-          × ((shape .rows * rowSize (shape .order) ≤ length (take size cells)) × (length print ≤ textSize))
-      print-asks =
-          let p = printable worst is-worst in
-          let fits = text-fits (cellsIn shape s) shape worst (printable-says (cellsIn shape s) shape worst .1 p) in
-          let long : shape .rows * rowSize (shape .order) ≤ length (take size cells) = omega (arith, cells-long, size-is, cells-length shape s) in
-          (p .sized .seen, (long, subst (λ t. length (tableText t shape worst) ≤ textSize) (sym cells-taken) fits))
-
-      module _ (table : List ℕ) (room : tableSize ≤ length table) {place : ℕ} (is-place : place ≡ difference 1 s print) where
-        place-is : difference 1 s (printIn s) ≡ place
-        unfolding printIn
+      module _ (table : List ℕ) (room : tableSize ≤ length table) {place : ℕ}
+          (is-place : place ≡ firstFault (difference 1 s (tableText (take size cells) shape worst)) (take size cells) shape worst) where
+        place-is : faultIn s ≡ place
+        unfolding faultIn printIn
         place-is =
             sym
-            (is-place ∙ ap (λ t. difference 1 s (tableText t shape worst)) cells-taken
-            ∙ ap (λ w. difference 1 s (tableText (cellsIn shape s) shape w)) is-worst
-            ∙ ap (λ h. difference 1 s (tableText (cellsIn h s) h (worstIn (h .rows) s))) is-shape)
+            (is-place ∙ ap (λ t. firstFault (difference 1 s (tableText t shape worst)) t shape worst) cells-taken
+            ∙ ap (λ w. firstFault (difference 1 s (tableText (cellsIn shape s) shape w)) (cellsIn shape s) shape w) is-worst
+            ∙ ap (λ (h : Shape). let w = worstIn (h .rows) s in firstFault (difference 1 s (tableText (cellsIn h s) h w)) (cellsIn h s) h w) is-shape)
 
         pub load-done : {n : ℕ} → n ≡ cond (eqb place 0) size 0 → (r : Loaded) → r ≡ loadedAt place shape worst
             → (after : List ℕ) → after ≡ written (take n cells) table → Loads s table r after

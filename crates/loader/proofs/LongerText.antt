@@ -1,4 +1,4 @@
--- A text that is longer than any print is answered by its beginning: one byte more than a print may have.
+-- A text that is longer than that of any table is answered by its beginning: one byte more than the text of a table may have.
 -- Assumes nothing.
 use Prim.Native.Nat.{ℕ, suc, _+_, _-_, _≤_, _<_}
 use native.Mathlib.Omega.{arith}
@@ -9,12 +9,12 @@ use lib.Seq.{length-take-le, take-append-add}
 use Rattle.lines.specs.Refusal.{Told}
 use Rattle.printer.specs.Limits.{textSize}
 use Rattle.printer.proofs.TextLaws.{text-fits}
-use Rattle.printer.proofs.WellFormedLaws.{printable-says}
-use Rattle.loader.specs.LoadedAs.{loadedBy, cellsBy, toldLoaded, IsPrint, Begins, FaultAt, LoadedAs, short-memory, bad-text, table}
+use Rattle.loader.specs.LoadedAs.{loadedBy, cellsBy, toldLoaded, IsText, Begins, FaultAt, bad-line, bad-worst, bad-rank}
+use Rattle.loader.specs.LoadedAs.{LoadedAs, short-memory, bad-text, table}
 use Rattle.loader.proofs.LoadedIffDue.{load-due, load-iff}
 
-print-fits : (s : List ℕ) → IsPrint s → length s ≤ textSize
-print-fits s (t, shape, worst, p, e) = subst (λ x. length x ≤ textSize) e (text-fits t shape worst (printable-says t shape worst .1 p))
+text-short : (s : List ℕ) → IsText s → length s ≤ textSize
+text-short s (t, shape, worst, is) = subst (λ x. length x ≤ textSize) (is .text) (text-fits t shape worst (is .shaped))
 
 module _ (s : List ℕ) (long : textSize < length s) where
   abbrev front : List ℕ
@@ -32,7 +32,7 @@ module _ (s : List ℕ) (long : textSize < length s) where
   begins-front : (k : ℕ) → Begins k s → Begins k front
   begins-front k b =
       let m = suc textSize - length (b .front) in
-      let fits = print-fits (b .front ++ b .other) (b .print) in
+      let fits = text-short (b .front ++ b .other) (b .table) in
       let e : suc textSize ≡ length (b .front) + m = omega (arith, fits, length-append (b .front) (b .other)) in
       record {
         front = b .front;
@@ -40,7 +40,7 @@ module _ (s : List ℕ) (long : textSize < length s) where
         rest = take m (b .rest);
         text = ap (λ n. take n s) e ∙ ap (take (length (b .front) + m)) (b .text) ∙ take-append-add (b .front) (b .rest) m;
         other = b .other;
-        print = b .print;
+        table = b .table;
       }
 
   begins-whole : (k : ℕ) → Begins k front → Begins k s
@@ -51,24 +51,24 @@ module _ (s : List ℕ) (long : textSize < length s) where
         rest = b .rest ++ back;
         text = whole ∙ ap (λ x. x ++ back) (b .text) ∙ append-assoc (b .front) (b .rest) back;
         other = b .other;
-        print = b .print;
+        table = b .table;
       }
 
+  no-text : ¬ IsText s
+  no-text is = let fits = text-short s is in omega arith
+
   fault-front : (place : ℕ) → FaultAt s place → FaultAt front place
-  fault-front place f =
-      record {
-        no-print = λ p. let fits = print-fits front p in omega (arith, front-length);
-        good = f .good;
-        next = f .next;
-        begins = begins-front (f .good) (f .begins);
-        greatest = λ j b. f .greatest j (begins-whole j b);
-      }
+  fault-front place (bad-line untold good begins greatest) =
+      bad-line (λ is. let fits = text-short front is in omega (arith, front-length)) good (begins-front good begins)
+      (λ j b. greatest j (begins-whole j b))
+  fault-front place (bad-worst t shape worst is m) = absurd (no-text (t, shape, worst, is))
+  fault-front place (bad-rank t shape worst is e i h m before) = absurd (no-text (t, shape, worst, is))
 
   carried : (room : ℕ) (a : Told) (cells : List ℕ) → LoadedAs room s a cells → LoadedAs room front a cells
   carried room a cells (short-memory h) = short-memory h
   carried room a cells (bad-text h place f) = bad-text h place (fault-front place f)
   carried room a c (table h shape worst cells is) =
-      absurd (let fits = print-fits s (cells, shape, worst, is .printable, is .prints) in omega arith)
+      absurd (no-text (cells, shape, worst, record { shaped = is .printable .shaped; text = is .prints }))
 
   pub longer-alike : (room : ℕ) → (toldLoaded (loadedBy room front) ≡ toldLoaded (loadedBy room s)) × (cellsBy room front ≡ cellsBy room s)
   longer-alike room =

@@ -10,7 +10,7 @@ use Rattle.lines.specs.Refusal.{Told, values, refused}
 use Rattle.play.specs.Cells.{rowSize, tableSize}
 use Rattle.printer.specs.Limits.{textSize}
 use Rattle.printer.specs.Text.{tableText}
-use Rattle.printer.specs.WellFormed.{Printable}
+use Rattle.wellformed.specs.WellFormed.{Printable}
 use Rattle.tables.specs.declared.shape.Shape.{Shape}
 use Rattle.loader.specs.declared.loading.Loaded.the-variants.{Table}
 use Rattle.loader.specs.LoadedAs.{loadedBy, cellsBy, tableAfter, toldLoaded, IsPrint, TableOf, toldShape, FaultAt, LoadedAs}
@@ -34,7 +34,7 @@ module _ (s : List ℕ) (room : ℕ) (enough : tableSize ≤ room) where
       → ((loadedBy room s ≡ Table shape worst) × (cellsBy room s ≡ cells)) ↔ TableOf s shape worst cells
   loaded = LoadedIffDue.loaded-iff s room enough
 
-  -- 17 is at one line more than the greatest number of leading lines that also begin some print
+  -- 17 is at the line at fault: the first that no table's text has, else the first whose ranks are not as they must be
   pub bad-text : (place : ℕ) → (toldLoaded (loadedBy room s) ≡ refused 17 place) ↔ FaultAt s place
   bad-text = LoadedIffDue.fault-iff s room enough
 

@@ -1,6 +1,6 @@
--- The lines of a print, and their fields.
+-- The lines of a table's text, and their fields.
 -- Assumes nothing.
-use Prim.Native.Nat.{ℕ, suc, _+_, _-_, _^_, _≤_, _<_}
+use Prim.Native.Nat.{ℕ, suc, _+_, _^_, _≤_, _<_}
 use native.Mathlib.Omega.{arith}
 use mathlib.Core.Path.{_≡_, refl, ap, _∙_}
 use mathlib.Core.Bool.{Bool, true}
@@ -15,7 +15,7 @@ use Rattle.basics.specs.declared.order.Order.{Order}
 use Rattle.basics.specs.declared.order.Order.the-variants.{Set, Read}
 use Rattle.basics.proofs.Booleans.{cond-elim}
 use Rattle.basics.proofs.PiecesLaws.{unparted-append, unparted-decimal, AllUnparted, unparted-table, unparted-fields, field-of}
-use Rattle.play.specs.Cells.{cell, isStop}
+use Rattle.play.specs.Cells.{cell, isStop, rankCell}
 use Rattle.printer.specs.Text.{shownFrom, shownCount, shownFields, rowFields, rowText, tableWord, tableText}
 use Rattle.tables.specs.declared.shape.Shape.{Shape}
 use Rattle.loader.specs.LoadedAs.{Lines}
@@ -66,30 +66,44 @@ module _ (o : Order) (rows worst : ℕ) where
 -- ---- the line of a row without its end
 
 abbrev pub rowBody : List ℕ → Shape → ℕ → List ℕ
-rowBody t shape i = bytesOf "row" ++ flatMap field (decimal i ∷ rowFields t shape i)
+rowBody t shape i = bytesOf "row" ++ flatMap field (decimal i ∷ decimal (rankCell (shape .order) t i) ∷ rowFields t shape i)
 
 module _ (t : List ℕ) (shape : Shape) (i : ℕ) where
-  fields-whole : (p : ℕ → Bool) → ((b : ℕ) → 48 ≤ b → b < 58 → p b ≡ true) → Unparted p (bytesOf "stop") → AllUnparted p (rowFields t shape i)
+  -- the rank and what the row does
+  abbrev rankFields : List (List ℕ)
+  rankFields = decimal (rankCell (shape .order) t i) ∷ rowFields t shape i
+
+  fields-whole : (p : ℕ → Bool) → ((b : ℕ) → 48 ≤ b → b < 58 → p b ≡ true) → Unparted p (bytesOf "stop") → AllUnparted p (decimal i ∷ rankFields)
   fields-whole p digit word =
       let o = shape .order in
-      let n = 2 ^ (shape .observed) in
-      cond-elim (AllUnparted p) (isStop o t i) (bytesOf "stop" ∷ []) (shownFields o t i n) (λ e. (word, tt))
-      (λ e. unparted-table p (shownCount o n) (λ k. decimal (cell o t i (shownFrom o + k)))
-      (λ k. unparted-decimal p digit (cell o t i (shownFrom o + k))))
+      let n = 2 ^ (shape .observed) in (
+        unparted-decimal p digit i,
+        (
+          unparted-decimal p digit (rankCell o t i),
+          cond-elim (AllUnparted p) (isStop o t i) (bytesOf "stop" ∷ []) (shownFields o t i n) (λ e. (word, tt))
+              (λ e. unparted-table p (shownCount o n) (λ k. decimal (cell o t i (shownFrom o + k)))
+              (λ k. unparted-decimal p digit (cell o t i (shownFrom o + k)))),
+        ),
+      )
 
   row-whole : Unparted notLineEnd (rowBody t shape i)
   row-whole =
-      unparted-append notLineEnd (bytesOf "row") (flatMap field (decimal i ∷ rowFields t shape i)) (refl, (refl, (refl, tt)))
-      (unparted-fields notLineEnd refl (decimal i ∷ rowFields t shape i)
-      (unparted-decimal notLineEnd no-end i, fields-whole notLineEnd no-end (refl, (refl, (refl, (refl, tt))))))
+      unparted-append notLineEnd (bytesOf "row") (flatMap field (decimal i ∷ rankFields)) (refl, (refl, (refl, tt)))
+      (unparted-fields notLineEnd refl (decimal i ∷ rankFields) (fields-whole notLineEnd no-end (refl, (refl, (refl, (refl, tt))))))
 
-  -- what stands behind the row's number
-  pub row-field : (k : ℕ) → fieldAt (2 + k) (rowBody t shape i) ≡ getD (rowFields t shape i) k []
+  body-field : (k : ℕ) → fieldAt k (rowBody t shape i) ≡ getD (bytesOf "row" ∷ decimal i ∷ rankFields) k []
+  body-field =
+      field-of (bytesOf "row") (decimal i ∷ rankFields) (refl, (refl, (refl, tt)))
+      (fields-whole notTab no-tab (refl, (refl, (refl, (refl, tt)))))
+
+  -- what stands behind the row's number: the rank, and then what it does
+  pub rank-field : fieldAt 2 (rowBody t shape i) ≡ decimal (rankCell (shape .order) t i)
+  rank-field = body-field 2
+
+  pub row-field : (k : ℕ) → fieldAt (3 + k) (rowBody t shape i) ≡ getD (rowFields t shape i) k []
   row-field k =
-      let e : 2 + k ≡ suc (suc k) = omega arith in
-      ap (λ n. fieldAt n (rowBody t shape i)) e
-      ∙ field-of (bytesOf "row") (decimal i ∷ rowFields t shape i) (refl, (refl, (refl, tt)))
-      (unparted-decimal notTab no-tab i, fields-whole notTab no-tab (refl, (refl, (refl, (refl, tt))))) (suc (suc k))
+      let e : 3 + k ≡ suc (suc (suc k)) = omega arith in
+      ap (λ n. fieldAt n (rowBody t shape i)) e ∙ body-field (suc (suc (suc k)))
 
 -- ---- all lines
 

@@ -1,13 +1,14 @@
--- What a print says is read back, line by line: a text that begins with lines of some print is compared with a print that begins so too.
+-- What the text of a table says is read back, line by line, whatever its ranks: a text that begins with lines of the text of some table is
+-- compared with a print that begins so too.
 -- Assumes nothing.
-use Prim.Native.Nat.{ℕ, zero, suc, _+_, _^_, _≤_, _<_}
+use Prim.Native.Nat.{ℕ, zero, suc, _+_, _*_, _^_, _≤_, _<_}
 use native.Mathlib.Decide.{decLe}
 use native.Mathlib.Omega.{arith}
-use mathlib.Core.Path.{_≡_, refl, sym, ap, ap₂, _∙_}
+use mathlib.Core.Path.{_≡_, refl, sym, ap, ap₂, _∙_, subst}
 use mathlib.Core.Logic.{inl, inr}
 use mathlib.Core.Bool.{Bool, true, false, not}
 use mathlib.Core.List.{List, [], _∷_, _++_, append-nil, flatMap}
-use lib.ListN.{getD}
+use lib.ListN.{getD, take}
 use borrow.Author.Tests.{eqb-true}
 use Rattle.basics.specs.Bounded.{firstThat, all}
 use Rattle.basics.specs.Bytes.{bytesOf, notTab}
@@ -19,18 +20,18 @@ use Rattle.basics.specs.declared.order.Order.{Order}
 use Rattle.basics.proofs.Booleans.{test, clash}
 use Rattle.basics.proofs.BoundedLaws.{first-of, first-least, none-first, all-at, all-not}
 use Rattle.basics.proofs.PiecesLaws.{piece-last, behind-none}
-use Rattle.play.specs.Cells.{stopCell, firstCell, isStop}
+use Rattle.play.specs.Cells.{rowSize, stopCell, firstCell, isStop}
 use Rattle.printer.specs.Text.{shownCount, tableText}
-use Rattle.printer.specs.WellFormed.{Printable}
+use Rattle.wellformed.specs.WellFormed.{Shaped}
 use Rattle.tables.specs.declared.shape.Shape.{Shape}
 use Rattle.loader.specs.Candidate.{saysStop, rowIn, observedIn, orderIn, rowsIn, goesOn, shapeIn, worstIn, cellsIn, printIn}
-use Rattle.loader.specs.LoadedAs.{TableOf, Lines}
+use Rattle.loader.specs.LoadedAs.{Lines, TextOf, toldShape}
 use Rattle.loader.proofs.WholeLines.{lines-same, lines-most, lines-begin}
 use Rattle.loader.proofs.PrintLines.{headBody, rowBody, print-lines, print-head, print-row, print-end}
 use Rattle.loader.proofs.CandidateLaws.{cells-length}
 use Rattle.loader.proofs.CandidatePrint.{cell-is}
 use Rattle.loader.proofs.RowBack.{order-back, rows-back, worst-back, stop-line, move-line, observed-back, withObserved, row-back}
-use Rattle.loader.proofs.SameRows.{SameRow, same-tables, same-fields}
+use Rattle.loader.proofs.SameRows.{SameRow, same-tables, same-fields, SameRanks, Said, tells}
 
 -- what a text is compared with, by the shape and the worst case that it says
 printed : (s : List ℕ) (shape : Shape) (worst : ℕ) → shapeIn s ≡ shape → worstIn (shape .rows) s ≡ worst
@@ -39,9 +40,9 @@ unfolding printIn
 printed s shape worst e q =
     ap (λ (x : Shape). tableText (cellsIn x s) x (worstIn (x .rows) s)) e ∙ ap (tableText (cellsIn shape s) shape) q
 
--- ---- a text whose lines are those of a print, as far as row m
+-- ---- a text whose lines are those of a table's text, as far as row m
 
-module _ (t : List ℕ) (shape : Shape) (worst : ℕ) (p : Printable t shape worst) (s : List ℕ) where
+module _ (t : List ℕ) (shape : Shape) (worst : ℕ) (p : Shaped t shape worst) (s : List ℕ) where
   abbrev o : Order
   o = shape .order
 
@@ -118,8 +119,8 @@ module _ (t : List ℕ) (shape : Shape) (worst : ℕ) (p : Printable t shape wor
 
 -- ---- what a text begins with
 
--- the first lines of a text that some print has too stand in front of the print that the text is compared with
-pub begins-so : (t : List ℕ) (shape : Shape) (worst : ℕ) → Printable t shape worst → (j : ℕ) (u v w s : List ℕ) → Lines j u → s ≡ u ++ v
+-- the first lines of a text that the text of some table has too stand in front of the print that the text is compared with
+pub begins-so : (t : List ℕ) (shape : Shape) (worst : ℕ) → Shaped t shape worst → (j : ℕ) (u v w s : List ℕ) → Lines j u → s ≡ u ++ v
     → tableText t shape worst ≡ u ++ w → (x : List ℕ) × (printIn s ≡ u ++ x)
 begins-so t shape worst p zero u v w s ls es et = (printIn s, ap (λ (a : List ℕ). a ++ printIn s) (sym ls))
 begins-so t shape worst p (suc j) u v w s ls es et =
@@ -160,20 +161,20 @@ begins-so t shape worst p (suc j) u v w s ls es et =
         ∙ same-row t shape worst p s first i b (λ k l. row-line k (omega arith))
         ∙ sym (print-row t shape worst i b) ∙ in-front (suc i) h
 
--- ---- a whole print
+-- ---- the whole text of a table
 
 -- nothing is told by an empty line
 observed-none : (o : Order) (k : ℕ) → observedIn o k [] ≡ 0
 unfolding observedIn
 observed-none o zero = refl
 observed-none o (suc k) =
-    let n = 1 + shownCount o (2 ^ suc k) in
+    let n = 2 + shownCount o (2 ^ suc k) in
     let none : fieldAt n [] ≡ [] = ap (piece notTab) (behind-none notTab n) ∙ piece-last notTab [] tt in
     rw none (observed-none o k)
 
-module _ (s : List ℕ) (shape : Shape) (worst : ℕ) (cells : List ℕ) (p : Printable cells shape worst) (prints : tableText cells shape worst ≡ s) where
+module _ (s : List ℕ) (shape : Shape) (worst : ℕ) (cells : List ℕ) (is : TextOf s cells shape worst) where
   line-is : (i : ℕ) → lineAt i s ≡ lineAt i (tableText cells shape worst)
-  line-is i = ap (lineAt i) (sym prints)
+  line-is i = ap (lineAt i) (sym (is .text))
 
   first : lineAt 0 s ≡ headBody (shape .order) (shape .rows) worst
   first = line-is 0 ∙ print-head cells shape worst
@@ -185,27 +186,27 @@ module _ (s : List ℕ) (shape : Shape) (worst : ℕ) (cells : List ℕ) (p : Pr
   pub none-told : ((i : ℕ) → i < shape .rows → isStop (shape .order) cells i ≡ true) → shapeIn s .observed ≡ 0
   unfolding shapeIn goesOn
   none-told stop =
-      let rows : rowsIn (lineAt 0 s) ≡ shape .rows = same-rows cells shape worst p s first in
+      let rows : rowsIn (lineAt 0 s) ≡ shape .rows = same-rows cells shape worst (is .shaped) s first in
       let last : firstThat (goesOn s) (rowsIn (lineAt 0 s)) ≡ shape .rows =
       none-first (goesOn s) (rowsIn (lineAt 0 s)) (λ i h.
       let b : i < shape .rows = omega (arith, rows, h) in
-      ap (λ l. not (saysStop l)) (row-is i b) ∙ ap not (stop-line cells shape worst p i b (stop i b)))
+      ap (λ l. not (saysStop l)) (row-is i b) ∙ ap not (stop-line cells shape worst (is .shaped) i b (stop i b)))
       ∙ rows in
       let q = orderIn (lineAt 0 s) in
       ap (λ n. observedIn q kindLimit (lineAt (suc n) s)) last
       ∙ ap (observedIn q kindLimit) (line-is (suc (shape .rows)) ∙ print-end cells shape worst)
       ∙ observed-none q kindLimit
 
--- the text of a table says that table, and is its own print
-module _ (s : List ℕ) (shape : Shape) (worst : ℕ) (cells : List ℕ) (is : TableOf s shape worst cells) where
-  abbrev p : Printable cells shape worst
-  p = is .printable
+-- a text says the table that it tells, and is its own print
+module _ (s : List ℕ) (shape : Shape) (worst : ℕ) (cells : List ℕ) (said : Said s shape worst cells) where
+  abbrev p : Shaped cells shape worst
+  p = said .is .shaped
 
   head-is : lineAt 0 s ≡ headBody (shape .order) (shape .rows) worst
-  head-is = first s shape worst cells p (is .prints)
+  head-is = first s shape worst cells (said .is)
 
   line-of-row : (i : ℕ) → i < shape .rows → lineAt (suc i) s ≡ rowBody cells shape i
-  line-of-row = row-is s shape worst cells p (is .prints)
+  line-of-row = row-is s shape worst cells (said .is)
 
   -- some row goes on, or none does
   observed-is : shapeIn s .observed ≡ shape .observed
@@ -214,8 +215,8 @@ module _ (s : List ℕ) (shape : Shape) (worst : ℕ) (cells : List ℕ) (is : T
       elim (test (all (shape .rows) stops)) [
         | inl e ↦
             let stop : (i : ℕ) → i < shape .rows → stops i ≡ true = all-at (shape .rows) stops e in
-            none-told s shape worst cells p (is .prints) stop
-            ∙ sym (is .untold (λ i h. eqb-true (firstCell (shape .order) cells i) stopCell (stop i h)))
+            none-told s shape worst cells (said .is) stop
+            ∙ sym (said .untold (λ i h. eqb-true (firstCell (shape .order) cells i) stopCell (stop i h)))
         | inr e ↦
             let (m, h, f) = all-not (shape .rows) stops e in
             same-observed cells shape worst p s head-is m h (λ i l. line-of-row i (omega (arith, h))) f
@@ -229,7 +230,7 @@ module _ (s : List ℕ) (shape : Shape) (worst : ℕ) (cells : List ℕ) (is : T
 
   said-cells : cellsIn shape s ≡ cells
   said-cells =
-      same-tables (shape .order) (shape .rows) cells (cellsIn shape s) (is .exact) (cells-length shape s)
+      same-tables (shape .order) (shape .rows) cells (cellsIn shape s) (said .exact) (cells-length shape s)
       (λ i h. row-cells cells shape worst p s (shape .observed) i h (line-of-row i h) (λ f. refl))
 
   pub cells-are : cellsIn (shapeIn s) s ≡ cells
@@ -237,4 +238,24 @@ module _ (s : List ℕ) (shape : Shape) (worst : ℕ) (cells : List ℕ) (is : T
 
   pub own-print : printIn s ≡ s
   own-print =
-      printed s shape worst shape-is (same-worst cells shape worst p s head-is) ∙ ap (λ c. tableText c shape worst) said-cells ∙ is .prints
+      printed s shape worst shape-is (same-worst cells shape worst p s head-is) ∙ ap (λ c. tableText c shape worst) said-cells ∙ said .is .text
+
+-- the text of any table: what it tells has the same ranks
+module _ (s t : List ℕ) (shape : Shape) (worst : ℕ) (is : TextOf s t shape worst) where
+  abbrev rows : List ℕ
+  rows = take (shape .rows * rowSize (shape .order)) t
+
+  told-rows : Said s (toldShape t shape) worst rows
+  told-rows = subst (λ (x : List ℕ). Said x (toldShape t shape) worst rows) (is .text) (tells t shape worst (is .shaped) .0)
+
+  pub text-print : printIn s ≡ s
+  text-print = own-print s (toldShape t shape) worst rows told-rows
+
+  pub text-worst : worstIn (shapeIn s .rows) s ≡ worst
+  text-worst = worst-is s (toldShape t shape) worst rows told-rows
+
+  pub text-ranks : SameRanks t shape (cellsIn (shapeIn s) s) (shapeIn s)
+  text-ranks =
+      subst (λ (x : Shape). SameRanks t shape (cellsIn (shapeIn s) s) x) (sym (shape-is s (toldShape t shape) worst rows told-rows))
+      (subst (λ (c : List ℕ). SameRanks t shape c (toldShape t shape)) (sym (cells-are s (toldShape t shape) worst rows told-rows))
+      (tells t shape worst (is .shaped) .1))

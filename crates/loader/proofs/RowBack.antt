@@ -1,4 +1,4 @@
--- The first line of a print and the lines of its rows, read back.
+-- The first line of a table's text and the lines of its rows, read back.
 -- Assumes nothing.
 use Prim.Native.Nat.{ℕ, zero, suc, _+_, _-_, _^_, _≤_, _<_}
 use native.Mathlib.Decide.{decLe}
@@ -22,14 +22,15 @@ use Rattle.basics.proofs.ListsLaws.{length-tabulate, getD-tabulate}
 use Rattle.basics.proofs.NumbersLaws.{below-decimal, decimal-some}
 use Rattle.basics.proofs.PiecesLaws.{unparted-decimal}
 use Rattle.play.specs.Limits.{beliefLimit}
-use Rattle.play.specs.Cells.{rowSize, stopCell, cell, firstCell, isStop}
+use Rattle.play.specs.Cells.{rankAt, rowSize, stopCell, cellLimit, cell, firstCell, isStop, rankCell}
+use Rattle.play.proofs.CellsLaws.{rank-last}
 use Rattle.printer.specs.Text.{shownFrom, shownCount, shownFields, tableWord}
-use Rattle.printer.specs.WellFormed.{Printable}
+use Rattle.wellformed.specs.WellFormed.{Shaped}
 use Rattle.tables.specs.declared.shape.Shape.{Shape}
-use Rattle.loader.specs.Candidate.{saysStop, isShown, limitAt, moveIn, rowIn, observedIn, orderIn, rowsIn}
+use Rattle.loader.specs.Candidate.{saysStop, rankIn, isShown, limitAt, moveIn, rowIn, observedIn, orderIn, rowsIn}
 use Rattle.loader.proofs.ShownCells.{Shown, shown-says, limit-few, stop-zero, shown-low, hidden-zero}
-use Rattle.loader.proofs.PrintLines.{headBody, head-word, head-rows, head-worst, rowBody, row-field}
-use Rattle.loader.proofs.CandidateLaws.{move-shown, move-hidden, row-stop, row-rest, row-move}
+use Rattle.loader.proofs.PrintLines.{headBody, head-word, head-rows, head-worst, rowBody, rank-field, row-field}
+use Rattle.loader.proofs.CandidateLaws.{move-shown, move-hidden, row-rank, row-stop, row-rest, row-move}
 
 -- ---- the first line
 
@@ -86,7 +87,7 @@ count-more : (o : Order) (m n : ℕ) → m < n → shownCount o m ≤ shownCount
 count-more Set m n h = omega arith
 count-more Read m n h = omega arith
 
-module _ (t : List ℕ) (shape : Shape) (worst : ℕ) (p : Printable t shape worst) (i : ℕ) (h : i < shape .rows) where
+module _ (t : List ℕ) (shape : Shape) (worst : ℕ) (p : Shaped t shape worst) (i : ℕ) (h : i < shape .rows) where
   abbrev body : List ℕ
   body = rowBody t shape i
 
@@ -95,6 +96,12 @@ module _ (t : List ℕ) (shape : Shape) (worst : ℕ) (p : Printable t shape wor
 
   abbrev count : ℕ
   count = 2 ^ (shape .observed)
+
+  rank-back : rankIn body ≡ rankCell o t i
+  unfolding rankIn
+  rank-back =
+      let low = p .each i h .rank in
+      ap (numberBelow cellLimit) (rank-field t shape i) ∙ below-decimal cellLimit (rankCell o t i) low (omega (arith, low))
 
   pub stop-line : isStop o t i ≡ true → saysStop body ≡ true
   unfolding saysStop
@@ -106,10 +113,10 @@ module _ (t : List ℕ) (shape : Shape) (worst : ℕ) (p : Printable t shape wor
     abbrev shown : ℕ → List ℕ
     shown j = decimal (cell o t i (shownFrom o + j))
 
-    shown-field : (j : ℕ) → fieldAt (2 + j) body ≡ getD (shownFields o t i count) j []
+    shown-field : (j : ℕ) → fieldAt (3 + j) body ≡ getD (shownFields o t i count) j []
     shown-field j = row-field t shape i j ∙ rw goes refl
 
-    shown-is : (j : ℕ) → j < shownCount o count → fieldAt (2 + j) body ≡ shown j
+    shown-is : (j : ℕ) → j < shownCount o count → fieldAt (3 + j) body ≡ shown j
     shown-is j b = shown-field j ∙ getD-tabulate (shownCount o count) shown j [] b
 
     pub move-line : saysStop body ≡ false
@@ -120,8 +127,8 @@ module _ (t : List ℕ) (shape : Shape) (worst : ℕ) (p : Printable t shape wor
     no-stop : ¬ (firstCell o t i ≡ stopCell)
     no-stop = eqb-false (firstCell o t i) stopCell goes
 
-    -- its cells, for as many observations and rows
-    pub move-back : (k : ℕ) → k < rowSize o → moveIn o count (shape .rows) body k ≡ cell o t i k
+    -- its cells before the rank, for as many observations and rows
+    pub move-back : (k : ℕ) → k < rankAt o → moveIn o count (shape .rows) body k ≡ cell o t i k
     move-back k b =
         elim (test (isShown o count k)) [
           | inl e ↦
@@ -138,10 +145,10 @@ module _ (t : List ℕ) (shape : Shape) (worst : ℕ) (p : Printable t shape wor
         ]
 
     -- the last field for 2 ^ k observations is there up to the number of observed signals
-    last-field : (k : ℕ) → fieldAt (1 + shownCount o (2 ^ k)) body ≡ getD (shownFields o t i count) (shownCount o (2 ^ k) - 1) []
+    last-field : (k : ℕ) → fieldAt (2 + shownCount o (2 ^ k)) body ≡ getD (shownFields o t i count) (shownCount o (2 ^ k) - 1) []
     last-field k =
         let some = count-some o (2 ^ k) (pow-pos k) in
-        let e : 1 + shownCount o (2 ^ k) ≡ 2 + (shownCount o (2 ^ k) - 1) = omega arith in
+        let e : 2 + shownCount o (2 ^ k) ≡ 3 + (shownCount o (2 ^ k) - 1) = omega arith in
         ap (λ n. fieldAt n body) e ∙ shown-field (shownCount o (2 ^ k) - 1)
 
     no-field : (j : ℕ) → shownCount o count ≤ j → getD (shownFields o t i count) j [] ≡ []
@@ -155,30 +162,41 @@ module _ (t : List ℕ) (shape : Shape) (worst : ℕ) (p : Printable t shape wor
         elim (decLe (shape .observed) k) [
           | yes l ↦
               let wide : count < 2 ^ suc k = pow-lt {i = shape .observed} {j = suc k} (omega arith) in
-              let none : fieldAt (1 + shownCount o (2 ^ suc k)) body ≡ [] = last-field (suc k) ∙ no-field m (count-more o count (2 ^ suc k) wide) in
+              let none : fieldAt (2 + shownCount o (2 ^ suc k)) body ≡ [] = last-field (suc k) ∙ no-field m (count-more o count (2 ^ suc k) wide) in
               rw none (observed-back k l)
           | no x ↦
               let e : shape .observed ≡ suc k = omega arith in
               let q : shownCount o count ≡ shownCount o (2 ^ suc k) = ap (λ n. shownCount o (2 ^ n)) e in
               let inside : m < shownCount o count = omega (arith, q, count-some o (2 ^ suc k) (pow-pos (suc k))) in
-              let some : fieldAt (1 + shownCount o (2 ^ suc k)) body ≡ shown m =
+              let some : fieldAt (2 + shownCount o (2 ^ suc k)) body ≡ shown m =
               last-field (suc k) ∙ getD-tabulate (shownCount o count) shown m [] inside in
               rw (some, lt-ltb 0 (length (shown m)) (omega (arith, decimal-some (cell o t i (shownFrom o + m))))) (sym e)
         ]
 
   -- all its cells, by a shape that has the right number of observed signals if the row goes on
-  pub row-back : (x : ℕ) → (isStop o t i ≡ false → x ≡ shape .observed) → (k : ℕ) → k < rowSize o
-      → getD (rowIn (withObserved shape x) body) k 0 ≡ cell o t i k
-  row-back x same k b =
-      elim (test (isStop o t i)) [
-        | inl e ↦ stopped (eqb-true (firstCell o t i) stopCell e) (stop-line e) k b
-        | inr e ↦
-            row-move (withObserved shape x) body (move-line e) k b
-            ∙ ap (λ (m : ℕ). moveIn o (2 ^ m) (shape .rows) body k) (same e) ∙ move-back e k b
-      ]
-    where
-      stopped : firstCell o t i ≡ stopCell → saysStop body ≡ true → (k : ℕ) → k < rowSize o
-          → getD (rowIn (withObserved shape x) body) k 0 ≡ cell o t i k
-      stopped e says zero b = row-stop (withObserved shape x) body says ∙ sym e
-      stopped e says (suc k) b =
-          row-rest (withObserved shape x) body says (suc k) (omega arith) ∙ sym (stop-zero t shape i (p .each i h) e (suc k) b (omega arith))
+  module _ (x : ℕ) (same : isStop o t i ≡ false → x ≡ shape .observed) where
+    abbrev read : List ℕ
+    read = rowIn (withObserved shape x) body
+
+    stopped : firstCell o t i ≡ stopCell → saysStop body ≡ true → (k : ℕ) → k < rankAt o → getD read k 0 ≡ cell o t i k
+    stopped e says zero b = row-stop (withObserved shape x) body says ∙ sym e
+    stopped e says (suc k) b =
+        row-rest (withObserved shape x) body says (suc k) (omega arith) b ∙ sym (stop-zero t shape i (p .each i h) e (suc k) b (omega arith))
+
+    other-back : (k : ℕ) → k < rankAt o → getD read k 0 ≡ cell o t i k
+    other-back k b =
+        elim (test (isStop o t i)) [
+          | inl e ↦ stopped (eqb-true (firstCell o t i) stopCell e) (stop-line e) k b
+          | inr e ↦
+              row-move (withObserved shape x) body (move-line e) k b
+              ∙ ap (λ (m : ℕ). moveIn o (2 ^ m) (shape .rows) body k) (same e) ∙ move-back e k b
+        ]
+
+    pub row-back : (k : ℕ) → k < rowSize o → getD read k 0 ≡ cell o t i k
+    row-back k b =
+        elim (decLe (suc k) (rankAt o)) [
+          | yes l ↦ other-back k l
+          | no l ↦
+              let last : rankAt o ≡ k = omega (arith, rank-last o) in
+              subst (λ (j : ℕ). getD read j 0 ≡ cell o t i j) last (row-rank (withObserved shape x) body ∙ rank-back)
+        ]

@@ -1,4 +1,5 @@
--- Which cells of a row are printed, and what they can hold: those of the possible observations; the others of a row that goes on are 0.
+-- Which cells of a row are printed behind its rank, and what they can hold: those of the possible observations; the others of a row that
+-- goes on are 0.
 -- Assumes nothing.
 use Prim.Native.Nat.{ℕ, zero, suc, _+_, _*_, _%_, _^_, _≤_, _<_}
 use native.Mathlib.Decide.{decLe}
@@ -15,9 +16,9 @@ use Rattle.basics.specs.declared.order.Order.the-variants.{Set, Read}
 use Rattle.basics.proofs.Booleans.{cond-elim}
 use Rattle.basics.proofs.SaysLaws.{says-and, le-says, lt-says}
 use Rattle.play.specs.Limits.{beliefLimit, sideLimit}
-use Rattle.play.specs.Cells.{choiceAt, nextAt, rowSize, stopCell, cell, firstCell, Blank}
+use Rattle.play.specs.Cells.{choiceAt, nextAt, rankAt, stopCell, cell, firstCell, Blank}
 use Rattle.printer.specs.Text.{shownFrom, shownCount}
-use Rattle.printer.specs.WellFormed.{IsFirst, PrintableRow}
+use Rattle.wellformed.specs.WellFormed.{IsFirst, ShapedRow}
 use Rattle.tables.specs.declared.shape.Shape.{Shape}
 use Rattle.loader.specs.Candidate.{isShown, limitAt}
 
@@ -64,10 +65,10 @@ abbrev pub OwnAt : Order → ℕ → ℕ → Type 0
 OwnAt Set s i = i ≡ nextAt Set s
 OwnAt Read s i = (i ≡ choiceAt Read s) ⊎ (i ≡ nextAt Read s)
 
-pub own-inside : (o : Order) (s i : ℕ) → s < sideLimit → OwnAt o s i → i < rowSize o
-own-inside Set s i h e = omega arith
-own-inside Read s i h (inl e) = omega arith
-own-inside Read s i h (inr e) = omega arith
+pub own-before : (o : Order) (s i : ℕ) → s < sideLimit → OwnAt o s i → i < rankAt o
+own-before Set s i h e = omega arith
+own-before Read s i h (inl e) = omega arith
+own-before Read s i h (inr e) = omega arith
 
 pub own-some : (o : Order) (s i : ℕ) → OwnAt o s i → 0 < i
 own-some Set s i e = omega arith
@@ -79,8 +80,8 @@ own-hidden Set n s i h e (l, b) = omega arith
 own-hidden Read n s i h (inl e) (l, b) = omega arith
 own-hidden Read n s i h (inr e) (l, b) = omega arith
 
--- a cell that is not printed is the first, or an own cell of another observation
-hidden-at : (o : Order) (n i : ℕ) → i < rowSize o → ¬ Shown o n i → (i ≡ 0) ⊎ ((s : ℕ) × (s < sideLimit) × (n ≤ s) × OwnAt o s i)
+-- a cell that is not printed, and not the rank, is the first, or an own cell of another observation
+hidden-at : (o : Order) (n i : ℕ) → i < rankAt o → ¬ Shown o n i → (i ≡ 0) ⊎ ((s : ℕ) × (s < sideLimit) × (n ≤ s) × OwnAt o s i)
 hidden-at Set n zero b h = inl refl
 hidden-at Set n (suc s) b h =
     elim (decLe n s) [
@@ -141,14 +142,14 @@ limit-some o rows i h = limit-cases (λ k. 0 < k) o rows i (omega arith) h
 pub limit-few : (o : Order) (rows i : ℕ) → rows ≤ beliefLimit → limitAt o rows i ≤ beliefLimit
 limit-few o rows i h = limit-cases (λ k. k ≤ beliefLimit) o rows i (omega arith) h
 
--- ---- the cells of a row that can be printed
+-- ---- the cells of a row before its rank, which is any
 
 first-zero : (o : Order) (n c : ℕ) → ¬ Shown o n 0 → IsFirst o c → ¬ (c ≡ stopCell) → c ≡ 0
 first-zero Set n c h f m = absurd (h (omega arith, omega arith))
 first-zero Read n c h (inl l) m = omega arith
 first-zero Read n c h (inr e) m = absurd (m e)
 
-module _ (t : List ℕ) (shape : Shape) (row : ℕ) (p : PrintableRow t shape row) where
+module _ (t : List ℕ) (shape : Shape) (row : ℕ) (p : ShapedRow t shape row) where
   abbrev o : Order
   o = shape .order
 
@@ -156,7 +157,7 @@ module _ (t : List ℕ) (shape : Shape) (row : ℕ) (p : PrintableRow t shape ro
   n = 2 ^ (shape .observed)
 
   -- where it stops, all but the first are 0
-  pub stop-zero : firstCell o t row ≡ stopCell → (i : ℕ) → i < rowSize o → 0 < i → cell o t row i ≡ 0
+  pub stop-zero : firstCell o t row ≡ stopCell → (i : ℕ) → i < rankAt o → 0 < i → cell o t row i ≡ 0
   stop-zero e i b some =
       elim (hidden-at o 0 i b (none i some)) [
         | inl z ↦ absurd (omega arith)
@@ -174,15 +175,15 @@ module _ (t : List ℕ) (shape : Shape) (row : ℕ) (p : PrintableRow t shape ro
     pub shown-low : Shown o n i → cell o t row i < limitAt o (shape .rows) i
     shown-low h =
         let (s, b, at) = shown-at o n i (pow-pos (shape .observed)) h in
-        let g = p .good .goes goes s b in
+        let g = p .formed .goes s (goes, b) in
         elim at [
           | inl e ↦ subst (λ (k : ℕ). cell o t row k < limitAt o (shape .rows) k) (sym e) (rw (choice-limit o (shape .rows) s) (g .choice))
           | inr e ↦ subst (λ (k : ℕ). cell o t row k < limitAt o (shape .rows) k) (sym e) (rw (next-limit o (shape .rows) s) (g .next))
         ]
 
-    pub hidden-zero : i < rowSize o → ¬ Shown o n i → cell o t row i ≡ 0
+    pub hidden-zero : i < rankAt o → ¬ Shown o n i → cell o t row i ≡ 0
     hidden-zero b h =
         elim (hidden-at o n i b h) [
-          | inl z ↦ ap (cell o t row) z ∙ first-zero o n (firstCell o t row) (λ x. h (subst (Shown o n) (sym z) x)) (p .good .first) goes
+          | inl z ↦ ap (cell o t row) z ∙ first-zero o n (firstCell o t row) (λ x. h (subst (Shown o n) (sym z) x)) (p .formed .first) goes
           | inr (s, l, m, own) ↦ blank-own o t row s i (p .blank s l (inr m)) own
         ]

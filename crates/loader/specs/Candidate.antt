@@ -1,6 +1,6 @@
 -- The table that a text is compared with: what stands where a table's text has its numbers, brought within the limits, so that it can be
--- printed whatever the text is. Fields and lines are counted from 0: line 0 is the word that tells the order, the row count and the worst
--- case; line i + 1 is the word `row`, i, and `stop` or the printed cells.
+-- written as text whatever it is. Fields and lines are counted from 0: line 0 is the word that tells the order, the row count and the worst
+-- case; line i + 1 is the word `row`, i, the rank, and `stop` or the printed cells.
 -- Assumes nothing.
 use Prim.Native.Nat.{ℕ, zero, suc, _+_, _-_, _%_, _^_}
 use mathlib.Core.Bool.{Bool, cond, not, _&&_}
@@ -16,14 +16,18 @@ use Rattle.basics.specs.Pieces.{fieldAt, lineAt}
 use Rattle.basics.specs.declared.order.Order.{Order}
 use Rattle.basics.specs.declared.order.Order.the-variants.{Set, Read}
 use Rattle.play.specs.Limits.{beliefLimit, sideLimit}
-use Rattle.play.specs.Cells.{rowSize, stopRow}
+use Rattle.play.specs.Cells.{rowSize, cellLimit, stopRow, withRank}
 use Rattle.printer.specs.Text.{shownFrom, shownCount, tableWord, tableText}
 use Rattle.tables.specs.declared.shape.Shape.{Shape}
 
 -- ---- a row, from its line
 
 unfoldable pub saysStop : List ℕ → Bool
-saysStop l = sameBytes (fieldAt 2 l) (bytesOf "stop")
+saysStop l = sameBytes (fieldAt 3 l) (bytesOf "stop")
+
+-- the rank: any number that a cell can hold
+unfoldable pub rankIn : List ℕ → ℕ
+rankIn l = numberBelow cellLimit (fieldAt 2 l)
 
 -- cell i is printed, for n observations
 abbrev pub isShown : Order → ℕ → ℕ → Bool
@@ -34,18 +38,19 @@ abbrev pub limitAt : Order → (rows : ℕ) → ℕ → ℕ
 limitAt Set rows i = cond (eqb i 0) sideLimit rows
 limitAt Read rows i = cond (eqb (i % 2) 1) sideLimit rows
 
--- cell i of a row that goes on, for n observations: the first printed cell stands in field 2, and a cell that is not printed is 0
+-- cell i of a row that goes on, for n observations: the first printed cell stands in field 3, and a cell that is not printed is 0
 unfoldable pub moveIn : Order → (n rows : ℕ) → List ℕ → ℕ → ℕ
-moveIn o n rows l i = cond (isShown o n i) (numberBelow (limitAt o rows i) (fieldAt (2 + (i - shownFrom o)) l)) 0
+moveIn o n rows l i = cond (isShown o n i) (numberBelow (limitAt o rows i) (fieldAt (3 + (i - shownFrom o)) l)) 0
 
 unfoldable pub rowIn : Shape → List ℕ → List ℕ
 rowIn shape l =
-    cond (saysStop l) (stopRow (shape .order)) (tabulate (rowSize (shape .order)) (moveIn (shape .order) (2 ^ (shape .observed)) (shape .rows) l))
+    withRank (shape .order) (rankIn l)
+    (cond (saysStop l) (stopRow (shape .order)) (tabulate (rowSize (shape .order)) (moveIn (shape .order) (2 ^ (shape .observed)) (shape .rows) l)))
 
 -- the number of observed signals, at most k: by the last field of a row for 2 ^ k observations
 unfoldable pub observedIn : Order → ℕ → List ℕ → ℕ
 observedIn o zero l = 0
-observedIn o (suc k) l = cond (ltb 0 (length (fieldAt (1 + shownCount o (2 ^ suc k)) l))) (suc k) (observedIn o k l)
+observedIn o (suc k) l = cond (ltb 0 (length (fieldAt (2 + shownCount o (2 ^ suc k)) l))) (suc k) (observedIn o k l)
 
 -- ---- the table, from the text
 

@@ -1,5 +1,5 @@
 // The table that a text is compared with: what stands where a table's text has its numbers, brought within the limits. It is the text's own
-// table if the text has one, and one that can be printed in any case.
+// table if the text has one, and one that can be written as text in any case.
 ghost use mathlib.Core.Path.{_≡_};
 ghost use Prim.Native.Nat.{suc, _+_, _*_, _≤_, _<_};
 ghost use lib.ListN.{length, getD, drop};
@@ -7,10 +7,11 @@ ghost use lib.Seq.{sets};
 ghost use Rattle.basics.specs.Bytes.{notLineEnd};
 ghost use Rattle.basics.specs.Limits.{kindLimit};
 ghost use Rattle.basics.specs.Lists.{written};
-ghost use Rattle.basics.specs.Pieces.{behindAll};
+ghost use Rattle.basics.specs.Numbers.{numberBelow};
+ghost use Rattle.basics.specs.Pieces.{behindAll, fieldAt};
 ghost use Rattle.basics.specs.Bounded.{firstThat};
 ghost use Rattle.play.specs.Limits.{beliefLimit, sideLimit};
-ghost use Rattle.play.specs.Cells.{rowSize};
+ghost use Rattle.play.specs.Cells.{rowSize, cellLimit};
 ghost use Rattle.loader.specs.Candidate.{saysStop, limitAt, moveIn, rowIn, observedIn, orderIn, rowsIn, worstIn, shapeIn, cellsIn, goesOn};
 use basics::Class;
 use basics::KIND_LIMIT;
@@ -26,18 +27,32 @@ use tables::BELIEF_LIMIT;
 use tables::SIDE_LIMIT;
 use tables::STOP;
 use tables::Shape;
+use tables::rank_at;
 use tables::row_size;
 
 // ---- a row, from its line
 
-// The field of a row's line where `stop` or the first printed cell stands.
-const FIRST: usize = 2;
+// The fields of a row's line where the rank stands, and `stop` or the first printed cell.
+const RANK: usize = 2;
+
+const FIRST: usize = 3;
+
+// What a cell can hold is below this.
+const CELL_LIMIT: usize = 65536;
 
 // Whether it stops.
 fn says_stop(line: &[u8]) -> bool
     ensures { λ r. ⌜ r ≡ saysStop (now (line .entry)) ⌝ }
 {
     same(field(line, FIRST), b"stop")
+}
+
+// The number in a field, below a limit.
+fn number_at(line: &[u8], at: usize, limit: usize) -> u16
+    requires { ⌜ limit ≤ cellLimit ⌝ }
+    ensures { λ r. ⌜ r ≡ numberBelow limit (fieldAt at (now (line .entry))) ⌝ }
+{
+    number_below(field(line, at), limit) as u16
 }
 
 // What the number in cell i is below, for a choice and for a next row.
@@ -63,23 +78,26 @@ fn move_in(line: &[u8], order: Order, n: usize, rows: usize, i: usize) -> u16
         return 0;
     }
     let limit = limit_at(order, rows, i);
-    number_below(field(line, FIRST + (i - from)), limit) as u16
+    number_at(line, FIRST + (i - from), limit)
 }
 
-// Its cell i.
+// Its cell i, the rank among them.
 fn cell_in(line: &[u8], shape: Shape, i: usize) -> u16
     requires { ⌜ shape .observed ≤ kindLimit ⌝ }
     requires { ⌜ shape .rows ≤ beliefLimit ⌝ }
     requires { ⌜ i < rowSize (shape .order) ⌝ }
     ensures { λ r. ⌜ r ≡ getD (rowIn shape (now (line .entry))) i 0 ⌝ }
 {
+    let order = shape.order;
+    if i == rank_at(order) {
+        return number_at(line, RANK, CELL_LIMIT);
+    }
     if says_stop(line) {
         if i == 0 {
             return STOP;
         }
         return 0;
     }
-    let order = shape.order;
     move_in(line, order, 1 << shape.observed, shape.rows, i)
 }
 
@@ -106,7 +124,7 @@ fn observed_in(line: &[u8], order: Order) -> usize
 {
     let mut k = KIND_LIMIT;
     while k > 0 {
-        let last = 1 + shown_count(order, 1 << k);
+        let last = 2 + shown_count(order, 1 << k);
         if field(line, last).len() > 0 {
             return k;
         }

@@ -9,7 +9,7 @@ ghost use Rattle.loader.specs.LoadedAs.{loadedAt, loadedBy, tableAfter, 
 use crate::candidate::put_rows;
 use crate::candidate::shape_in;
 use crate::candidate::worst_in;
-use crate::comparing::compare_print;
+use crate::faults::fault_in;
 use lines::Refusal;
 use tables::Shape;
 use tables::TABLE_SIZE;
@@ -71,7 +71,7 @@ pub fn load(text: &[u8], table: &mut [u16]) -> Loaded
     put_rows(text, shape, &mut cells);
     let order = shape.order;
     let end = shape.rows * row_size(order);
-    let place = compare_print(text, &cells[..end], shape, worst);
+    let place = fault_in(text, &cells[..end], shape, worst);
     let n = count_at(place, end);
     copy(&cells[..n], table);
     answer_at(place, shape, worst)

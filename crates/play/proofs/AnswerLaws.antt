@@ -19,7 +19,7 @@ use Rattle.basics.proofs.EqualRows.{row-at}
 use Rattle.basics.proofs.MemberLaws.{in-tabulate}
 use Rattle.basics.proofs.ReachLaws.{closed-lists}
 use Rattle.play.specs.Limits.{sideLimit}
-use Rattle.play.specs.Cells.{stopCell}
+use Rattle.play.specs.Cells.{stopCell, rankCell}
 use Rattle.basics.specs.declared.order.Order.{Order}
 use Rattle.play.specs.Game.{Game}
 use Rattle.play.specs.Rank.{Arena, bestAnswer, best}
@@ -31,8 +31,8 @@ use Rattle.play.proofs.RankLaws.{In, HasRank}
 use Rattle.play.proofs.FiniteArena.{Closed}
 use Rattle.play.proofs.Optimality.{ordered, descends, best-optimal, no-rank-unrealizable, verdict}
 use Rattle.play.proofs.SameStrategy.{optimal-alike}
-use Rattle.play.proofs.RankedRows.{ranked-answer, rows-listed, rows-ranked, rows-le, rank-lt-rows}
-use Rattle.play.proofs.TableLaws.{table-laid, table-is-best}
+use Rattle.play.proofs.RankedRows.{rows-listed, rows-ranked, rows-le, rank-lt-rows}
+use Rattle.play.proofs.TableLaws.{first-rank, table-laid, table-is-best}
 
 -- all moves have every pair of a choice and an observation, and nothing else
 module _ (A : Arena) (same : A .K → A .K → Bool) (choices observations : ℕ) (k : A .K) where
@@ -96,6 +96,8 @@ module _ (o : Order) (G : Game) (some-observation : 0 < G .observations) (some-h
       ) in
       let (ks, e) = rows-listed (ordered o G) A same says some-observation all closed-all start-in n small (bestAnswer o A (G .choices) (G .observations) n)
       (descends o A (G .choices) (G .observations) n) r ranked start-rank in
+      let few = rank-lt-rows (ordered o G) A same says some-observation all closed-all start-in n small (bestAnswer o A (G .choices) (G .observations) n)
+      (descends o A (G .choices) (G .observations) n) r ranked start-rank ks e in
       let ranked-rows = rows-ranked (ordered o G) A same says some-observation all closed-all start-in n small (bestAnswer o A (G .choices) (G .observations) n)
       (descends o A (G .choices) (G .observations) n) r ranked start-rank ks e in
       let fewer = rows-le (ordered o G) A same says some-observation all closed-all start-in n small (bestAnswer o A (G .choices) (G .observations) n)
@@ -105,17 +107,16 @@ module _ (o : Order) (G : Game) (some-observation : 0 < G .observations) (some-h
             optimal-alike G (tableStrategy o cells) (best o A (G .choices) (G .observations) n (A .start))
             (table-is-best o A same says (G .choices) (G .observations) n some-observation few-choices few-observations ks e)
             r (best-optimal G o some-observation some-hidden A knows n r ranked start-rank);
-        below =
-            subst (λ l. r < length (listOf l)) (sym e)
-            (rank-lt-rows (ordered o G) A same says some-observation all closed-all start-in n small (bestAnswer o A (G .choices) (G .observations) n)
-            (descends o A (G .choices) (G .observations) n) r ranked start-rank ks e);
+        below = subst (λ l. r < length (listOf l)) (sym e) few;
+        first =
+            subst (λ l. rankCell o (flatMap (rowOf o A same (G .choices) (G .observations) n (listOf l)) (listOf l)) 0 ≡ r) (sym e)
+            (first-rank o A same says (G .choices) (G .observations) n some-observation few-choices few-observations ks e);
         within = subst (λ l. length (listOf l) ≤ limit) (sym e) (omega (arith, fewer));
         laid =
             subst (λ l. Laid o (G .choices) (G .observations) (length (listOf l))
             (flatMap (rowOf o A same (G .choices) (G .observations) n (listOf l)) (listOf l))) (sym e)
             (table-laid o A same says (G .choices) (G .observations) n some-observation few-choices few-observations ks e
-            (λ k m f s sb. ranked-answer (ordered o G) A (λ k. k ∈ all) closed-all n (bestAnswer o A (G .choices) (G .observations) n)
-            (descends o A (G .choices) (G .observations) n) k (ranked-rows k m) f s sb .0));
+            (λ k m. let (_, q, b, a) = ranked-rows k m in (q, omega (arith, few), a)) (omega (arith, fewer)));
       }
 
   pub verdict-right : Right limit o G (verdictOf o A same (G .choices) (G .observations) n)

@@ -10,12 +10,12 @@ use mathlib.Core.List.{List, []}
 use Rattle.basics.specs.declared.order.Order.{Order}
 use Rattle.basics.specs.declared.order.Order.the-variants.{Set, Read}
 use Rattle.play.specs.Limits.{sideLimit}
-use Rattle.play.specs.Cells.{rowSize, firstCell, choiceCell, nextCell, Blank}
+use Rattle.play.specs.Cells.{rowSize, firstCell, choiceCell, nextCell, rankCell, Blank}
 use Rattle.play.specs.History.{History, Possible, onward}
 use Rattle.play.specs.IsTable.{Before, MetFrom, IsTable}
 use Rattle.play.proofs.HistoryLaws.{possible-onward}
 use Rattle.play.proofs.CellsLaws.{first-same, blank-next, same-cells}
-use Rattle.play.proofs.OneChoice.{Congruence, takes-choice, one-choice}
+use Rattle.play.proofs.OneChoice.{Congruence, takes-choice, one-choice, one-rank}
 
 -- one pair of a row and an observation comes before the other, or they are equal
 either-before : (k u i s : ℕ) → Before k u i s ⊎ (Before i s k u ⊎ ((k ≡ i) × (u ≡ s)))
@@ -245,6 +245,11 @@ module _ (o : Order) (choices observations : ℕ) (Same : History → History �
             | inr (f, sb) ↦ sym (same-next T U i shared f s sb (shared-rows n (le-refl n) (nextCell o t i s) (T .goes i b f .next s sb .0)))
           ]
 
+      same-rankCell : rankCell o t i ≡ rankCell o u i
+      same-rankCell =
+          one-rank o choices observations Same Final C (T .history i) (U .history i) (rankCell o t i) (rankCell o u i)
+          (row-possible T i b) (row-possible U i (shared .right)) (shared .same) (T .rank i b) (U .rank i (shared .right))
+
   -- there is only one table
   pub one-table : 0 < observations → (n m : ℕ) (t u : List ℕ) → Table n t → Table m u → (n ≡ m) × (t ≡ u)
   one-table some n m t u T U =
@@ -253,5 +258,5 @@ module _ (o : Order) (choices observations : ℕ) (Same : History → History �
       let e : n ≡ m = omega arith in (
         e,
         same-cells o n t u (T .long) (U .long ∙ ap (λ (k : ℕ). k * rowSize o) (sym e))
-            (same-first T U some) (same-choiceCell T U some) (same-nextCell T U some),
+            (same-first T U some) (same-choiceCell T U some) (same-nextCell T U some) (same-rankCell T U some),
       )

@@ -4,7 +4,7 @@ use Prim.Native.Nat.{ℕ, zero, suc, _≤_, _<_, zero-le, suc-le-suc}
 use native.Mathlib.Nat.{not-suc-le-zero, le-of-suc-le-suc, le-refl}
 use native.Mathlib.Decide.{decLe}
 use native.Mathlib.Omega.{arith}
-use mathlib.Core.Path.{_≡_}
+use mathlib.Core.Path.{_≡_, refl}
 use mathlib.Core.Logic.{inl, inr}
 use mathlib.Core.Bool.{Bool, true, false}
 use Rattle.basics.specs.Bounded.{firstThat}
@@ -49,6 +49,11 @@ module _ {choices observations : ℕ} (O : StepOrder choices observations) (A : 
   -- a rank over 0: no final position, and the controller can go on to ranks below
   pub unstopped : (k : A .K) (r : ℕ) → HasRank k (suc r) → A .final k ≡ false
   unstopped k r a = a .1 0 (suc-le-suc zero-le)
+
+  -- a final position has rank 0
+  pub final-rank : (k : A .K) (r : ℕ) → HasRank k r → A .final k ≡ true → r ≡ 0
+  final-rank k zero a t = refl
+  final-rank k (suc r) a t = clash t (unstopped k r a)
 
   pub goes-on : (k : A .K) (r : ℕ) → HasRank k (suc r) → O .able (λ c s. In r (A .move k c s)) ≡ true
   goes-on k r a = elim (or-cases (A .final k) _ (a .0)) [ inl s ↦ clash s (unstopped k r a) | inr c ↦ c ]

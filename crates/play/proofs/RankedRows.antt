@@ -1,6 +1,7 @@
 -- The rows of a table: the positions met by following the answers, which are ranked and no more than the positions counted.
 -- Assumes nothing.
 use Prim.Native.Nat.{ℕ, zero, suc, _≤_, _<_}
+use native.Mathlib.Nat.{le-refl}
 use native.Mathlib.Omega.{arith}
 use mathlib.Core.Path.{_≡_, refl, ap, subst}
 use mathlib.Core.Logic.{inl, inr}
@@ -84,9 +85,13 @@ module _ {choices observations : ℕ} (O : StepOrder choices observations) (A : 
     (some-observation : 0 < observations) (all : List (A .K)) (closed-all : Closed O A some-observation all) (start-in : A .start ∈ all)
     (n : ℕ) (fits : length all ≤ n) (answer : A .K → ℕ → ℕ) (down : Descends O A answer n)
     (r : ℕ) (small : r < n) (start-rank : HasRank O A (A .start) r) where
-  -- a position that is counted and ranked
+  -- answers lead down from the rank of the start too
+  abbrev low : Descends O A answer (suc r)
+  low k q b a = down k q (omega arith) a
+
+  -- a position that is counted, and ranked no higher than the start
   abbrev pub Ranked : A .K → Type 0
-  Ranked = MetRanked O A (λ k. k ∈ all) closed-all n answer down
+  Ranked = MetRanked O A (λ k. k ∈ all) closed-all (suc r) answer low
 
   abbrev steps : A .K → List (A .K)
   steps = followersBy A answer observations
@@ -94,10 +99,10 @@ module _ {choices observations : ℕ} (O : StepOrder choices observations) (A : 
   pub ranked-next : (k j : A .K) → Ranked k → j ∈ steps k → Ranked j
   ranked-next k j p u =
       let (f, s, sb, e) = followers-mem A answer observations k j u in
-      subst Ranked e (ranked-answer O A (λ k. k ∈ all) closed-all n answer down k p f s sb .1)
+      subst Ranked e (ranked-answer O A (λ k. k ∈ all) closed-all (suc r) answer low k p f s sb .1)
 
   ranked : {k : A .K} → Reached steps (A .start) k → Ranked k
-  ranked = reached-all Ranked (start-in, r, small, start-rank) ranked-next
+  ranked = reached-all Ranked (start-in, r, le-refl (suc r), start-rank) ranked-next
 
   -- the rows are among the positions, so they can be listed
   pub rows-listed : (rows : List (A .K)) × (reachable same steps (A .start) n ≡ closed rows)

@@ -17,7 +17,8 @@ use Rattle.basics.proofs.SameSearch.{Each, each-tabulate, EachListed, mapListin
 use Rattle.basics.specs.declared.order.Order.{Order}
 use Rattle.basics.specs.declared.order.Order.the-variants.{Set, Read}
 use Rattle.play.specs.Rank.{Arena, can, within, rankBelow, rankFrom, leadsWithin, nextRank, bestAnswer}
-use Rattle.play.specs.Table.{listOf, followersBy, rowsBy, rows, rowOf, tableCells}
+use Rattle.play.specs.Cells.{withRank}
+use Rattle.play.specs.Table.{listOf, followersBy, rowsBy, rows, unranked, rowOf, tableCells}
 use Rattle.play.specs.Answer.{Verdict, solved, unrealizable, startRank, verdictOf}
 use Rattle.play.proofs.StepOrder.{StepOrder, can-ext, orderOf}
 use Rattle.play.proofs.RankLaws.{In}
@@ -159,19 +160,23 @@ module _ {A B : Arena} {sameA : A .K → A .K → Bool} {sameB : B .K → B .K �
           rows-image answer (bestAnswer o B choices observations n) Ranked start-ranked (λ k p. p .0) next-ranked
           (λ k p f s sb. answer-image o n k (p .0) f s sb) n
 
-      row-image : (l : List (A .K)) → Each Ranked l → (k : A .K) → Ranked k
-          → rowOf o A sameA choices observations n l k ≡ rowOf o B sameB choices observations n (map named l) (named k)
-      row-image l each k p =
+      unranked-image : (l : List (A .K)) → Each Ranked l → (k : A .K) → Ranked k
+          → unranked o A sameA choices observations n l k ≡ unranked o B sameB choices observations n (map named l) (named k)
+      unranked-image l each k p =
           elim (test (A .final k)) [
-            | inl t ↦ rw (t, rowOf, R .named-final k (p .0) ∙ t)
+            | inl t ↦ rw (t, unranked, R .named-final k (p .0) ∙ t)
             | inr f ↦
-                rw (f, rowOf, R .named-final k (p .0) ∙ f)
+                rw (f, unranked, R .named-final k (p .0) ∙ f)
                 (choice-ext o observations _ _ _ _ some-observation (λ s sb. answer-image o n k (p .0) f s sb) (λ s sb.
                 let (cb, q) = next-ranked k p f s sb in
                 sym (index-image sameA sameB named Ranked (λ i j u v. R .one i j (u .0) (v .0)) (A .move k (answer k s) s) l q each)
                 ∙ ap (λ j. indexIn sameB j (map named l)) (sym (R .named-move k (p .0) f (answer k s) cb s sb)
                 ∙ ap (λ c. B .move (named k) c s) (answer-image o n k (p .0) f s sb))))
           ]
+
+      row-image : (l : List (A .K)) → Each Ranked l → (k : A .K) → Ranked k
+          → rowOf o A sameA choices observations n l k ≡ rowOf o B sameB choices observations n (map named l) (named k)
+      row-image l each k p = ap₂ (withRank o) (from-image o n k (p .0)) (unranked-image l each k p)
 
       pub cells-image : tableCells o A sameA choices observations n ≡ tableCells o B sameB choices observations n
       cells-image =

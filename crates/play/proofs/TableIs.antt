@@ -21,18 +21,18 @@ use Rattle.basics.proofs.FirstMet.{FirstMet, Along, values-along, closed-met}
 use Rattle.play.specs.Limits.{sideLimit}
 use Rattle.basics.specs.declared.order.Order.{Order}
 use Rattle.basics.specs.declared.order.Order.the-variants.{Set, Read}
-use Rattle.play.specs.Cells.{rowSize, stopCell, firstCell, choiceCell, nextCell}
+use Rattle.play.specs.Cells.{rowSize, stopCell, firstCell, choiceCell, nextCell, rankCell}
 use Rattle.play.specs.Rank.{Arena, RankOf, bestAnswer}
 use Rattle.play.specs.History.{History, Possible, onward, know}
 use Rattle.play.specs.Table.{listOf, followersBy, followers, rowOf, rows, tableCells}
 use Rattle.play.specs.Answer.{startRank}
 use Rattle.play.specs.IsTable.{RankIs, SmallestBest, Takes, Before, IsTable}
 use Rattle.play.proofs.StepOrder.{StepOrder, orderOf}
-use Rattle.play.proofs.RankLaws.{In}
+use Rattle.play.proofs.RankLaws.{In, rank-searched}
 use Rattle.play.proofs.SmallestChoice.{best-leads}
 use Rattle.play.proofs.RankedRows.{reached-all, followers-mem, some-row, first-row}
 use Rattle.play.proofs.CellsLaws.{blank-next}
-use Rattle.play.proofs.TableLaws.{row-width, stop-row, stop-blank, choice-cell, first-choice, unused-blank, next-row}
+use Rattle.play.proofs.TableLaws.{row-width, rank-cell, stop-row, stop-blank, choice-cell, first-choice, unused-blank, next-row}
 use Rattle.play.proofs.HistoryLaws.{possible-onward, know-onward, Tells}
 use Rattle.play.proofs.HistoryRanks.{rank-iff, takes-best}
 use Rattle.play.proofs.OneChoice.{Congruence, one-rank}
@@ -239,6 +239,13 @@ module _ (o : Order) (A : Arena) (same : A .K → A .K → Bool) (says : (a b : 
                     );
                 unused = unused-blank o A same says choices observations n some-observation few-choices few-observations ks listed i b f;
               };
+          rank = λ i b.
+              let (q, qb, a) = row-ranked i b in
+              let e = rank-cell o A same says choices observations n some-observation few-choices few-observations ks listed i b
+              ∙ rank-searched O A n q (at i) qb a in
+              rank-iff o A choices observations some-observation Final (tells .finals) (history i) (can i b) (rankCell o table i) .1
+              (subst (λ (x : A .K). RankOf o A choices observations x (rankCell o table i)) (sym (leads i b))
+              (subst (RankOf o A choices observations (at i)) (sym e) a));
         }
 
   -- the table that is computed is the one that the reference lays down

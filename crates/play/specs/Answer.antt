@@ -1,6 +1,7 @@
 -- What is answered for a game, from the positions of an arena: the table and its worst case, or that there is none.
 -- Assumes nothing.
 use Prim.Native.Nat.{ℕ, _*_, _/_, _%_, _≤_, _<_}
+use mathlib.Core.Path.{_≡_}
 use mathlib.Core.Bool.{Bool, true, false, cond}
 use mathlib.Core.List.{List, []}
 use lib.Dec.{ltb}
@@ -8,6 +9,7 @@ use lib.ListN.{length}
 use Rattle.basics.specs.Lists.{tabulate}
 use Rattle.basics.specs.Reach.{Listing, reachable}
 use Rattle.basics.specs.declared.order.Order.{Order}
+use Rattle.play.specs.Cells.{rankCell}
 use Rattle.play.specs.Game.{Game, Optimal, Unrealizable}
 use Rattle.play.specs.Rank.{Arena, rankFrom}
 use Rattle.play.specs.Table.{tableStrategy, Laid, rows, tableCells}
@@ -48,10 +50,11 @@ cellsOf (solved n r cells) = cells
 cellsOf unrealizable = []
 
 -- a table of n rows with worst case r: read as a strategy it wins, its worst case is r, and no winning strategy has a smaller one; the
--- worst case is below the row count, the row count within the limit of positions, and each row has the right cells
+-- worst case is below the row count and the rank of row 0, the row count within the limit of positions, and each row has the right cells
 pub record Solves (limit : ℕ) (o : Order) (G : Game) (n r : ℕ) (cells : List ℕ) : Type 0 where
   pub optimal : Optimal G (tableStrategy o cells) r
   pub below : r < n
+  pub first : rankCell o cells 0 ≡ r
   pub within : n ≤ limit
   pub laid : Laid o (G .choices) (G .observations) n cells
 

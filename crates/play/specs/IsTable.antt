@@ -9,7 +9,7 @@ use lib.ListN.{length}
 use Rattle.basics.specs.declared.order.Order.{Order}
 use Rattle.basics.specs.declared.order.Order.the-variants.{Set, Read}
 use Rattle.play.specs.Limits.{sideLimit}
-use Rattle.play.specs.Cells.{rowSize, stopCell, firstOf, firstCell, choiceCell, nextCell, Blank}
+use Rattle.play.specs.Cells.{rowSize, stopCell, firstOf, firstCell, choiceCell, nextCell, rankCell, Blank}
 use Rattle.play.specs.History.{History, onward}
 
 -- the controller can choose so that `Good choice observation` holds at every observation: under `Set` one choice is good at each, under
@@ -112,3 +112,5 @@ module _ (o : Order) (choices observations : ℕ) (Same : History → History �
     -- the row of a stop belief, and that of another
     pub stops : (i : ℕ) → i < n → Final (history i) → StopRow o cells i
     pub goes : (i : ℕ) → i < n → (¬ Final (history i)) → ChoiceRow n cells history i
+    -- each carries the rank of its belief
+    pub rank : (i : ℕ) → i < n → RankIs o choices observations Final (history i) (rankCell o cells i)

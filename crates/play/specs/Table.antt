@@ -10,9 +10,9 @@ use Rattle.basics.specs.Lists.{tabulate}
 use Rattle.basics.specs.Reach.{Listing, closed, over, indexIn, reachable}
 use Rattle.basics.specs.declared.order.Order.{Order}
 use Rattle.play.specs.Limits.{sideLimit}
-use Rattle.play.specs.Cells.{rowSize, firstOf, firstCell, isStop, choiceCell, nextCell, Blank, stopRow, choiceRow}
+use Rattle.play.specs.Cells.{rowSize, firstOf, firstCell, isStop, choiceCell, nextCell, rankCell, Blank, stopRow, choiceRow, withRank}
 use Rattle.play.specs.Game.{choose, stop, Strategy}
-use Rattle.play.specs.Rank.{Arena, answerOf, bestAnswer}
+use Rattle.play.specs.Rank.{Arena, answerOf, rankFrom, bestAnswer}
 
 -- a table as a strategy, from a row on: each observation leads to another row, and the answer is that of the row where it ends; behind
 -- a stop row it is "stop"
@@ -24,22 +24,25 @@ readFrom o t row (s ∷ h) = elim (isStop o t row) [ true ↦ stop | false ↦ r
 abbrev pub tableStrategy : (o : Order) → List ℕ → Strategy o
 tableStrategy o t = readFrom o t 0
 
--- row i of n has for each observation a choice and a next row, and its other cells are 0
+-- row i of n has for each observation a choice and a next row, which ranks lower; the cells of other observations are 0
 pub record GoesRow (o : Order) (choices observations n : ℕ) (t : List ℕ) (i : ℕ) : Type 0 where
   pub first : firstCell o t i ≡ firstOf o (choiceCell o t i)
   pub choice : (s : ℕ) → s < observations → choiceCell o t i s < choices
   pub next : (s : ℕ) → s < observations → nextCell o t i s < n
+  pub lower : (s : ℕ) → s < observations → rankCell o t (nextCell o t i s) < rankCell o t i
   pub unused : (s : ℕ) → observations ≤ s → s < sideLimit → Blank o t i s
 
--- row i of n stops, and its other cells are 0; or it goes on
-abbrev pub LaidRow : (o : Order) (choices observations n : ℕ) → List ℕ → ℕ → Type 0
-LaidRow o choices observations n t i =
-    ((isStop o t i ≡ true) × ((s : ℕ) → s < sideLimit → Blank o t i s)) ⊎ GoesRow o choices observations n t i
+-- row i stops, and its other cells are 0, the rank too
+pub record StopsRow (o : Order) (t : List ℕ) (i : ℕ) : Type 0 where
+  pub stop : isStop o t i ≡ true
+  pub rank : rankCell o t i ≡ 0
+  pub unused : (s : ℕ) → s < sideLimit → Blank o t i s
 
--- a table of n rows, and no more cells, each row so
+-- a table of n rows, and no more cells, each of which stops or goes on, with a rank below n
 pub record Laid (o : Order) (choices observations n : ℕ) (t : List ℕ) : Type 0 where
   pub long : length t ≡ n * rowSize o
-  pub row : (i : ℕ) → i < n → LaidRow o choices observations n t i
+  pub row : (i : ℕ) → i < n → StopsRow o t i ⊎ GoesRow o choices observations n t i
+  pub ranked : (i : ℕ) → i < n → rankCell o t i < n
 
 -- what is listed; nothing if it is too much
 abbrev pub listOf : {K : Type 0} → Listing K → List K
@@ -62,15 +65,19 @@ module _ (o : Order) (A : Arena) (same : A .K → A .K → Bool) (choices observ
   abbrev pub rows : List (A .K)
   rows = rowsBy A same (bestAnswer o A choices observations n) observations n
 
-  -- the row of a position, among the rows given
-  abbrev pub rowOf : List (A .K) → A .K → List ℕ
-  rowOf l k =
+  -- the row of a position, among the rows given, but for its rank
+  abbrev pub unranked : List (A .K) → A .K → List ℕ
+  unranked l k =
       elim (A .final k) [
         | true ↦ stopRow o
         | false ↦
             let answer = bestAnswer o A choices observations n k in
             choiceRow o observations answer (λ s. indexIn same (A .move k (answer s) s) l)
       ]
+
+  -- the row
+  abbrev pub rowOf : List (A .K) → A .K → List ℕ
+  rowOf l k = withRank o (rankFrom o A choices observations n k) (unranked l k)
 
   abbrev pub tableCells : List ℕ
   tableCells = let l = rows in flatMap (rowOf l) l

@@ -6,7 +6,7 @@ use native.Mathlib.Omega.{arith}
 use mathlib.Core.Path.{_≡_, refl, sym, ap, _∙_, subst}
 use mathlib.Core.Logic.{inl, inr}
 use mathlib.Core.Bool.{Bool, true, false, cond}
-use mathlib.Core.List.{List, [], _∷_, _++_, flatMap}
+use mathlib.Core.List.{List, [], _∷_, _++_, flatMap, append-assoc}
 use lib.ListN.{length, length-append, getD}
 use borrow.Author.Tests.{eqb-false}
 use Rattle.basics.specs.Bytes.{bytesOf}
@@ -15,16 +15,16 @@ use Rattle.basics.specs.Lists.{tabulate}
 use Rattle.basics.specs.declared.order.Order.{Order}
 use Rattle.basics.specs.declared.order.Order.the-variants.{Set, Read}
 use Rattle.play.specs.Limits.{beliefLimit, sideLimit}
-use Rattle.play.specs.Cells.{rowSize, nextAt, stopCell, cell, firstCell, isStop, choiceCell, nextCell}
+use Rattle.play.specs.Cells.{rowSize, nextAt, stopCell, cellLimit, cell, firstCell, isStop, choiceCell, nextCell, rankCell}
 use Rattle.tables.specs.declared.shape.Shape.{Shape}
 use Rattle.printer.specs.Limits.{textSize}
-use Rattle.printer.specs.WellFormed.{IsFirst, GoodRow, isPrintable}
+use Rattle.wellformed.specs.WellFormed.{IsFirst, FormedRow, Shaped}
 use Rattle.basics.specs.Text.{decimal, field, line}
 use Rattle.printer.specs.Text.{shownFrom, shownCount, shownFields, rowFields, rowText, rowsText, tableWord, tableText}
 use Rattle.basics.proofs.ListsLaws.{tabulate-ext}
 use Rattle.basics.proofs.Stores.{Put, put-same, Rest, Parts}
 use Rattle.basics.proofs.TextLaws.{turn, flat-length, line-parts, field-length, two-length}
-use Rattle.printer.proofs.WellFormedLaws.{printable-says, side-le, stops, moves}
+use Rattle.wellformed.proofs.WellFormedLaws.{side-le, stops, moves}
 
 -- ---- what a row does, by its first cell
 
@@ -83,13 +83,24 @@ module _ (o : Order) (t : List ℕ) (row size from : ℕ) (e : size ≡ rowSize 
 
 -- ---- lines in the order of their parts
 
+-- the two numbers in front of what a row does
+abbrev numbers : List ℕ → Shape → ℕ → List ℕ
+numbers t shape row = field (decimal row) ++ field (decimal (rankCell (shape .order) t row))
+
 row-parts : (t : List ℕ) (shape : Shape) (row : ℕ)
-    → rowText t shape row ≡ bytesOf "row" ++ (field (decimal row) ++ (flatMap field (rowFields t shape row) ++ (10 ∷ [])))
-row-parts t shape row = line-parts (bytesOf "row") (decimal row) (rowFields t shape row)
+    → rowText t shape row ≡ bytesOf "row" ++ (numbers t shape row ++ (flatMap field (rowFields t shape row) ++ (10 ∷ [])))
+unfolding flatMap
+row-parts t shape row =
+    let rank : List ℕ = field (decimal (rankCell (shape .order) t row)) in
+    let rest : List ℕ = flatMap field (rowFields t shape row) in
+    line-parts (bytesOf "row") (decimal row) (decimal (rankCell (shape .order) t row) ∷ rowFields t shape row)
+    ∙ ap (λ l. bytesOf "row" ++ (field (decimal row) ++ l)) (append-assoc rank rest (10 ∷ []))
+    ∙ ap (λ l. bytesOf "row" ++ l) (sym (append-assoc (field (decimal row)) rank (rest ++ (10 ∷ []))))
 
 pub row-puts : (t : List ℕ) (shape : Shape) (row at : ℕ) (x : List ℕ) → at + length (rowText t shape row) ≤ length x
-    → Parts at (rowText t shape row) x (bytesOf "row") (field (decimal row)) (flatMap field (rowFields t shape row)) (10 ∷ [])
-row-puts t shape row at x h = record { room = h; are = row-parts t shape row }
+    → (rank : ℕ) → rank ≡ rankCell (shape .order) t row
+    → Parts at (rowText t shape row) x (bytesOf "row") (field (decimal row) ++ field (decimal rank)) (flatMap field (rowFields t shape row)) (10 ∷ [])
+row-puts t shape row at x h rank e = rw e (record { room = h; are = row-parts t shape row })
 
 -- ---- how long they can be
 
@@ -147,12 +158,12 @@ first-small o c (inr e) goes = absurd (goes e)
 first-small Set c (inl l) goes = l
 first-small Read c (inl l) goes = omega arith
 
-module _ (t : List ℕ) (shape : Shape) (row : ℕ) (few : shape .rows ≤ beliefLimit) (seen : shape .observed ≤ kindLimit) (g : GoodRow t shape row) where
+module _ (t : List ℕ) (shape : Shape) (row : ℕ) (few : shape .rows ≤ beliefLimit) (seen : shape .observed ≤ kindLimit) (g : FormedRow t shape row) where
   moves-length : isStop (shape .order) t row ≡ false → length (flatMap field (shownFields (shape .order) t row (2 ^ (shape .observed)))) ≤ 112
   moves-length e =
       let m = eqb-false (firstCell (shape .order) t row) stopCell e in
       shown-length t row (shape .rows) (2 ^ (shape .observed)) few (side-le (shape .observed) seen) (shape .order)
-      (first-small (shape .order) (firstCell (shape .order) t row) (g .first) m) (λ s l. g .goes m s l .choice) (λ s l. g .goes m s l .next)
+      (first-small (shape .order) (firstCell (shape .order) t row) (g .first) m) (λ s l. g .goes s (m, l) .choice) (λ s l. g .goes s (m, l) .next)
 
   fields-length : length (flatMap field (rowFields t shape row)) ≤ 112
   unfolding flatMap
@@ -163,14 +174,16 @@ module _ (t : List ℕ) (shape : Shape) (row : ℕ) (few : shape .rows ≤ belie
       go true e = omega arith
       go false e = moves-length e
 
-  row-length : row < shape .rows → length (rowText t shape row) ≤ 120
-  row-length l =
+  row-length : row < shape .rows → rankCell (shape .order) t row < cellLimit → length (rowText t shape row) ≤ 126
+  row-length l rank =
       omega (
         arith,
         ap length (row-parts t shape row),
-        length-append (field (decimal row)) (flatMap field (rowFields t shape row) ++ (10 ∷ [])),
+        length-append (numbers t shape row) (flatMap field (rowFields t shape row) ++ (10 ∷ [])),
+        length-append (field (decimal row)) (field (decimal (rankCell (shape .order) t row))),
         length-append (flatMap field (rowFields t shape row)) (10 ∷ []),
         field-length 2 row (omega arith),
+        field-length 4 (rankCell (shape .order) t row) (omega arith),
         fields-length,
       )
 
@@ -178,10 +191,9 @@ word-length : (o : Order) → length (tableWord o) ≤ 6
 word-length Set = omega arith
 word-length Read = omega arith
 
--- the text of a printable table has room
-pub text-fits : (t : List ℕ) (shape : Shape) (worst : ℕ) → isPrintable t shape worst ≡ true → length (tableText t shape worst) ≤ textSize
-text-fits t shape worst h =
-    let p = printable-says t shape worst .0 h in
+-- the text of a table has room, whatever its ranks
+pub text-fits : (t : List ℕ) (shape : Shape) (worst : ℕ) → Shaped t shape worst → length (tableText t shape worst) ≤ textSize
+text-fits t shape worst p =
     let few = p .sized .few in
     let below = p .below in
     omega (
@@ -189,7 +201,8 @@ text-fits t shape worst h =
       length-append (line (tableWord (shape .order)) (decimal (shape .rows) ∷ decimal worst ∷ [])) (rowsText t shape (shape .rows)),
       two-length (tableWord (shape .order)) 2 (shape .rows) worst (omega arith) (omega arith),
       word-length (shape .order),
-      flat-length (rowText t shape) (shape .rows) 120 (λ row. row) (λ row l. row-length t shape row few (p .sized .seen) (p .each row l .good) l),
+      flat-length (rowText t shape) (shape .rows) 126 (λ row. row)
+          (λ row l. row-length t shape row few (p .sized .seen) (p .each row l .formed) l (p .each row l .rank)),
     )
 
 -- a line of two numbers that a machine word holds has room too: they have at most 20 digits

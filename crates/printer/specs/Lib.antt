@@ -1,4 +1,3 @@
--- What a table must be, and its text.
+-- A table's text.
 pub mod Limits
-pub mod WellFormed
 pub mod Text

@@ -4,4 +4,4 @@ use Prim.Native.Nat.{ℕ}
 
 -- bytes that a text must have room for
 abbrev pub textSize : ℕ
-textSize = 30976
+textSize = 32768

@@ -10,7 +10,7 @@ use Rattle.lines.specs.declared.refusal.Refusal.{Refusal}
 use Rattle.lines.specs.Refusal.{numberOf, placeOf}
 use Rattle.basics.specs.declared.order.Order.{Order}
 use Rattle.basics.specs.declared.order.Order.the-variants.{Set, Read}
-use Rattle.play.specs.Cells.{cell, isStop}
+use Rattle.play.specs.Cells.{cell, isStop, rankCell}
 use Rattle.tables.specs.declared.shape.Shape.{Shape}
 
 -- the cells of a row that are printed, for n observations: under `Set` its choice and then its next rows, under `Read` for each
@@ -26,12 +26,13 @@ shownCount Read n = 2 * n
 abbrev pub shownFields : Order → List ℕ → ℕ → ℕ → List (List ℕ)
 shownFields o t row n = tabulate (shownCount o n) (λ i. decimal (cell o t row (shownFrom o + i)))
 
--- a row: the word `stop`, or these
+-- what a row does: the word `stop`, or these
 abbrev pub rowFields : List ℕ → Shape → ℕ → List (List ℕ)
 rowFields t shape row = cond (isStop (shape .order) t row) (bytesOf "stop" ∷ []) (shownFields (shape .order) t row (2 ^ (shape .observed)))
 
+-- a row: its number, its rank, and what it does
 abbrev pub rowText : List ℕ → Shape → ℕ → List ℕ
-rowText t shape row = line (bytesOf "row") (decimal row ∷ rowFields t shape row)
+rowText t shape row = line (bytesOf "row") (decimal row ∷ decimal (rankCell (shape .order) t row) ∷ rowFields t shape row)
 
 -- the first n rows
 abbrev pub rowsText : List ℕ → Shape → ℕ → List ℕ

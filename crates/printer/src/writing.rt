@@ -1,6 +1,6 @@
 // The text of a table, and that of a refusal, put into lent bytes. Each function answers the place behind what it has put.
 ghost use mathlib.Core.Path.{_≡_};
-ghost use mathlib.Core.List.{[], _∷_, flatMap};
+ghost use mathlib.Core.List.{[], _∷_, _++_, flatMap};
 ghost use Prim.Native.Nat.{_+_, _*_, _≤_};
 ghost use lib.ListN.{length};
 ghost use lib.Seq.{sets};
@@ -23,6 +23,7 @@ use lines::place;
 use tables::STOP;
 use tables::Shape;
 use tables::first_cell;
+use tables::rank_cell;
 use tables::row_size;
 
 // Where the printed cells of a row begin.
@@ -80,6 +81,16 @@ fn put_moves(text: &mut [u8], at: usize, table: &[u16], shape: Shape, row: usize
     put_shown(text, at, table, order, row, 1 << shape.observed)
 }
 
+// Two fields.
+fn put_fields(text: &mut [u8], at: usize, a: usize, b: usize) -> usize
+    requires { ⌜ at + length (field (decimal a) ++ field (decimal b)) ≤ length (now text) ⌝ }
+    ensures { λ r. ⌜ r ≡ at + length (field (decimal a) ++ field (decimal b)) ⌝ }
+    ensures { λ _. ⌜ now (text .exit) ≡ sets (now (text .entry)) at (field (decimal a) ++ field (decimal b)) ⌝ }
+{
+    let end = put_field(text, at, a);
+    put_field(text, end, b)
+}
+
 // A row's line.
 fn put_row(text: &mut [u8], at: usize, table: &[u16], shape: Shape, row: usize) -> usize
     requires { ⌜ shape .observed ≤ kindLimit ⌝ }
@@ -88,9 +99,11 @@ fn put_row(text: &mut [u8], at: usize, table: &[u16], shape: Shape, row: usize) 
     ensures { λ r. ⌜ r ≡ at + length (rowText (now (table .entry)) shape row) ⌝ }
     ensures { λ _. ⌜ now (text .exit) ≡ sets (now (text .entry)) at (rowText (now (table .entry)) shape row) ⌝ }
 {
+    let order = shape.order;
+    let rank = rank_cell(table, order, row) as usize;
     let word = put_bytes(text, at, b"row");
-    let number = put_field(text, word, row);
-    let moves = put_moves(text, number, table, shape, row);
+    let numbers = put_fields(text, word, row, rank);
+    let moves = put_moves(text, numbers, table, shape, row);
     put_byte(text, moves, LINE_END)
 }
 

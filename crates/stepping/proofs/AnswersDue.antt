@@ -19,9 +19,10 @@ use Rattle.play.specs.Cells.{stopCell, firstCell, isStop, nextCell}
 use Rattle.tables.specs.declared.shape.Shape.{Shape}
 use Rattle.stepping.specs.declared.position.Position.{Position}
 use Rattle.stepping.specs.declared.position.Moved.{Moved}
-use Rattle.stepping.specs.Position.{answerOf, startAt, moveFrom, isStanding, isHolding, startOf, stepOf, isStopped, toldAnswer}
+use Rattle.stepping.specs.declared.position.Left.{Left}
+use Rattle.stepping.specs.Position.{answerOf, startAt, moveFrom, isStanding, isHolding, startOf, stepOf, isStopped, leftOf, toldAnswer, toldLeft}
 use Rattle.stepping.specs.Position.{startChoice, stepChoice, StartedAs, bad-start, started}
-use Rattle.stepping.specs.Position.{Holds, OnStop, SteppedAs, bad-place, stopped, bad-observation, moved}
+use Rattle.stepping.specs.Position.{Holds, OnStop, SteppedAs, bad-place, stopped, bad-observation, moved, LeftAs, no-place, shown}
 use Rattle.stepping.proofs.PositionLaws.{standing-says, holding-says}
 
 told-of : (c : ℕ) → toldAnswer (answerOf c) ≡ values (c ∷ [])
@@ -139,3 +140,25 @@ module _ (t : List ℕ) (shape : Shape) (observation : ℕ) (p : Position) where
     λ e. let (h, s) = stopped-says .0 e in step-answered (refused 14 0) p (stopped h s) .0,
     λ e. stopped-says .1 (refused-there (toldAnswer (stepOf t shape observation p .answer)) (stepOf t shape observation p .position) step-due e),
   )
+
+-- ---- the steps left
+
+module _ (t : List ℕ) (shape : Shape) (p : Position) where
+  left-due : LeftAs t shape p (toldLeft (leftOf t shape p))
+  unfolding leftOf
+  left-due =
+      elim (test (isHolding t shape p)) [
+        | inl e ↦ rw e (shown (holding-says t shape p .0 e))
+        | inr f ↦ rw f (no-place (λ h. clash (holding-says t shape p .1 h) f))
+      ]
+
+  pub left-told : (r : Left) → r ≡ leftOf t shape p → (r ≡ leftOf t shape p) × LeftAs t shape p (toldLeft r)
+  left-told r e = (e, rw e left-due)
+
+  left-answered : (a : Told) → LeftAs t shape p a → toldLeft (leftOf t shape p) ≡ a
+  unfolding leftOf
+  left-answered a (no-place n) = rw (says-false (holding-says t shape p) n) refl
+  left-answered a (shown h) = rw (holding-says t shape p .1 h) refl
+
+  pub left-iff : (a : Told) → (toldLeft (leftOf t shape p) ≡ a) ↔ LeftAs t shape p a
+  left-iff a = (λ e. subst (LeftAs t shape p) e left-due, left-answered a)

@@ -14,17 +14,20 @@ use Rattle.basics.specs.declared.order.Order.{Order}
 use Rattle.basics.specs.declared.order.Order.the-variants.{Set, Read}
 use Rattle.basics.proofs.BitsLaws.{shl-one}
 use Rattle.play.specs.Limits.{sideLimit}
-use Rattle.play.specs.Cells.{rowSize, stopCell, firstCell, isStop, choiceCell, nextCell}
+use Rattle.play.specs.Cells.{rowSize, stopCell, firstCell, isStop, choiceCell, nextCell, rankCell}
 use Rattle.tables.specs.declared.shape.Shape.{Shape}
 use Rattle.basics.specs.Says.{Says}
 use Rattle.basics.proofs.SaysLaws.{says-and, says-true, lt-says, eqb-says}
 use Rattle.stepping.specs.declared.position.Position.{Position}
 use Rattle.stepping.specs.declared.position.Answer.the-variants.{Choice, Stop, Ready}
 use Rattle.stepping.specs.declared.position.Moved.{Moved}
-use Rattle.printer.specs.WellFormed.{Sized, GoodRow}
+use Rattle.stepping.specs.declared.position.Left.the-variants.{Steps}
+use Rattle.stepping.specs.declared.position.Left.the-variants as left
+use Rattle.wellformed.specs.WellFormed.{Sized, GoodRow}
 use Rattle.stepping.specs.Position.{moveTo, getReady, startAt, moveFrom, refusedAt, isStanding, isHeld, isHolding}
-use Rattle.stepping.specs.Position.{startOf, stepOf, isStopped, Standing, Held, Holds}
-use Rattle.printer.proofs.WellFormedLaws.{sized-says, row-says, side-le, row-room, stops, moves}
+use Rattle.stepping.specs.Position.{startOf, stepOf, isStopped, leftOf, Standing, Held, Holds}
+use Rattle.wellformed.proofs.WellFormedLaws.{side-le, row-room, stops, moves}
+use Rattle.wellformed.proofs.TestsSay.{sized-says, row-says}
 
 -- ---- on a row, whose first cell is x
 
@@ -123,6 +126,15 @@ module _ (t : List ℕ) (shape : Shape) (p : Position) where
     unfolding isStopped
     stopped-there f x q = rw (sym e, not-false a f, q) refl
 
+    -- how many steps are left
+    pub left-nowhere : not a ≡ true → left.Refused BadTable ≡ leftOf t shape p
+    unfolding leftOf
+    left-nowhere f = rw (sym e, not-true a f) refl
+
+    pub left-there : not a ≡ false → (x : ℕ) → x ≡ rankCell (shape .order) t (p .row) → Steps x ≡ leftOf t shape p
+    unfolding leftOf
+    left-there f x q = rw (sym e, not-false a f, q) refl
+
 -- ---- the start
 
 module _ (t : List ℕ) (shape : Shape) (p : Position) where
@@ -176,7 +188,7 @@ module _ {t : List ℕ} {shape : Shape} {p : Position} (g : Goes t shape p) wher
           × (nextCell (shape .order) t (p .row) observation * rowSize (shape .order) + rowSize (shape .order) ≤ length t))
       step-asks =
           let s = g .holds .0 in
-          let on = s .good .goes (eqb-false (firstCell (shape .order) t (p .row)) stopCell (g .moves)) observation sees in (
+          let on = s .good .formed .goes observation (eqb-false (firstCell (shape .order) t (p .row)) stopCell (g .moves), sees) in (
             has-row t shape (p .row) s,
             (
               lt-of-lt-of-le sees (side-le (shape .observed) (s .sized .seen)),

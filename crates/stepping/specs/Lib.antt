@@ -1,2 +1,3 @@
 -- A table run step by step.
 pub mod Position
+pub mod Stopping

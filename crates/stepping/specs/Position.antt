@@ -11,13 +11,16 @@ use Rattle.lines.specs.declared.refusal.Refusal.the-variants.{BadTable, Stopped
 use Rattle.lines.specs.Refusal.{Told, values, refused, toldRefusal}
 use Rattle.basics.specs.declared.order.Order.{Order}
 use Rattle.basics.specs.declared.order.Order.the-variants.{Set, Read}
-use Rattle.play.specs.Cells.{stopCell, firstCell, isStop, choiceCell, nextCell}
+use Rattle.play.specs.Cells.{stopCell, firstCell, isStop, choiceCell, nextCell, rankCell}
 use Rattle.tables.specs.declared.shape.Shape.{Shape}
 use Rattle.stepping.specs.declared.position.Position.{Position}
 use Rattle.stepping.specs.declared.position.Answer.{Answer}
 use Rattle.stepping.specs.declared.position.Answer.the-variants.{Choice, Stop, Ready, Refused}
 use Rattle.stepping.specs.declared.position.Moved.{Moved}
-use Rattle.printer.specs.WellFormed.{Sized, GoodRow, isSized, isRow}
+use Rattle.stepping.specs.declared.position.Left.{Left}
+use Rattle.stepping.specs.declared.position.Left.the-variants.{Steps}
+use Rattle.stepping.specs.declared.position.Left.the-variants as left
+use Rattle.wellformed.specs.WellFormed.{Sized, GoodRow, isSized, isRow}
 
 -- the answer for a row's first cell under `Set`: 65535 is stop, another number a choice
 abbrev pub answerOf : ℕ → Answer
@@ -77,6 +80,10 @@ stepOf t shape observation p =
 unfoldable pub isStopped : List ℕ → Shape → Position → Bool
 isStopped t shape p = isHolding t shape p && isStop (shape .order) t (p .row)
 
+-- how many steps are left at most: the rank of its row
+unfoldable pub leftOf : List ℕ → Shape → Position → Left
+leftOf t shape p = cond (isHolding t shape p) (Steps (rankCell (shape .order) t (p .row))) (left.Refused BadTable)
+
 -- ---- what is due: the answer in the reference's terms, and the position afterwards
 
 -- a choice, 65535 for stop and where nothing is set yet; or a refusal's number and place
@@ -85,6 +92,10 @@ toldAnswer (Choice c) = values (c ∷ [])
 toldAnswer Stop = values (stopCell ∷ [])
 toldAnswer Ready = values (stopCell ∷ [])
 toldAnswer (Refused r) = toldRefusal r
+
+abbrev pub toldLeft : Left → Told
+toldLeft (Steps r) = values (r ∷ [])
+toldLeft (left.Refused r) = toldRefusal r
 
 -- number 13 is not met where the cabinet stands: in the table's sizes, in the row, and in the next rows that it may lead to
 pub record Standing (t : List ℕ) (shape : Shape) (row : ℕ) : Type 0 where
@@ -127,3 +138,7 @@ pub data SteppedAs (t : List ℕ) (shape : Shape) (observation : ℕ) (p : Posit
   moved : Holds t shape p → (¬ OnStop t shape p) → observation < 2 ^ (shape .observed)
       → SteppedAs t shape observation p (values (stepChoice (shape .order) t (p .row) observation ∷ []))
       (record { row = nextCell (shape .order) t (p .row) observation; choice = stepChoice (shape .order) t (p .row) observation })
+
+pub data LeftAs (t : List ℕ) (shape : Shape) (p : Position) : Told → Type 0 where
+  no-place : (¬ Holds t shape p) → LeftAs t shape p (refused 13 0)
+  shown : Holds t shape p → LeftAs t shape p (values (rankCell (shape .order) t (p .row) ∷ []))

@@ -6,16 +6,17 @@ ghost use Rattle.basics.specs.declared.order.Order.the-variants.{Set, Read};
 ghost use Rattle.play.specs.Limits.{sideLimit};
 ghost use Rattle.play.specs.Cells.{rowSize, nextCell};
 ghost use Rattle.stepping.specs.Position.{moveTo, getReady, startAt, moveFrom, refusedAt, isStanding, isHeld, isHolding};
-ghost use Rattle.stepping.specs.Position.{startOf, stepOf, isStopped, toldAnswer, StartedAs, SteppedAs};
+ghost use Rattle.stepping.specs.Position.{startOf, stepOf, isStopped, leftOf, toldAnswer, toldLeft, StartedAs, SteppedAs, LeftAs};
 use basics::Order;
 use lines::Refusal;
-use printer::is_row;
-use printer::is_sized;
 use tables::STOP;
 use tables::Shape;
 use tables::choice_cell;
 use tables::first_cell;
 use tables::next_cell;
+use tables::rank_cell;
+use wellformed::is_row;
+use wellformed::is_sized;
 
 // The row, and the choice last set: 65535 for stop, and where none is set yet.
 pub struct Position {
@@ -35,6 +36,12 @@ pub enum Answer {
 pub struct Moved {
     pub position: Position,
     pub answer: Answer,
+}
+
+// How many steps are left at most, or one refusal.
+pub enum Left {
+    Steps(u16),
+    Refused(Refusal),
 }
 
 // A refusal: the position stays as it was.
@@ -162,6 +169,17 @@ pub fn is_stopped(table: &[u16], shape: Shape, position: Position) -> bool
     let order = shape.order;
     let first = first_cell(table, order, position.row);
     first == STOP
+}
+
+// How many steps are left at most, as an operator's panel shows it: the rank of the row where the cabinet stands. Refusal: 13.
+pub fn steps_left(table: &[u16], shape: Shape, position: Position) -> Left
+    ensures { λ r. ⌜ (r ≡ leftOf (now (table .entry)) shape position) × LeftAs (now (table .entry)) shape position (toldLeft r) ⌝ }
+{
+    if !is_holding(table, shape, position) {
+        return Left::Refused(Refusal::BadTable);
+    }
+    let order = shape.order;
+    Left::Steps(rank_cell(table, order, position.row))
 }
 
 // Starts at row 0, whatever the old position. Refusal: 13.

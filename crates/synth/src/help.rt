@@ -37,16 +37,17 @@ a plan word. A formula uses names declared above it. Operators, loosest first:
 
 The answer is a table, its fields parted by tabs: here for out a, see s, and
 rule s -> X a.
-  table  3  2      3 rows; every run stops after 2 steps at the latest
-  row  0  0  1  2  row 0, the start: choice 0; then row 1 if s is false, else 2
-  row  1  stop     row 1: the run ends
-  row  2  1  1  1  row 2: choice 1 sets a; then row 1 in either case
+  table  3  2         3 rows; every run stops after 2 steps at the latest
+  row  0  2  0  1  2  row 0, the start, at most 2 steps to go: choice 0; then
+                      row 1 if s is false, else 2
+  row  1  0  stop     row 1, 0 steps to go: the run ends
+  row  2  1  1  1  1  row 2, 1 step to go: choice 1 sets a; then row 1
 A choice is the sum of the out signals that are set: 1 for the first declared,
 2, 4 and 8 for those after it. An observation is such a sum of the see signals;
 behind the choice stands the next row for observation 0, 1, 2 and so on.
 With order read the first word is rtable, and a row has a choice and a next row
-for observation 0, then for 1, and so on: row  0  0  1  0  2 is choice 0, then
-row 1, if s is false, and choice 0, then row 2, if s is true.
+for observation 0, then for 1, and so on: row  0  2  0  1  0  2 is 2 steps to go,
+choice 0, then row 1, if s is false, and choice 0, then row 2, if s is true.
 
 Or the answer is one line: refused, a number, and the line it is about, or 0:
    1  over 4,096 bytes

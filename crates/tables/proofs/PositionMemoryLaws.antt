@@ -83,17 +83,18 @@ module _ (n choices observations : ℕ) (moves finals ranks : List ℕ) (P : Pos
       entry-within o A choices observations q n j h (omega (arith, P .few))
       ∙ ap (λ i. ltb i (suc q)) (sym (rank-read o n choices observations n moves finals ranks e j (P .inside k c s inside cb sb)))
 
-  own-read : (o : Order) → Ranked o → (q : ℕ) → q < n → rankFrom o A choices observations n k ≡ q → getD ranks k 0 ≡ q
-  own-read o e q b is =
+  -- the position's own entry is its rank
+  pub own-read : (o : Order) → Ranked o → rankFrom o A choices observations n k < n → getD ranks k 0 ≡ rankFrom o A choices observations n k
+  own-read o e b =
       rank-read o n choices observations n moves finals ranks e k inside
-      ∙ entry-ranked o A choices observations n k (lt-ltb (rankFrom o A choices observations n k) n (omega arith)) ∙ is
+      ∙ entry-ranked o A choices observations n k (lt-ltb (rankFrom o A choices observations n k) n b)
 
   pub answer-read : (o : Order) → Ranked o → (q : ℕ) → suc q < n → HasRank (orderOf o choices observations) A k (suc q)
       → (s : ℕ) → s < observations → answerAt o moves ranks choices observations k s ≡ bestAnswer o A choices observations n k s
   unfolding works isBest
   answer-read Set e q small a s sb =
       let is : rankFrom Set A choices observations n k ≡ suc q = rank-searched (orderOf Set choices observations) A n (suc q) k small a in
-      ap (λ r. firstThat (works moves ranks choices observations r k) choices) (own-read Set e (suc q) small is)
+      ap (λ r. firstThat (works moves ranks choices observations r k) choices) (own-read Set e (omega arith) ∙ is)
       ∙ first-ext choices _ _ (λ c cb. all-ext observations _ _ (λ t tb. sym (within-read Set e q (omega arith) c t cb tb)))
       ∙ sym (ap (λ r. firstThat (λ c. all observations (λ t. leadsWithin Set A choices observations (pred r) k c t)) choices) is)
   answer-read Read e q small a s sb =

@@ -3,7 +3,7 @@ ghost use mathlib.Core.Path.{_≡_};
 ghost use Prim.Native.Nat.{_+_, _*_, _≤_, _<_};
 ghost use lib.ListN.{length, replicate, set};
 ghost use Rattle.play.specs.Limits.{sideLimit};
-ghost use Rattle.play.specs.Cells.{choiceAt, nextAt, rowSize, firstCell, choiceCell, nextCell};
+ghost use Rattle.play.specs.Cells.{choiceAt, nextAt, rankAt, rowSize, firstCell, choiceCell, nextCell, rankCell};
 use crate::sizes::LONG_ROW;
 use crate::sizes::SIDE_LIMIT;
 use basics::Order;
@@ -13,7 +13,7 @@ pub fn row_size(order: Order) -> usize
     ensures { λ r. ⌜ r ≡ rowSize order ⌝ }
 {
     match order {
-        Order::Set => 1 + SIDE_LIMIT,
+        Order::Set => 2 + SIDE_LIMIT,
         Order::Read => LONG_ROW,
     }
 }
@@ -37,6 +37,16 @@ pub(crate) fn next_at(order: Order, s: usize) -> usize
     match order {
         Order::Set => 1 + s,
         Order::Read => 2 + 2 * s,
+    }
+}
+
+// Where the rank stands in a row: at its end.
+pub fn rank_at(order: Order) -> usize
+    ensures { λ r. ⌜ r ≡ rankAt order ⌝ }
+{
+    match order {
+        Order::Set => 1 + SIDE_LIMIT,
+        Order::Read => 1 + 2 * SIDE_LIMIT,
     }
 }
 
@@ -66,6 +76,14 @@ pub fn next_cell(table: &[u16], order: Order, row: usize, s: usize) -> u16
     table[row * row_size(order) + next_at(order, s)]
 }
 
+// A row's rank.
+pub fn rank_cell(table: &[u16], order: Order, row: usize) -> u16
+    requires { ⌜ row * rowSize order + rowSize order ≤ length (now table) ⌝ }
+    ensures { λ r. ⌜ r ≡ rankCell order (now (table .entry)) row ⌝ }
+{
+    table[row * row_size(order) + rank_at(order)]
+}
+
 // Writes a row's first cell.
 pub(crate) fn set_first(table: &mut [u16], order: Order, row: usize, c: u16)
     requires { ⌜ row * rowSize order + rowSize order ≤ length (now table) ⌝ }
@@ -90,6 +108,14 @@ pub(crate) fn set_next(table: &mut [u16], order: Order, row: usize, s: usize, ne
     ensures { λ _. ⌜ now (table .exit) ≡ set (now (table .entry)) (row * rowSize order + nextAt order s) next ⌝ }
 {
     table[row * row_size(order) + next_at(order, s)] = next;
+}
+
+// Writes a row's rank.
+pub(crate) fn set_rank(table: &mut [u16], order: Order, row: usize, r: u16)
+    requires { ⌜ row * rowSize order + rowSize order ≤ length (now table) ⌝ }
+    ensures { λ _. ⌜ now (table .exit) ≡ set (now (table .entry)) (row * rowSize order + rankAt order) r ⌝ }
+{
+    table[row * row_size(order) + rank_at(order)] = r;
 }
 
 // Sets every cell to 0.

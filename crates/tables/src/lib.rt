@@ -14,6 +14,8 @@ pub use answering::answer;
 pub use cells::choice_cell;
 pub use cells::first_cell;
 pub use cells::next_cell;
+pub use cells::rank_at;
+pub use cells::rank_cell;
 pub use cells::row_size;
 pub use shape::Shape;
 pub use sizes::BELIEF_LIMIT;

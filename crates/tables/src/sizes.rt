@@ -17,7 +17,7 @@ pub const STOP: u16 = 65535;
 pub(crate) const NO_RANK: u16 = 65535;
 
 // The cells of a row of pairs, the longer kind.
-pub(crate) const LONG_ROW: usize = 1 + 2 * SIDE_LIMIT;
+pub(crate) const LONG_ROW: usize = 2 + 2 * SIDE_LIMIT;
 
 // The least cells of a table to be written.
 pub const TABLE_SIZE: usize = BELIEF_LIMIT * LONG_ROW;

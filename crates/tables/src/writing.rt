@@ -5,7 +5,7 @@ ghost use lib.Dec.{eqb};
 ghost use lib.ListN.{length, getD, set, replicate, take};
 ghost use Rattle.basics.specs.Reach.{indexIn};
 ghost use Rattle.play.specs.Limits.{beliefLimit, sideLimit, pairLimit};
-ghost use Rattle.play.specs.Cells.{rowSize, tableSize, firstOf, stopRow};
+ghost use Rattle.play.specs.Cells.{rowSize, tableSize, firstOf, stopRow, withRank};
 ghost use Rattle.play.specs.Table.{rows, tableCells};
 ghost use Rattle.basics.specs.Lists.{written};
 ghost use Rattle.play.specs.Answer.{startRank};
@@ -15,6 +15,7 @@ use crate::cells::row_size;
 use crate::cells::set_choice;
 use crate::cells::set_first;
 use crate::cells::set_next;
+use crate::cells::set_rank;
 use crate::choosing::put_answers;
 use crate::sizes::BELIEF_LIMIT;
 use crate::sizes::PAIR_LIMIT;
@@ -35,6 +36,14 @@ fn row_of(rows: &[u8], m: usize, k: u8) -> usize
         i += 1;
     }
     m
+}
+
+// The rank of position k.
+fn rank_of(ranks: &[u16], k: usize) -> u16
+    requires { ⌜ k < length (now ranks) ⌝ }
+    ensures { λ r. ⌜ r ≡ getD (now (ranks .entry)) k 0 ⌝ }
+{
+    ranks[k]
 }
 
 // Writes the row of a position where the table stops.
@@ -72,8 +81,8 @@ fn put_pair(order: Order, cells: &mut [u16], s: usize, c: u16, next: u16)
     set_next(cells, order, 0, s, next);
 }
 
-// Writes the row of position k, with its choice for each observation; its next positions are put behind the m rows where they are new.
-// Answers how many rows there are then.
+// Writes the row of position k, with its choice for each observation and its rank; its next positions are put behind the m rows where they
+// are new. Answers how many rows there are then.
 fn put_row(
     order: Order,
     moves: &[u8],
@@ -81,6 +90,7 @@ fn put_row(
     choices: usize,
     observations: usize,
     k: usize,
+    rank: u16,
     m: usize,
     rows: &mut [u8],
     cells: &mut [u16],
@@ -98,8 +108,8 @@ fn put_row(
     ensures { λ r. ⌜ r ≡ length (rowsWith (now (moves .entry)) choices observations k (now (answers .entry)) (take m (now (rows .entry)))) ⌝ }
     ensures { λ _. ⌜ now (rows .exit)
         ≡ written (rowsWith (now (moves .entry)) choices observations k (now (answers .entry)) (take m (now (rows .entry)))) (now (rows .entry)) ⌝ }
-    ensures { λ _. ⌜ now (cells .exit) ≡ rowWith order (now (moves .entry)) choices observations k (now (answers .entry))
-        (rowsWith (now (moves .entry)) choices observations k (now (answers .entry)) (take m (now (rows .entry)))) ⌝ }
+    ensures { λ _. ⌜ now (cells .exit) ≡ withRank order rank (rowWith order (now (moves .entry)) choices observations k (now (answers .entry))
+        (rowsWith (now (moves .entry)) choices observations k (now (answers .entry)) (take m (now (rows .entry))))) ⌝ }
 {
     put_first(order, answers, cells);
     let from = k * PAIR_LIMIT;
@@ -116,6 +126,7 @@ fn put_row(
         put_pair(order, cells, s, c as u16, j as u16);
         s += 1;
     }
+    set_rank(cells, order, 0, rank);
     n
 }
 
@@ -159,6 +170,7 @@ pub(crate) fn put_table(
                 choices,
                 observations,
                 k,
+                rank_of(ranks, k),
                 m,
                 &mut rows,
                 &mut table[at..end],

@@ -18,7 +18,7 @@ use Rattle.basics.proofs.PiecesLaws.{behind-more}
 use Rattle.basics.proofs.Stores.{Put, put-front}
 use Rattle.basics.proofs.TextLaws.{turn}
 use Rattle.play.specs.Cells.{rowSize}
-use Rattle.printer.proofs.WellFormedLaws.{row-room as room-of-row}
+use Rattle.wellformed.proofs.WellFormedLaws.{row-room as room-of-row}
 use Rattle.tables.specs.declared.shape.Shape.{Shape}
 use Rattle.loader.specs.Candidate.{saysStop, rowIn, observedIn, orderIn, rowsIn, goesOn, shapeIn, cellsIn}
 use Rattle.loader.proofs.CandidateLaws.{rows-length}

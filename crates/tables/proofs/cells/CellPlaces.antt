@@ -5,8 +5,8 @@ use native.Mathlib.Omega.{arith}
 use mathlib.Core.Path.{_≡_, sym, ap, ap₂, _∙_, subst}
 use Rattle.basics.specs.declared.order.Order.{Order}
 use Rattle.play.specs.Limits.{sideLimit}
-use Rattle.play.specs.Cells.{choiceAt, nextAt, rowSize}
-use Rattle.play.proofs.CellsLaws.{first-inside, choice-inside, next-inside}
+use Rattle.play.specs.Cells.{choiceAt, nextAt, rankAt, rowSize}
+use Rattle.play.proofs.CellsLaws.{first-inside, choice-inside, next-inside, rank-inside}
 
 module _ (o : Order) (row size : ℕ) (is : size ≡ rowSize o) where
   pub first-place : row * size ≡ row * rowSize o
@@ -31,3 +31,6 @@ module _ (o : Order) (row size : ℕ) (is : size ≡ rowSize o) where
 
     pub next-room : (s i : ℕ) → s < sideLimit → i ≡ nextAt o s → row * size + i < n
     next-room s i few at = room i (nextAt o s) at (next-inside o s few)
+
+    pub rank-room : (i : ℕ) → i ≡ rankAt o → row * size + i < n
+    rank-room i at = room i (rankAt o) at (rank-inside o)

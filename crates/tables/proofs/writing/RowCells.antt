@@ -18,7 +18,7 @@ use Rattle.basics.specs.declared.order.Order.the-variants.{Set, Read}
 use Rattle.basics.proofs.Booleans.{test}
 use Rattle.basics.proofs.ListsLaws.{tabulate-ext}
 use Rattle.play.specs.Limits.{sideLimit}
-use Rattle.play.specs.Cells.{choiceAt, nextAt, rowSize, stopCell, firstOf, stopRow, choiceRow, pairCell}
+use Rattle.play.specs.Cells.{choiceAt, nextAt, rankAt, rowSize, stopCell, firstOf, stopRow, choiceRow, pairCell, withRank}
 use Rattle.tables.specs.PositionMemory.{withChoice, withPair}
 
 -- ---- the first cell
@@ -36,6 +36,21 @@ pub stop-is : (o : Order) → set (replicate (rowSize o) 0) 0 stopCell ≡ stopR
 unfolding stopRow
 stop-is Set = refl
 stop-is Read = refl
+
+-- ---- the last cell
+
+-- written over what is there
+pub rank-put : (o : Order) (cells row : List ℕ) (r : ℕ) → cells ≡ row → set cells (0 * rowSize o + rankAt o) r ≡ withRank o r row
+unfolding withRank
+rank-put o cells row r e =
+    let at : 0 * rowSize o + rankAt o ≡ rankAt o = omega arith in
+    ap₂ (λ l i. set l i r) e at
+
+-- where the table stops it is 0 as it is
+pub stop-ranked : (o : Order) → withRank o 0 (stopRow o) ≡ stopRow o
+unfolding withRank stopRow
+stop-ranked Set = refl
+stop-ranked Read = refl
 
 -- ---- the cells of the observations
 
@@ -118,7 +133,7 @@ module _ (answer next : ℕ → ℕ) where
       let at : nextAt Set s ≡ suc s = omega arith in
       ap (λ i. set (choiceRow Set s answer next) i (next s)) at
       ∙ ap (λ l. answer 0 ∷ l)
-      (set-table sideLimit s (next s) (λ t. cond (ltb t s) (next t) 0) (λ t. cond (ltb t (s + 1)) (next t) 0)
+      (set-table (1 + sideLimit) s (next s) (λ t. cond (ltb t s) (next t) 0) (λ t. cond (ltb t (s + 1)) (next t) 0)
       (ap (λ (b : Bool). cond b (next s) 0) (lt-ltb s (s + 1) (omega arith)))
       (λ t ne. ap (λ (b : Bool). cond b (next t) 0) (below-next t s ne)))
   row-more Read s =
@@ -126,8 +141,8 @@ module _ (answer next : ℕ → ℕ) where
       let at′ : nextAt Read s ≡ suc (s * 2 + 1) = omega arith in
       ap₂ (λ i j. set (set (choiceRow Read s answer next) i (answer s)) j (next s)) at at′
       ∙ ap (λ l. 0 ∷ set l (s * 2 + 1) (next s))
-      (set-table (2 * sideLimit) (s * 2 + 0) (answer s) (entry s) (chosen s)
+      (set-table (1 + 2 * sideLimit) (s * 2 + 0) (answer s) (entry s) (chosen s)
       (ap (λ (b : Bool). cond b (answer s) (entry s (s * 2 + 0))) (eq-eqb (s * 2 + 0) (s * 2 + 0) refl))
       (λ i ne. sym (ap (λ (b : Bool). cond b (answer s) (entry s i)) (ne-eqb i (s * 2 + 0) ne))))
       ∙ ap (λ l. 0 ∷ l)
-      (set-table (2 * sideLimit) (s * 2 + 1) (next s) (chosen s) (entry (s + 1)) (entry-new s 1 (omega arith)) (chosen-is s))
+      (set-table (1 + 2 * sideLimit) (s * 2 + 1) (next s) (chosen s) (entry (s + 1)) (entry-new s 1 (omega arith)) (chosen-is s))

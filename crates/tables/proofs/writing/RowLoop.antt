@@ -18,11 +18,11 @@ use Rattle.basics.specs.Reach.{isIn, indexIn, addNew, addAll}
 use Rattle.basics.proofs.ReachLaws.{added-all}
 use Rattle.basics.proofs.GrowingList.{add-old, add-new, index-kept, index-last}
 use Rattle.play.specs.Limits.{beliefLimit, pairLimit}
-use Rattle.play.specs.Cells.{rowSize, firstOf, choiceRow}
+use Rattle.play.specs.Cells.{rankAt, rowSize, firstOf, choiceRow, withRank}
 use Rattle.tables.specs.PositionMemory.{nextOf, nextBy, rowsWith, rowWith, withPair}
 use Rattle.play.proofs.CellsLaws.{choice-length}
 use Rattle.tables.proofs.writing.RowNumbers.{index-le, index-out, index-in}
-use Rattle.tables.proofs.writing.RowCells.{row-begin, row-more}
+use Rattle.tables.proofs.writing.RowCells.{rank-put, row-begin, row-more}
 use Rattle.basics.proofs.SaysLaws.{eqb-says}
 
 -- ---- a list to which things are added one after another
@@ -209,17 +209,21 @@ module _ (o : Order) (moves answers : List ℕ) (choices observations k m : ℕ)
           }
           )
 
-  -- all is done
+  -- all is done, and the rank is written
   pub adding-end : (s n : ℕ) (rows cells : List ℕ) → observations ≤ s → Adding s n rows cells
-      → (n ≡ length rowsAll) × ((rows ≡ rowsAll ++ drop (length rowsAll) rows₀) × (cells ≡ rowWith o moves choices observations k answers rowsAll))
+      → (rank : ℕ) (cells′ : List ℕ) → cells′ ≡ set cells (0 * rowSize o + rankAt o) rank
+      → (n ≡ length rowsAll)
+      × ((rows ≡ rowsAll ++ drop (length rowsAll) rows₀) × (cells′ ≡ withRank o rank (rowWith o moves choices observations k answers rowsAll)))
   unfolding cellsTo
-  adding-end s n rows cells past a =
+  adding-end s n rows cells past a rank cells′ q =
       let e : rowsTo s ≡ rowsAll = rows-end s past in
       let is-n : n ≡ length rowsAll = a .count ∙ ap length e in
-      let is-s : s ≡ observations = omega (arith, a .turn) in (
+      let is-s : s ≡ observations = omega (arith, a .turn) in
+      let is : cells ≡ rowWith o moves choices observations k answers rowsAll =
+      a .cells-are ∙ ap (λ i. choiceRow o i (λ t. getD answers t 0) (λ t. indexIn eqb (next t) rowsAll)) is-s in (
         is-n,
         (
           sym (take-append-drop n rows) ∙ ap₂ _++_ (a .front ∙ e) (a .rest ∙ ap (λ i. drop i rows₀) is-n),
-          a .cells-are ∙ ap (λ i. choiceRow o i (λ t. getD answers t 0) (λ t. indexIn eqb (next t) rowsAll)) is-s,
+          q ∙ rank-put o cells (rowWith o moves choices observations k answers rowsAll) rank is,
         ),
       )

@@ -23,23 +23,23 @@ use Rattle.basics.proofs.EqualRows.{length-rows}
 use Rattle.basics.proofs.LentPart.{part-length}
 use Rattle.basics.proofs.BreadthFirst.{searchFrom, search-begin, search-turn}
 use Rattle.play.specs.Limits.{beliefLimit}
-use Rattle.play.specs.Cells.{rowSize, tableSize, stopRow, choiceRow}
-use Rattle.play.specs.Rank.{Arena, bestAnswer}
+use Rattle.play.specs.Cells.{rowSize, tableSize, stopRow, choiceRow, withRank}
+use Rattle.play.specs.Rank.{Arena, rankFrom, bestAnswer}
 use Rattle.play.specs.Table.{listOf, followersBy, followers, rows, rowOf, tableCells}
 use Rattle.play.specs.Answer.{startRank}
 use Rattle.tables.specs.PositionMemory.{arenaIn, Positions, Choices, ranksBelow, nextOf, nextBy, answerAt, answersAt, rowsWith, rowWith}
 use Rattle.basics.proofs.Booleans.{clash}
 use Rattle.basics.proofs.BoundedLaws.{first-passes, first-least}
 use Rattle.play.proofs.StepOrder.{StepOrder, orderOf}
-use Rattle.play.proofs.RankLaws.{In, HasRank}
+use Rattle.play.proofs.RankLaws.{In, HasRank, rank-searched, final-rank}
 use Rattle.play.proofs.FiniteArena.{Closed}
 use Rattle.play.proofs.Optimality.{descends}
 use Rattle.play.proofs.RankedRows.{Ranked, rows-listed, rows-ranked}
 use Rattle.play.proofs.TableLaws.{row-stop, row-goes, row-width}
 use Rattle.play.proofs.CellsLaws.{choice-ext}
 use Rattle.basics.proofs.SaysLaws.{eqb-says}
-use Rattle.tables.proofs.PositionMemoryLaws.{answer-read}
-use Rattle.tables.proofs.writing.RowCells.{first-at}
+use Rattle.tables.proofs.PositionMemoryLaws.{own-read, answer-read}
+use Rattle.tables.proofs.writing.RowCells.{first-at, stop-ranked}
 use Rattle.tables.proofs.writing.SearchTurns.{search-found, search-length, search-at, search-number}
 
 -- ---- lists of rows
@@ -110,14 +110,17 @@ module _ (o : Order) (n choices observations : ℕ) (moves finals : List ℕ) wh
   abbrev answerFor : ℕ → ℕ → ℕ
   answerFor = bestAnswer o arena choices observations n
 
-  cells-stop : (k : ℕ) → arena .final k ≡ true → cellsOf k ≡ stopRow o
+  abbrev rankFor : ℕ → ℕ
+  rankFor = rankFrom o arena choices observations n
+
+  cells-stop : (k : ℕ) → arena .final k ≡ true → rankFor k ≡ 0 → cellsOf k ≡ stopRow o
   unfolding cellsOf
-  cells-stop k t = row-stop o arena eqb choices observations n allRows k t
+  cells-stop k t e = ap₂ (withRank o) e (row-stop o arena eqb choices observations n allRows k t) ∙ stop-ranked o
 
   cells-goes : (k : ℕ) → arena .final k ≡ false
-      → cellsOf k ≡ choiceRow o observations (answerFor k) (λ s. indexIn eqb (arena .move k (answerFor k s) s) allRows)
+      → cellsOf k ≡ withRank o (rankFor k) (choiceRow o observations (answerFor k) (λ s. indexIn eqb (arena .move k (answerFor k s) s) allRows))
   unfolding cellsOf
-  cells-goes k f = row-goes o arena eqb choices observations n allRows k f
+  cells-goes k f = ap (withRank o (rankFor k)) (row-goes o arena eqb choices observations n allRows k f)
 
   cells-length : (k : ℕ) → length (cellsOf k) ≡ rowSize o
   unfolding cellsOf
@@ -178,10 +181,17 @@ module _ (o : Order) (n choices observations : ℕ) (moves finals : List ℕ) wh
     row-lt : (k : ℕ) → k ∈ allRows → k < n
     row-lt k m = in-below n k .0 (row-ranked k m .0)
 
+    -- the rank of a row is found
+    row-rank : (k : ℕ) → k ∈ allRows → (rankFor k < n) × HasRank O arena k (rankFor k)
+    row-rank k m =
+        let (_, q, b, a) = row-ranked k m in
+        let small : q < n = omega arith in
+        subst (λ (r : ℕ). (r < n) × HasRank O arena k r) (sym (rank-searched O arena n q k small a)) (small, a)
+
     -- a row that is not final has a rank over 0, and takes choices
     row-chooses : (k : ℕ) → k ∈ allRows → arena .final k ≡ false
         → (q : ℕ) × (suc q < n) × HasRank O arena k (suc q) × ((s : ℕ) → s < observations → answerFor k s < choices)
-    row-chooses k m f = let (_, q, b, a) = row-ranked k m in on q b a
+    row-chooses k m f = let (b, a) = row-rank k m in on (rankFor k) b a
       where
         on : (q : ℕ) → q < n → HasRank O arena k q
             → (q : ℕ) × (suc q < n) × HasRank O arena k (suc q) × ((s : ℕ) → s < observations → answerFor k s < choices)
@@ -272,7 +282,7 @@ module _ (o : Order) (n choices observations : ℕ) (moves finals : List ℕ) wh
             → (met′ table′ : List ℕ) (m′ : ℕ) → table′ ≡ putMid at w table row → met′ ≡ met → m′ ≡ m → Turn table₀ (i + 1) m′ met′ table′
         turn-stop at w row is-at is-w room ends is-row met′ table′ m′ p q r =
             let stops : arena .final k ≡ true = eq-eqb (getD finals k 0) 1 ends in
-            let is : row ≡ cellsOf k = is-row ∙ sym (cells-stop k stops) in
+            let is : row ≡ cellsOf k = is-row ∙ sym (cells-stop k stops (final-rank O arena k (rankFor k) (row-rank k row-in .1) stops)) in
             rw (p, q, r) (
             record {
               read = omega arith;
@@ -340,14 +350,19 @@ module _ (o : Order) (n choices observations : ℕ) (moves finals : List ℕ) wh
               ap₂ (λ c l. indexIn eqb (arena .move k c s) l) (answers-are s h) grown-is
               ∙ search-number eqb after 0 n eqb-says allRows xs (after k) (i + 1) goes-on y in-after
 
-          row-is : rowWith o moves choices observations k answers grown ≡ cellsOf k
-          row-is = choice-ext o observations _ _ _ _ (P .some-observation) answers-are number-is ∙ sym (cells-goes k goes-here)
+          row-is : (rank : ℕ) → rank ≡ getD ranks k 0 → withRank o rank (rowWith o moves choices observations k answers grown) ≡ cellsOf k
+          row-is rank e =
+              ap₂ (withRank o) (e ∙ own-read n choices observations moves finals ranks P k (row-lt k row-in) o ranked (row-rank k row-in .0))
+              (choice-ext o observations _ _ _ _ (P .some-observation) answers-are number-is)
+              ∙ sym (cells-goes k goes-here)
 
-          pub turn-choice : (at w : ℕ) (row new : List ℕ) (r : ℕ) → at ≡ i * rowSize o → w ≡ rowSize o → tableSize ≤ length table₀
-              → (r ≡ length grown) × ((new ≡ grown ++ drop (length grown) met) × (row ≡ rowWith o moves choices observations k answers grown))
+          pub turn-choice : (at w : ℕ) (row new : List ℕ) (rank r : ℕ) → at ≡ i * rowSize o → w ≡ rowSize o → tableSize ≤ length table₀
+              → rank ≡ getD ranks k 0
+              → (r ≡ length grown) × ((new ≡ grown ++ drop (length grown) met)
+              × (row ≡ withRank o rank (rowWith o moves choices observations k answers grown)))
               → (met′ table′ : List ℕ) (m′ : ℕ) → table′ ≡ putMid at w table row → met′ ≡ new → m′ ≡ r → Turn table₀ (i + 1) m′ met′ table′
-          turn-choice at w row new r is-at is-w room (is-r, (is-new, is-row)) met′ table′ m′ p q e =
-              let is : row ≡ cellsOf k = is-row ∙ row-is in
+          turn-choice at w row new rank r is-at is-w room is-rank (is-r, (is-new, is-row)) met′ table′ m′ p q e =
+              let is : row ≡ cellsOf k = is-row ∙ row-is rank is-rank in
               let is-met : met′ ≡ grown ++ drop (length grown) met = q ∙ is-new in
               let is-m : m′ ≡ length grown = e ∙ is-r in
               rw (p, is-met, is-m) (

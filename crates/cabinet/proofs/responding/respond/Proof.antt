@@ -5,7 +5,7 @@ use native.Mathlib.Omega.{arith}
 use mathlib.Core.Path.{sym, ap}
 use lib.ListN.{length}
 use lib.Seq.{length-take-le}
-use Rattle.printer.proofs.WellFormedLaws.{size-fits}
+use Rattle.wellformed.proofs.WellFormedLaws.{size-fits}
 use Rattle.cabinet.specs.declared.printing.Printed.the-variants.{Text}
 use Rattle.cabinet.proofs.ResponseLaws.{tight-right, text-long, few-rows, rows-within, table-right, refusal-right}
 use borrow.Author.Needs.{needs}

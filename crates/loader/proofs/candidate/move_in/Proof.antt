@@ -1,10 +1,8 @@
 -- `loader::candidate::move_in` meets its contract.
 -- Assumes nothing.
 use native.Mathlib.Omega.{arith}
-use mathlib.Core.Path.{ap, _∙_}
+use mathlib.Core.Path.{_∙_}
 use borrow.Author.Needs.{needs}
-use Rattle.basics.specs.Numbers.{numberBelow}
-use Rattle.basics.proofs.NumbersLaws.{below-le}
 use Rattle.loader.proofs.ShownCells.{limit-few}
 use Rattle.loader.proofs.CandidateLaws.{size-small, shown-small, move-inside, move-zero, move-number}
 use Rattle.loader.proofs.candidate.move_in.Statement.{statement}
@@ -30,43 +28,30 @@ returns c =
 limit-at-requires : tie.Need-limit-at-requires
 limit-at-requires c κs = search needs
 
-sub-field : tie.Need-sub-field
-sub-field c =
+sub-number-at : tie.Need-sub-number-at
+sub-number-at c =
     let k = c .before .before in
     let a = k .before .before .before .args in
     let inside = move-inside (a .order) (a .n) (a .rows) (a .line .now) (a .i) _ _ (k .before .shown-from .ensures) (k .shown-count .ensures)
     (c .before .if1 .left) in
     omega (arith, inside .0, k .before .shown-from .ensures)
 
-add-field : tie.Need-add-field
-add-field c =
+add-number-at : tie.Need-add-number-at
+add-number-at c =
     let s = c .before .before .before .before .before in
     omega (arith, s .pre .1 .1, size-small (s .args .order))
 
-field-requires : tie.Need-field-requires
-field-requires c κs = search needs
-
-number-below-requires : tie.Need-number-below-requires
-number-below-requires c κs = search needs
-
-cast-result : tie.Need-cast-result
-cast-result c =
-    let m = c .before .before in
-    let s = m .before .before .before .before .before in
-    omega (
-      arith,
-      c .number-below .ensures,
-      below-le (m .limit-at .result) (c .before .field .result .now),
-      m .limit-at .ensures,
-      limit-few (s .args .order) (s .args .rows) (s .args .i) (s .pre .1 .0),
-    )
+number-at-requires : tie.Need-number-at-requires
+number-at-requires c κs =
+    let s = c .before .before .before .before .before in
+    omega (arith, c .limit-at .ensures, limit-few (s .args .order) (s .args .rows) (s .args .i) (s .pre .1 .0))
 
 returns-2 : tie.Need-returns-2
 returns-2 c =
-    let m = c .before .before in
+    let m = c .before in
     let k = m .before .before in
     let a = k .before .before .before .args in
-    c .number-below .ensures ∙ ap (numberBelow (m .limit-at .result)) (c .before .field .ensures)
+    c .number-at .ensures
     ∙ move-number (a .order) (a .n) (a .rows) (a .line .now) (a .i) _ _ (k .before .shown-from .ensures) (k .shown-count .ensures)
     (m .before .if1 .left) _ (m .limit-at .ensures)
 
@@ -79,9 +64,7 @@ move-in-spec =
     add-if1
     returns
     limit-at-requires
-    sub-field
-    add-field
-    field-requires
-    number-below-requires
-    cast-result
+    sub-number-at
+    add-number-at
+    number-at-requires
     returns-2)

@@ -4,7 +4,7 @@ use native.Mathlib.Omega.{arith}
 use lib.ListN.{replicate, length-take}
 use borrow.Author.Needs.{needs}
 use Rattle.play.specs.Cells.{tableSize}
-use Rattle.loader.proofs.LoadedAsLaws.{load-short, taken-long, cells-ask, size-few, cells-in, cells-long, print-asks, count-le, load-done}
+use Rattle.loader.proofs.LoadedAsLaws.{load-short, taken-long, cells-ask, size-few, cells-in, cells-long, fault-asks, count-le, load-done}
 use Rattle.loader.proofs.loading.load.Statement.{statement}
 use Rattle.loader.proofs.loading.load.Tie as tie
 
@@ -46,21 +46,21 @@ array-share-prefix-cells c =
     let text = h .before .before .before .before .args .text .now in
     cells-in text (h .shape-in .ensures) (replicate tableSize 0) (p .put-rows .ensures) (z .row-size .ensures)
 
-slice-aggregate-compare-print : tie.Need-slice-aggregate-compare-print
-slice-aggregate-compare-print c =
+slice-aggregate-fault-in : tie.Need-slice-aggregate-fault-in
+slice-aggregate-fault-in c =
     let z = c .before .before in
     let p = z .before .before in
     let h = p .before .before .before in
     let text = h .before .before .before .before .args .text .now in
     cells-long text (h .shape-in .ensures) (replicate tableSize 0) (p .put-rows .ensures) (z .row-size .ensures)
 
-compare-print-requires : tie.Need-compare-print-requires
-compare-print-requires c κs =
+fault-in-requires : tie.Need-fault-in-requires
+fault-in-requires c κs =
     let z = c .before .before in
     let p = z .before .before in
     let h = p .before .before .before in
     let text = h .before .before .before .before .args .text .now in
-    print-asks text (h .shape-in .ensures) (replicate tableSize 0) (p .put-rows .ensures) (z .row-size .ensures) (p .before .before .worst-in .ensures)
+    fault-asks text (h .shape-in .ensures) (replicate tableSize 0) (p .put-rows .ensures) (z .row-size .ensures) (p .before .before .worst-in .ensures)
 
 count-at-requires : tie.Need-count-at-requires
 count-at-requires c κs = search needs
@@ -73,7 +73,7 @@ array-share-prefix-cells-2 c =
     let text = h .before .before .before .before .args .text .now in
     let inside = cells-in text (h .shape-in .ensures) (replicate tableSize 0) (p .put-rows .ensures) (z .row-size .ensures) in
     let count = count-le text (h .shape-in .ensures) (replicate tableSize 0) (p .put-rows .ensures) (z .row-size .ensures)
-    (c .before .compare-print .result) (c .count-at .ensures) in
+    (c .before .fault-in .result) (c .count-at .ensures) in
     omega (arith, inside, count)
 
 slice-aggregate-copy : tie.Need-slice-aggregate-copy
@@ -84,7 +84,7 @@ slice-aggregate-copy c =
     let text = h .before .before .before .before .args .text .now in
     let inside = cells-in text (h .shape-in .ensures) (replicate tableSize 0) (p .put-rows .ensures) (z .row-size .ensures) in
     let count = count-le text (h .shape-in .ensures) (replicate tableSize 0) (p .put-rows .ensures) (z .row-size .ensures)
-    (c .before .before .compare-print .result) (c .before .count-at .ensures) in
+    (c .before .before .fault-in .result) (c .before .count-at .ensures) in
     taken-long _ _ (omega (arith, inside, count))
 
 copy-requires : tie.Need-copy-requires
@@ -95,7 +95,7 @@ copy-requires c κs =
     let text = h .before .before .before .before .args .text .now in
     let few = size-few text (h .shape-in .ensures) (replicate tableSize 0) (p .put-rows .ensures) (z .row-size .ensures) in
     let count = count-le text (h .shape-in .ensures) (replicate tableSize 0) (p .put-rows .ensures) (z .row-size .ensures)
-    (c .before .before .before .compare-print .result) (c .before .before .count-at .ensures) in
+    (c .before .before .before .fault-in .result) (c .before .before .count-at .ensures) in
     simp length-take (omega (arith, few, h .before .if1 .left, count))
 
 answer-at-requires : tie.Need-answer-at-requires
@@ -115,7 +115,7 @@ returns-2 c =
     let h = w .before in
     let a = h .before .before .before .before .args in
     load-done (a .text .now) (h .shape-in .ensures) (replicate tableSize 0) (p .put-rows .ensures) (z .row-size .ensures) (w .worst-in .ensures)
-    (a .table .now) (h .before .if1 .left) (d .compare-print .ensures) (n .count-at .ensures) _ (c .answer-at .ensures) _ (k .copy .ensures)
+    (a .table .now) (h .before .if1 .left) (d .fault-in .ensures) (n .count-at .ensures) _ (c .answer-at .ensures) _ (k .copy .ensures)
 
 pub load-spec : {M : Type 1} → statement M
 load-spec =
@@ -129,8 +129,8 @@ load-spec =
     row-size-requires
     mul-end
     array-share-prefix-cells
-    slice-aggregate-compare-print
-    compare-print-requires
+    slice-aggregate-fault-in
+    fault-in-requires
     count-at-requires
     array-share-prefix-cells-2
     slice-aggregate-copy

@@ -9,7 +9,7 @@ use borrow.Author.Needs.{needs}
 use Rattle.printer.specs.Text.{rowText, rowsText}
 use Rattle.basics.proofs.Stores.{Put, put-none, put-same}
 use Rattle.basics.proofs.TextLaws.{turn}
-use Rattle.printer.proofs.WellFormedLaws.{row-room}
+use Rattle.wellformed.proofs.WellFormedLaws.{row-room}
 use Rattle.printer.proofs.writing.put_rows.Statement.{statement}
 use Rattle.printer.proofs.writing.put_rows.Tie as tie
 

@@ -12,11 +12,11 @@ use Rattle.tables.proofs.writing.put_row.Statement.{statement}
 use Rattle.tables.proofs.writing.put_row.Tie as tie
 
 abbrev Inv-loop : tie.InvT-loop
-Inv-loop order moves answers choices observations k m rows₀ cells₀ from n₀ s₀ rows cells n s =
+Inv-loop order moves answers choices observations k rank m rows₀ cells₀ from n₀ s₀ rows cells n s =
     Adding order moves answers choices observations k m rows₀ s n rows cells
 
 abbrev μ-loop : tie.MeasureT-loop
-μ-loop order moves answers choices observations k m rows₀ cells₀ from n₀ s₀ rows cells n s = observations - s
+μ-loop order moves answers choices observations k rank m rows₀ cells₀ from n₀ s₀ rows cells n s = observations - s
 
 put-first-requires : tie.Need-put-first-requires Inv-loop μ-loop
 put-first-requires c κs = search needs
@@ -124,18 +124,22 @@ loop-again c =
     (λ w. adding-old _ _ _ _ _ _ _ _ _ _ _ _ (l .inv) (h .loop-test .taken) _ _ refl found (w .0 .left) _ _ _ (w .1) cells (w .2))
     (c .before .before .before .before .if1 .came)
 
+set-rank-requires : tie.Need-set-rank-requires Inv-loop μ-loop
+set-rank-requires c κs = omega (arith, cells-room _ _ _ _ _ _ _ _ _ _ _ _ (c .before .before .loop .inv))
+
 same-length : tie.Need-same-length Inv-loop μ-loop
 same-length c = search needs
 
 same-length-2 : tie.Need-same-length-2 Inv-loop μ-loop
 same-length-2 c =
-    let h = c in
-    let l = h .before .loop in
+    let h = c .before .before .before .before in
     let s = h .before .before .before .before .before .before .before .before .before .before in
-    cells-room _ _ _ _ _ _ _ _ _ _ _ _ (l .inv) ∙ sym (s .pre .1 .1 .1 .1 .1 .1 .1 .1 .1)
+    c .before .before .set-rank .kept .0 ∙ cells-room _ _ _ _ _ _ _ _ _ _ _ _ (h .before .loop .inv) ∙ sym (s .pre .1 .1 .1 .1 .1 .1 .1 .1 .1)
 
 returns : tie.Need-returns Inv-loop μ-loop
-returns c = adding-end _ _ _ _ _ _ _ _ _ _ _ _ (c .loop-test .left) (c .before .loop .inv)
+returns c =
+    let h = c .before .before .before .before in
+    adding-end _ _ _ _ _ _ _ _ _ _ _ _ (h .loop-test .left) (h .before .loop .inv) _ _ (c .before .before .set-rank .ensures)
 
 pub put-row-spec : {M : Type 1} → statement M
 put-row-spec =
@@ -161,6 +165,7 @@ put-row-spec =
     add-s
     loop-less
     loop-again
+    set-rank-requires
     same-length
     same-length-2
     returns)

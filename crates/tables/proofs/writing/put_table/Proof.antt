@@ -103,12 +103,19 @@ put-answers-requires c κs =
 slice-aggregate-put-row : tie.Need-slice-aggregate-put-row Inv-loop μ-loop
 slice-aggregate-put-row c = search needs
 
+rank-of-requires : tie.Need-rank-of-requires Inv-loop μ-loop
+rank-of-requires c κs =
+    let h = c .before .before .before .before .before .before in
+    let l = h .before .loop in
+    let s = h .before .before .before .before .before .before .before in
+    omega (arith, row-small _ _ _ _ _ _ (s .pre .0) (s .pre .1 .1 .1 .0) _ _ _ _ _ (l .inv .0) (h .loop-test .taken) _ refl, s .pre .1 .0)
+
 slice-aggregate-put-row-2 : tie.Need-slice-aggregate-put-row-2 Inv-loop μ-loop
 slice-aggregate-put-row-2 c = search needs
 
 mul-put-row : tie.Need-mul-put-row Inv-loop μ-loop
 mul-put-row c =
-    let h = c .before .before .before .before .before .before .before in
+    let h = c .before .before .before .before .before .before .before .before in
     let l = h .before .loop in
     let s = h .before .before .before .before .before .before .before in
     omega (arith, row-room (s .args .order) (l .i) _ (omega (arith, h .loop-test .taken, l .inv .0 .few)) (h .before .before .row-size .ensures))
@@ -121,7 +128,7 @@ part-put-row-start c = search needs
 
 part-put-row-end : tie.Need-part-put-row-end Inv-loop μ-loop
 part-put-row-end c =
-    let h = c .before .before .before .before .before .before .before in
+    let h = c .before .before .before .before .before .before .before .before in
     let l = h .before .loop in
     let s = h .before .before .before .before .before .before .before in
     let room = row-room (s .args .order) (l .i) _ (omega (arith, h .loop-test .taken, l .inv .0 .few)) (h .before .before .row-size .ensures) in
@@ -129,13 +136,13 @@ part-put-row-end c =
 
 put-row-requires : tie.Need-put-row-requires Inv-loop μ-loop
 put-row-requires c κs =
-    let h = c .before .before .before .before .before .before .before .before in
+    let h = c .before .before .before .before .before .before .before .before .before in
     let l = h .before .loop in
     let s = h .before .before .before .before .before .before .before in
     let p = s .pre .0 in
-    let a = c .before .before .before .before .put-answers in
+    let a = c .before .before .before .before .before .put-answers in
     let small = row-small _ _ _ _ _ _ (s .pre .0) (s .pre .1 .1 .1 .0) _ _ _ _ _ (l .inv .0) (h .loop-test .taken) _ refl in
-    let goes = c .before .before .before .before .before .before .if1 .left in
+    let goes = c .before .before .before .before .before .before .before .if1 .left in
     let (choices, few) =
     row-asked _ _ _ _ _ _ (s .pre .0) (s .pre .1 .1 .1 .0) _ _ _ _ _ (l .inv .0) (h .loop-test .taken) _ refl
     _ (s .pre .1 .1 .0) goes _ _ (a .ensures) in
@@ -169,8 +176,9 @@ loop-again c =
     ))
     (λ w. (
       turn-choice _ _ _ _ _ _ (s .pre .0) (s .pre .1 .1 .1 .0) _ _ _ _ _ (l .inv .0) (h .loop-test .taken) _ refl
-          _ (p .0) (w .0 .left) _ _ (w .2 .ensures) _ _ _ _ _ at (same ∙ e) (p .1 .1) (w .7 .ensures) _ _ _ (w .11) (w .12) (w .14),
-      ap length (w .13) ∙ w .2 .kept .1 .1 .1 .1 .1 .1 .0 ∙ l .inv .1,
+          _ (p .0) (w .0 .left) _ _ (w .2 .ensures) _ _ _ _ _ _ at (same ∙ e) (p .1 .1) (w .5 .ensures) (w .8 .ensures)
+          _ _ _ (w .12) (w .13) (w .15),
+      ap length (w .14) ∙ w .2 .kept .1 .1 .1 .1 .1 .1 .0 ∙ l .inv .1,
     ))
     (c .if1 .came)
 
@@ -203,6 +211,7 @@ put-table-spec =
     slice-aggregate-put-answers
     put-answers-requires
     slice-aggregate-put-row
+    rank-of-requires
     slice-aggregate-put-row-2
     mul-put-row
     sub-put-row

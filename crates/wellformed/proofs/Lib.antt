@@ -1,0 +1,3 @@
+-- The tests, in the shape of the code, and what they say.
+pub mod WellFormedLaws
+pub mod TestsSay

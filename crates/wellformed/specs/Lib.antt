@@ -1,0 +1,2 @@
+-- What a table must be.
+pub mod WellFormed
