@@ -5,6 +5,7 @@ pub mod OrderLaws
 pub mod Booleans
 pub mod SaysLaws
 pub mod BoundedLaws
+pub mod GuardedTests
 -- lists
 pub mod ListsLaws
 pub mod MemberLaws

@@ -1,5 +1,5 @@
 -- The table that a text is compared with: what stands where a table's text has its numbers, brought within the limits, so that it can be
--- written as text whatever it is. Fields and lines are counted from 0: line 0 is the word that tells the order, the row count and the worst
+-- written as text whatever that text is. Fields and lines are counted from 0: line 0 is the word that tells the order, the row count and the worst
 -- case; line i + 1 is the word `row`, i, the rank, and `stop` or the printed cells.
 -- Assumes nothing.
 use Prim.Native.Nat.{ℕ, zero, suc, _+_, _-_, _%_, _^_}

@@ -45,7 +45,7 @@ module _ (o : Order) (A : Arena) (same : A .K → A .K → Bool) (choices observ
   row-goes f = rw (f, unranked)
 
   -- every row has as many cells
-  pub unranked-width : length (unranked o A same choices observations n ks k) ≡ rowSize o
+  unranked-width : length (unranked o A same choices observations n ks k) ≡ rowSize o
   unranked-width =
       elim (test (A .final k)) [ inl t ↦ ap length (row-stop t) ∙ stop-length o | inr f ↦ ap length (row-goes f) ∙ choice-length observations _ _ o ]
 

@@ -4,7 +4,7 @@ use Prim.Native.Nat.{ℕ, _+_, _*_, _^_, _%_, _≤_, _<_}
 use native.Mathlib.Omega.{arith}
 use mathlib.Core.Path.{_≡_, refl, sym, ap, ap₂, _∙_}
 use mathlib.Core.Logic.{_⊎_, inl, inr}
-use mathlib.Core.Bool.{Bool, true, false, cond, not, _&&_, _||_, true≢false, Bool·not-not}
+use mathlib.Core.Bool.{Bool, true, false, cond, not, _&&_, _||_, Bool·not-not}
 use mathlib.Core.List.{List}
 use lib.Dec.{eqb, leb, ltb}
 use lib.ListN.{length}
@@ -38,20 +38,6 @@ row-room Read rows row cells h b = omega arith
 pub first-goes : (o : Order) (c : ℕ) → c < firstLimit o → ¬ (c ≡ stopCell)
 first-goes Set c h e = omega arith
 first-goes Read c h e = omega arith
-
--- ---- two tests in front of a third: a holds, and k is below n
-
-module _ (s x : Bool) (k n : ℕ) where
-  pub guard-fails : (a : Bool) → a ≡ s → (not a || leb n k) ≡ true → false ≡ (s && ltb k n && x)
-  guard-fails true e f = rw (sym e, le-ltb k n (leb-true n k f)) refl
-  guard-fails false e f = rw (sym e) refl
-
-  pub guard-left : (a : Bool) → a ≡ s → (not a || leb n k) ≡ false → (b : Bool) → b ≡ x → b ≡ (s && ltb k n && x)
-  guard-left true e f b q = rw (sym e, lt-ltb k n (leb-false n k f)) q
-  guard-left false e f b q = absurd (true≢false f)
-
-pub guarded : (s a : Bool) (k n : ℕ) → a ≡ s → (not a || leb n k) ≡ false → (s ≡ true) × (k < n)
-guarded s a k n e f = (sym e ∙ not-false a (or-left (not a) (leb n k) f), leb-false n k (or-right (not a) (leb n k) f))
 
 -- ---- the sizes
 
@@ -102,30 +88,6 @@ count-le t shape row h = at (isStop (shape .order) t row)
     at : (b : Bool) → cond b 0 (2 ^ (shape .observed)) ≤ sideLimit
     at true = omega arith
     at false = side-le (shape .observed) h
-
--- ---- a test in front of another
-
-module _ (whole x y a : Bool) (is : whole ≡ (x && y)) (e : a ≡ x) where
-  pub first-fails : not a ≡ true → false ≡ whole
-  first-fails f = sym (is ∙ ap (λ b. b && y) (sym e ∙ not-true a f))
-
-  pub then-second : not a ≡ false → (b : Bool) → b ≡ y → b ≡ whole
-  then-second f b q = q ∙ sym (is ∙ ap (λ c. c && y) (sym e ∙ not-false a f))
-
--- .. and then one for each observation
-module _ (whole x a : Bool) (count : ℕ) (each : ℕ → Bool) (is : whole ≡ (x && all count each)) (e : a ≡ x) (f : not a ≡ false)
-    (n : ℕ) (m : n ≡ count) where
-  whole-is : whole ≡ all n each
-  whole-is = sym (then-second whole x (all count each) a is e f (all n each) (ap (λ k. all k each) m))
-
-  pub each-fails : (s : ℕ) → s < n → (b : Bool) → b ≡ each s → not b ≡ true → false ≡ whole
-  each-fails s h b q g = sym (whole-is ∙ all-fails n each s h (sym q ∙ not-true b g))
-
-  pub each-passes : (s : ℕ) → s ≤ n → n ≤ s → all s each ≡ true → true ≡ whole
-  each-passes s h g l = sym (whole-is ∙ all-done s n each (omega arith) l)
-
-pub each-more : (each : ℕ → Bool) (s : ℕ) (b : Bool) → b ≡ each s → not b ≡ false → all s each ≡ true → all (s + 1) each ≡ true
-each-more each s b q f l = all-more s each l (sym q ∙ not-false b f)
 
 -- ---- a row's rank, x, by itself
 

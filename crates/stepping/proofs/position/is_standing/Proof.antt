@@ -3,7 +3,7 @@
 use lib.ListN.{length}
 use borrow.Author.Needs.{needs}
 use Rattle.wellformed.specs.WellFormed.{isSized, isRow}
-use Rattle.wellformed.proofs.WellFormedLaws.{guard-fails, guard-left, guarded}
+use Rattle.basics.proofs.GuardedTests.{guard-fails, guard-left, guarded}
 use Rattle.wellformed.proofs.TestsSay.{sized-says}
 use Rattle.stepping.proofs.position.is_standing.Statement.{statement}
 use Rattle.stepping.proofs.position.is_standing.Tie as tie

@@ -1,7 +1,8 @@
 -- `wellformed::checking::is_next` meets its contract.
 -- Assumes nothing.
 use borrow.Author.Needs.{needs}
-use Rattle.wellformed.proofs.WellFormedLaws.{row-room, first-fails, then-second, next-out, next-in}
+use Rattle.basics.proofs.GuardedTests.{first-fails, then-second}
+use Rattle.wellformed.proofs.WellFormedLaws.{row-room, next-out, next-in}
 use Rattle.wellformed.proofs.checking.is_next.Statement.{statement}
 use Rattle.wellformed.proofs.checking.is_next.Tie as tie
 

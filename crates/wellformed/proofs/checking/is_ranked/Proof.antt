@@ -8,7 +8,8 @@ use borrow.Author.Needs.{needs}
 use Rattle.play.specs.Limits.{sideLimit}
 use Rattle.basics.specs.Bounded.{all}
 use Rattle.wellformed.specs.WellFormed.{isLower}
-use Rattle.wellformed.proofs.WellFormedLaws.{count-le, first-fails, each-fails, each-more, each-passes, ranked-is}
+use Rattle.basics.proofs.GuardedTests.{first-fails, each-fails, each-more, each-passes}
+use Rattle.wellformed.proofs.WellFormedLaws.{count-le, ranked-is}
 use Rattle.wellformed.proofs.checking.is_ranked.Statement.{statement}
 use Rattle.wellformed.proofs.checking.is_ranked.Tie as tie
 

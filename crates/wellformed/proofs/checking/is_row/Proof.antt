@@ -1,7 +1,8 @@
 -- `wellformed::checking::is_row` meets its contract.
 -- Assumes nothing.
 use borrow.Author.Needs.{needs}
-use Rattle.wellformed.proofs.WellFormedLaws.{first-fails, then-second, row-is}
+use Rattle.basics.proofs.GuardedTests.{first-fails, then-second}
+use Rattle.wellformed.proofs.WellFormedLaws.{row-is}
 use Rattle.wellformed.proofs.TestsSay.{leads-asks}
 use Rattle.wellformed.proofs.checking.is_row.Statement.{statement}
 use Rattle.wellformed.proofs.checking.is_row.Tie as tie

@@ -8,7 +8,8 @@ use borrow.Author.Needs.{needs}
 use Rattle.play.specs.Limits.{sideLimit}
 use Rattle.basics.specs.Bounded.{all}
 use Rattle.wellformed.specs.WellFormed.{isPair}
-use Rattle.wellformed.proofs.WellFormedLaws.{row-room, count-le, first-fails, each-fails, each-more, each-passes, leads-is}
+use Rattle.basics.proofs.GuardedTests.{first-fails, each-fails, each-more, each-passes}
+use Rattle.wellformed.proofs.WellFormedLaws.{row-room, count-le, leads-is}
 use Rattle.wellformed.proofs.checking.leads_on.Statement.{statement}
 use Rattle.wellformed.proofs.checking.leads_on.Tie as tie
 
