@@ -28,17 +28,16 @@ use Rattle.loader.specs.declared.loading.Loaded.TheVariants.{Table}
 use Rattle.loader.specs.LoadedAs.{loaded_by, cells_by, table_after, told_loaded, IsPrint, TableOf, told_shape}
 use Rattle.loader.proofs.LoadedIffDue.{accepted_iff as print_iff, loaded_iff}
 use Rattle.loader.proofs.SameRows.{behind-rows, table-of-print}
-use Rattle.answers.specs.Limits.{text_size}
+use Rattle.printer.specs.Limits.{text_size}
 use Rattle.printer.specs.Text.{table_text}
 use Rattle.wellformed.specs.WellFormed.{Printable, is_printable}
 use Rattle.wellformed.proofs.TestsSay.{printable-says, printable-row}
 use Rattle.stepping.specs.declared.position.Position.{Position}
-use Rattle.answers.specs.declared.writing.Printed.TheVariants.{Text}
+use Rattle.cabinet.specs.declared.printing.Printed.TheVariants.{Text}
 use Rattle.stepping.specs.declared.position.Moved.{Moved}
 use Rattle.stepping.specs.Position.{start_of, step_of, told_answer, Standing, Held, Holds}
 use Rattle.stepping.specs.Stopping.{AllPossible, StopsWithin}
-use Rattle.cabinet.specs.Print.{printed_by, bytes_by, IsPrinted}
-use Rattle.answers.specs.Printed.{told_printed}
+use Rattle.cabinet.specs.Print.{printed_by, bytes_by, told_printed, IsPrinted}
 use Rattle.cabinet.specs.Running.{step_all, answer_to, Runs}
 use Rattle.stepping.proofs.StopsInTime.{start-holds, step-holds, stops-from as any-stops-from, stops-started}
 use Rattle.cabinet.proofs.RunningLaws.{row_goes}

@@ -18,13 +18,12 @@ use Rattle.game.specs.SolvedAs.{told_solved, table_after, Short, SolvedAs}
 use Rattle.loader.specs.declared.loading.Loaded.TheVariants.{Table}
 use Rattle.loader.specs.LoadedAs.{loaded_by, cells_by, table_after as loadedTable, told_shape}
 use Rattle.stepping.specs.declared.position.Position.{Position}
-use Rattle.answers.specs.declared.writing.Printed.TheVariants.{Text}
-use Rattle.answers.specs.Limits.{text_size}
+use Rattle.cabinet.specs.declared.printing.Printed.TheVariants.{Text}
+use Rattle.printer.specs.Limits.{text_size}
 use Rattle.printer.specs.Text.{table_text}
 use Rattle.stepping.specs.Position.{start_of, step_of, is_stopped, left_of, told_answer, told_left, StartedAs, Held, Holds, SteppedAs, LeftAs}
 use Rattle.stepping.specs.Stopping.{AllPossible, StopsWithin}
-use Rattle.cabinet.specs.Print.{printed_by, bytes_by, text_after, IsPrinted, PrintedAs}
-use Rattle.answers.specs.Printed.{told_printed}
+use Rattle.cabinet.specs.Print.{printed_by, bytes_by, text_after, told_printed, IsPrinted, PrintedAs}
 use Rattle.cabinet.specs.Response.{responded_by, bytes_for, response_after, responded_table, responded_work, RespondedAs}
 use Rattle.cabinet.specs.Running.{step_all, answer_to, Runs}
 use Rattle.cabinet.proofs.ResponseLaws

@@ -12,13 +12,12 @@ use Rattle.lines.specs.declared.refusal.Refusal.TheVariants.{ShortMemory, BadTab
 use Rattle.play.specs.Cells.{row_size}
 use Rattle.tables.specs.declared.shape.Shape.{Shape}
 use Rattle.basics.specs.Lists.{written}
-use Rattle.answers.specs.declared.writing.Printed.{Printed}
-use Rattle.answers.specs.declared.writing.Printed.TheVariants.{Text, Refused}
-use Rattle.answers.specs.Limits.{text_size}
+use Rattle.cabinet.specs.declared.printing.Printed.{Printed}
+use Rattle.cabinet.specs.declared.printing.Printed.TheVariants.{Text, Refused}
+use Rattle.printer.specs.Limits.{text_size}
 use Rattle.wellformed.specs.WellFormed.{is_printable}
 use Rattle.printer.specs.Text.{table_text}
-use Rattle.cabinet.specs.Print.{printed_by, bytes_by, text_after, PrintedAs}
-use Rattle.answers.specs.Printed.{told_printed, used_text}
+use Rattle.cabinet.specs.Print.{printed_by, bytes_by, text_after, told_printed, used_text, PrintedAs}
 use Rattle.cabinet.proofs.PrintedIffDue.{print-told}
 use Rattle.wellformed.proofs.TestsSay.{printable-says}
 use Rattle.printer.proofs.TextLaws.{text-fits}

@@ -14,13 +14,12 @@ use Rattle.basics.specs.Lists.{written}
 use Rattle.basics.proofs.ListsLaws.{written-rest}
 use Rattle.lines.specs.Refusal.{Told, values, refused}
 use Rattle.tables.specs.declared.shape.Shape.{Shape}
-use Rattle.answers.specs.Limits.{text_size}
+use Rattle.printer.specs.Limits.{text_size}
 use Rattle.wellformed.specs.WellFormed.{is_printable}
 use Rattle.printer.specs.Text.{table_text}
-use Rattle.answers.specs.declared.writing.Printed.{Printed}
+use Rattle.cabinet.specs.declared.printing.Printed.{Printed}
 use Rattle.wellformed.proofs.TestsSay.{printable-says}
-use Rattle.cabinet.specs.Print.{printed_by, bytes_by, text_after, PrintedAs, short_memory, bad-table, text}
-use Rattle.answers.specs.Printed.{told_printed, used_text}
+use Rattle.cabinet.specs.Print.{printed_by, bytes_by, text_after, told_printed, used_text, PrintedAs, short_memory, bad-table, text}
 
 -- bytes that are an answer's own
 abbrev pub OwnBytes : Told → List ℕ → Type 0

@@ -31,14 +31,12 @@ use Rattle.game.specs.SolvedAs.{Controller, Short, SolvedAs}
 use Rattle.game.proofs.SolvedAsLaws.{short-says, not_short, due-read, answered_iff, RowCells, due-cells, same-solved}
 use Rattle.game.proofs.LentMemory.{work_kept, work_cleared}
 use Rattle.game.proofs.SolvedAsCases.{due-table}
-use Rattle.answers.specs.declared.writing.Printed.{Printed}
-use Rattle.answers.specs.declared.writing.Printed.TheVariants.{Text, Refused}
-use Rattle.answers.specs.Limits.{text_size}
+use Rattle.cabinet.specs.declared.printing.Printed.{Printed}
+use Rattle.cabinet.specs.declared.printing.Printed.TheVariants.{Text, Refused}
+use Rattle.printer.specs.Limits.{text_size}
 use Rattle.wellformed.specs.WellFormed.{is_printable}
-use Rattle.printer.specs.Text.{table_text}
-use Rattle.answers.specs.Printed.{refusal_text}
-use Rattle.cabinet.specs.Print.{printed_by, bytes_by, text_after}
-use Rattle.answers.specs.Printed.{told_printed, used_text}
+use Rattle.printer.specs.Text.{table_text, refusal_text}
+use Rattle.cabinet.specs.Print.{printed_by, bytes_by, text_after, told_printed, used_text}
 use Rattle.cabinet.specs.Response.{solved_text, response, is_tight, responded_by, bytes_for, response_after, responded_table}
 use Rattle.cabinet.specs.Response.{responded_work, RespondedAs, short_memory, answered}
 use Rattle.cabinet.proofs.PrintedIffDue.{OwnBytes}

@@ -23,8 +23,8 @@ use Rattle.game.specs.Solution.{game_of}
 use Rattle.game.specs.SolvedAs.{told_solved, Controller, SolvedAs}
 use Rattle.game.proofs.SolvedAsCases.{due-table}
 use Rattle.stepping.specs.declared.position.Position.{Position}
-use Rattle.answers.specs.declared.writing.Printed.TheVariants.{Text}
-use Rattle.answers.specs.Limits.{text_size}
+use Rattle.cabinet.specs.declared.printing.Printed.TheVariants.{Text}
+use Rattle.printer.specs.Limits.{text_size}
 use Rattle.wellformed.specs.WellFormed.{Printable}
 use Rattle.printer.specs.Text.{table_text}
 use Rattle.cabinet.specs.Print.{printed_by, bytes_by}

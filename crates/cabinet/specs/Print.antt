@@ -1,13 +1,13 @@
 -- What the printing call answers, what it leaves in the lent text, and what is due.
 -- Assumes nothing.
-use Rattle.std.specs.Prelude.{ℕ, ◌≤◌, ◌<◌, ◌≡◌, cond, List, [], ◌∷◌, ltb, length}
+use Rattle.std.specs.Prelude.{ℕ, ◌≤◌, ◌<◌, ◌≡◌, cond, List, [], ◌∷◌, ltb, length, take}
 use Rattle.lines.specs.declared.refusal.Refusal.TheVariants.{ShortMemory, BadTable}
-use Rattle.lines.specs.Refusal.{Told, values, refused}
+use Rattle.lines.specs.Refusal.{Told, values, refused, told_refusal}
 use Rattle.basics.specs.Lists.{written}
 use Rattle.tables.specs.declared.shape.Shape.{Shape}
-use Rattle.answers.specs.declared.writing.Printed.{Printed}
-use Rattle.answers.specs.declared.writing.Printed.TheVariants.{Text, Refused}
-use Rattle.answers.specs.Limits.{text_size}
+use Rattle.cabinet.specs.declared.printing.Printed.{Printed}
+use Rattle.cabinet.specs.declared.printing.Printed.TheVariants.{Text, Refused}
+use Rattle.printer.specs.Limits.{text_size}
 use Rattle.wellformed.specs.WellFormed.{Printable, is_printable}
 use Rattle.printer.specs.Text.{table_text}
 
@@ -30,6 +30,16 @@ IsPrinted s =
     (t : List ℕ) × (shape : Shape) × (worst : ℕ) × (room : ℕ) × (printed_by t shape worst room ≡ Text (length s)) × (bytes_by t shape worst room ≡ s)
 
 -- ---- what is due
+
+-- an answer in the reference's terms: the text's length, or a refusal's number and place
+abbrev pub told_printed : Printed → Told
+told_printed (Text n) = values (n ∷ [])
+told_printed (Refused r) = told_refusal r
+
+-- the bytes of a text that are its own, by the answer
+abbrev pub used_text : Printed → List ℕ → List ℕ
+used_text (Text n) text = take n text
+used_text (Refused r) text = []
 
 -- for a table to be printed into so much room: the answer, and the bytes that are written
 pub data PrintedAs (t : List ℕ) (shape : Shape) (worst room : ℕ) : Told → List ℕ → Type 0 where

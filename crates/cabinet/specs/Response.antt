@@ -8,11 +8,10 @@ use Rattle.game.specs.declared.solving.Solved.{Solved}
 use Rattle.game.specs.declared.solving.Solved.TheVariants as solved
 use Rattle.basics.specs.Lists.{written}
 use Rattle.game.specs.SolvedAs.{is_short, solved_from, told_solved, cells_from, table_after, work_after, Short, SolvedAs}
-use Rattle.answers.specs.declared.writing.Printed.{Printed}
-use Rattle.answers.specs.declared.writing.Printed.TheVariants.{Text, Refused}
-use Rattle.answers.specs.Limits.{text_size}
-use Rattle.printer.specs.Text.{table_text}
-use Rattle.answers.specs.Printed.{refusal_text}
+use Rattle.cabinet.specs.declared.printing.Printed.{Printed}
+use Rattle.cabinet.specs.declared.printing.Printed.TheVariants.{Text, Refused}
+use Rattle.printer.specs.Limits.{text_size}
+use Rattle.printer.specs.Text.{table_text, refusal_text}
 
 -- the text of an answer, a table's from its cells
 abbrev pub solved_text : List ℕ → Solved → List ℕ

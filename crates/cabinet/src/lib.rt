@@ -5,9 +5,9 @@
 mod printing;
 mod responding;
 
-pub use answers::{Printed, TEXT_SIZE};
 pub use loader::{Loaded, load};
-pub use printing::print;
+pub use printer::TEXT_SIZE;
+pub use printing::{Printed, print};
 pub use responding::respond;
 pub use stepping::{
     Answer, Left, Moved, Position, is_stopped, start, start_from, step, step_from, steps_left,

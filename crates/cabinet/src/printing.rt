@@ -1,13 +1,18 @@
 // The printing call.
 ghost use Rattle.std.specs.Prelude.{◌≡◌, length};
-ghost use Rattle.cabinet.specs.Print.{printed_by, text_after, PrintedAs};
-ghost use Rattle.answers.specs.Printed.{told_printed, used_text};
+ghost use Rattle.cabinet.specs.Print.{printed_by, text_after, told_printed, used_text, PrintedAs};
 
-use answers::{Printed, TEXT_SIZE};
 use lines::Refusal;
-use printer::put_table;
+use printer::{TEXT_SIZE, put_table};
 use tables::Shape;
 use wellformed::is_printable;
+
+// The length of the text, or one refusal.
+#[derive(Drop)]
+pub enum Printed {
+    Text(usize),
+    Refused(Refusal),
+}
 
 // Prints a table of a shape, with its worst case. Refusals: 12, then 13. Only the text's own bytes change, at the front.
 pub fn print(table: &[u16], shape: Shape, worst: usize, text: &mut [u8]) -> Printed

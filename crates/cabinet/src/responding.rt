@@ -1,12 +1,12 @@
 // From a problem's text to the text of its table, or of the refusal.
 ghost use Rattle.std.specs.Prelude.{◌≡◌, length};
-ghost use Rattle.answers.specs.Printed.{told_printed, used_text};
+ghost use Rattle.cabinet.specs.Print.{told_printed, used_text};
 ghost use Rattle.cabinet.specs.Response.{responded_by, response_after, responded_table, responded_work, RespondedAs};
 
-use crate::printing::print;
-use answers::{Printed, TEXT_SIZE, put_refusal};
+use crate::printing::{Printed, print};
 use game::{Solved, solve};
 use lines::Refusal;
+use printer::{TEXT_SIZE, put_refusal};
 use rules::WORK_SIZE;
 use tables::{TABLE_SIZE, row_size};
 

@@ -8,7 +8,6 @@ use basics::{field, same};
 use cabinet::Position;
 use game::TABLE_SIZE;
 use rules::WORK_SIZE;
-use streams::first;
 
 fn judge(source: &[u8], trace: &[u16], work: &mut [u8]) {
     verdict(rules::judge(source, trace, work));
@@ -35,14 +34,6 @@ fn print(line: &[u8], expected: &[u8], table: &[u16], text: &mut [u8]) {
     look_at(text, expected, 1);
 }
 
-// Lists unused signals, and looks at the text that was lent.
-fn unused(line: &[u8], source: &[u8], text: &mut [u8]) {
-    let mut expected = io::buffer();
-    let n = read_text(field(line, 5), &mut expected);
-    printed(rules::list_unused(source, text));
-    look_at(text, first(&expected, n), 1);
-}
-
 // Starts a table, or steps it from a position.
 fn run(line: &[u8], table: &[u16], starts: bool) {
     let shape = shape_at(line, 5, 6, 10);
@@ -65,16 +56,16 @@ fn is_call(name: &[u8], k: usize) -> bool {
     same(
         name,
         field(
-            b"judge\tsolve\tprint\tstart\tstep\tlist\tjudge-list\tload\tprefixes\tcard\tfill\tladder\tunused",
+            b"judge\tsolve\tprint\tstart\tstep\tlist\tjudge-list\tload\tprefixes\tcard\tfill\tladder",
             k,
         ),
     )
 }
 
-// The number of a call by its name, from 0; 13 for an unknown one.
+// The number of a call by its name, from 0; 12 for an unknown one.
 fn call_number(name: &[u8]) -> usize {
     let mut k = 0;
-    while k < 13 && !is_call(name, k) {
+    while k < 12 && !is_call(name, k) {
         k += 1;
     }
     k
@@ -95,7 +86,6 @@ fn call_in(line: &[u8], text: &[u8], cells: &[u16], memory: &mut [u8]) {
         9 => card(text, memory),
         10 => fill(line, cells),
         11 => ladder(line, cells),
-        12 => unused(line, text, memory),
         _ => wrong(),
     }
 }

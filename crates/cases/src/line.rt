@@ -1,7 +1,6 @@
-// The texts, numbers and shapes in a line's fields. In a text `/` is a line end, `:` a tab and `\r` a carriage return; `\/`, `\:` and `\\`
-// stand for the byte behind the backslash. `\2` to `\9` put what stands before them so many times in all: `/\3\2` is six line ends. Where
-// `\[` stands before them, that is only what stands behind it: `ab\[c\9/` is `ab`, nine times `c` and a line end. Numbers are decimal. Those
-// of a list are parted by single spaces, and `z` before a number is so many zeros: `1 z3` is `1 0 0 0`.
+// The texts, numbers and shapes in a line's fields. In a text `\n` is a line end, `\t` a tab, `\r` a carriage return and `\\` a backslash,
+// and `\2` is all that stands before it in the text once more: `\n\2\2` is four line ends. Numbers are decimal. Those of a list are parted
+// by single spaces, and `z` before a number is so many zeros: `1 z3` is `1 0 0 0`.
 ghost use Rattle.std.specs.Prelude.{◌≤◌, ◌<◌, length};
 
 use crate::answer::wrong;
@@ -117,20 +116,13 @@ pub(crate) fn read_numbers(list: &[u8], numbers: &mut [u16]) -> usize
     n
 }
 
-// The byte that one without a backslash stands for.
-fn plain(b: u8) -> u8 {
-    match b {
-        b'/' => b'\n',
-        b':' => b'\t',
-        _ => b,
-    }
-}
-
 // The byte that a backslash and another byte stand for.
 fn escaped(b: u8) -> u8 {
     match b {
+        b'n' => b'\n',
+        b't' => b'\t',
         b'r' => b'\r',
-        b'/' | b':' | b'\\' => b,
+        b'\\' => b'\\',
         _ => {
             wrong();
             0
@@ -138,61 +130,25 @@ fn escaped(b: u8) -> u8 {
     }
 }
 
-// Puts the last `size` of a text's n bytes behind it once more, if there is room, and answers how many bytes there are then.
-fn put_again(text: &mut [u8], n: usize, size: usize) -> usize
-    requires { (size ≤ n) × (n ≤ length text.old) }
-    ensures { (n ≤ result) × (result ≤ length text.new) }
+// Puts the n bytes of a text behind themselves, if there is room, and answers how many there are then.
+fn put_again(text: &mut [u8], n: usize) -> usize
+    requires { n ≤ length text.old }
+    ensures { result ≤ length text.new }
 {
-    if text.len() - n < size {
+    if text.len() - n < n {
         wrong();
         return n;
     }
-    let first = n - size;
     let mut i = 0;
-    while i < size {
-        text[n + i] = text[first + i];
+    while i < n {
+        text[n + i] = text[i];
         i += 1;
     }
-    n + size
+    n + n
 }
 
-// The same so many times.
-fn put_often(text: &mut [u8], n: usize, size: usize, times: usize) -> usize
-    requires { (size ≤ n) × (n ≤ length text.old) }
-    ensures { result ≤ length text.new }
-{
-    let mut m = n;
-    let mut i = 0;
-    while i < times {
-        m = put_again(text, m, size);
-        i += 1;
-    }
-    m
-}
-
-// How many of n bytes stand behind a place.
-fn behind(n: usize, place: usize) -> usize
-    ensures { result ≤ n }
-{
-    if place < n { n - place } else { 0 }
-}
-
-// Puts what a backslash and a byte stand for behind n bytes, and answers how many there are then. A digit repeats those from a place on.
-fn put_escaped(text: &mut [u8], n: usize, from: usize, b: u8) -> usize
-    requires { n < length text.old }
-    ensures { result ≤ length text.new }
-{
-    if b == b'[' {
-        return n;
-    }
-    if b > b'1' && b <= b'9' {
-        return put_often(text, n, behind(n, from), (b - b'1') as usize);
-    }
-    put_byte(text, n, escaped(b))
-}
-
-// Puts a byte, or what a backslash and the next byte stand for.
-fn put(text: &mut [u8], n: usize, from: usize, b: u8, next: u8) -> usize
+// Puts a byte, or what a backslash and the next byte stand for, behind n bytes, and answers how many there are then.
+fn put(text: &mut [u8], n: usize, b: u8, next: u8) -> usize
     requires { n ≤ length text.old }
     ensures { result ≤ length text.new }
 {
@@ -200,10 +156,13 @@ fn put(text: &mut [u8], n: usize, from: usize, b: u8, next: u8) -> usize
         wrong();
         return n;
     }
-    if b == b'\\' {
-        return put_escaped(text, n, from, next);
+    if b != b'\\' {
+        return put_byte(text, n, b);
     }
-    put_byte(text, n, plain(b))
+    if next == b'2' {
+        return put_again(text, n);
+    }
+    put_byte(text, n, escaped(next))
 }
 
 // How many bytes that takes of the line.
@@ -211,15 +170,6 @@ fn width(b: u8) -> usize
     ensures { (1 ≤ result) × (result ≤ 2) }
 {
     if b == b'\\' { 2 } else { 1 }
-}
-
-// From where on bytes are repeated behind it: from the end of n bytes where it is `\[`, and from the same place as before where it is not.
-fn marked(from: usize, n: usize, b: u8, next: u8) -> usize {
-    if (b == b'\\') & (next == b'[') {
-        n
-    } else {
-        from
-    }
 }
 
 // The byte at a place; 0 behind the end.
@@ -232,13 +182,10 @@ pub(crate) fn read_text(raw: &[u8], text: &mut [u8]) -> usize
     ensures { result ≤ length text.new }
 {
     let mut n = 0;
-    let mut from = 0;
     let mut i = 0;
     while i < raw.len() {
         let b = raw[i];
-        let next = byte_at(raw, i + 1);
-        n = put(text, n, from, b, next);
-        from = marked(from, n, b, next);
+        n = put(text, n, b, byte_at(raw, i + 1));
         i += width(b);
     }
     n

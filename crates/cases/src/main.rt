@@ -15,7 +15,6 @@
 //     name, fill, nothing, the cells of a row, 0, rows, worst case, observed signals, order: the same with a table of equal rows
 //     name, ladder, the fields of `fill`: the same with rows of falling ranks, the last of which stops. A next row of the row that is given
 //         says how many rows further down it is, but not past the last
-//     name, unused, the problem, nothing, bytes not lent, the text afterwards
 //
 // `line.rt` says how a text, a list of numbers and an order are written, `parts.rt` how parts are. Lent memory holds ones before a call, and
 // all of it is looked at afterwards: the answer has the field `wrong` where it is not as it should be, or where the line is not of this

@@ -2,15 +2,12 @@
 // the patterns of its rules.
 ghost use Rattle.std.specs.Prelude.{◌≤◌, length};
 
-use crate::draw_formula::{
-    Drawing, LINE_END, below, letter, put, put_names, put_pattern, step, turned,
-};
+use crate::draw_formula::{Drawing, LINE_END, below, letter, put, put_pattern, step, turned};
 use std::num::wrapping_add_usize;
 
 // What is drawn: so many signals of each kind and so many rules. A random tree has at most `size` parts, and all rules together have
-// at most `operators` temporal operators. Where `damage` is not 0, one byte of the text is overwritten by another of its bytes. By `named`
-// chances in eight there is one rule more, the last, which is true and names every signal; without it signals may be unused. `second` says
-// which side of a pair is put, and `read` which order the problem has.
+// at most `operators` temporal operators. Where `damage` is not 0, one byte of the text is overwritten by another of its bytes. `second`
+// says which side of a pair is put, and `read` which order the problem has.
 #[derive(Drop)]
 pub struct Kind {
     pub outputs: usize,
@@ -20,7 +17,6 @@ pub struct Kind {
     pub size: usize,
     pub operators: usize,
     pub damage: usize,
-    pub named: usize,
     pub second: bool,
     pub read: bool,
 }
@@ -49,21 +45,6 @@ fn put_rules(text: &mut [u8], d: Drawing, patterns: &[u8], n: usize) -> Drawing 
         i += 1;
     }
     e
-}
-
-// Puts a rule that is true and names every signal.
-fn put_last_rule(text: &mut [u8], d: Drawing) -> Drawing {
-    let e = put(text, d, RULE);
-    put_names(text, e)
-}
-
-// Puts the rules of a kind, where the problem was begun with a seed.
-fn put_all_rules(text: &mut [u8], d: Drawing, kind: Kind, patterns: &[u8], seed: u64) -> Drawing {
-    let e = put_rules(text, d, patterns, kind.rules);
-    if below(seed >> 14, 8) >= kind.named {
-        return e;
-    }
-    put_last_rule(text, e)
 }
 
 // Declares n signals with names from a first letter on.
@@ -135,7 +116,7 @@ fn put_problem(text: &mut [u8], kind: Kind, patterns: &[u8], seed: u64) -> Drawi
     let at = order_at(kind.read, start.seed);
     let mut d = put_signals(text, start, kind, at);
     d = put_order(text, d, kind.read, at == 1);
-    d = put_all_rules(text, d, kind, patterns, start.seed);
+    d = put_rules(text, d, patterns, kind.rules);
     put_order(text, d, kind.read, at == 2)
 }
 

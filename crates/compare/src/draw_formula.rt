@@ -183,18 +183,6 @@ fn tree_size(d: Drawing) -> usize {
     d.size - below(d.seed >> 20, d.size / 2 + 1)
 }
 
-// Puts a formula that is true and names every signal, and the line's end.
-pub(crate) fn put_names(text: &mut [u8], d: Drawing) -> Drawing {
-    let n = wrapping_add_usize(d.outputs, d.inputs);
-    let mut e = put(text, d, TRUE);
-    let mut i = 0;
-    while i < n {
-        e = put(text, e, name(d, i) << 8 | 124);
-        i += 1;
-    }
-    put(text, e, LINE_END)
-}
-
 // The signal of a variable of the pattern that began at a place.
 fn variable(start: Drawing, b: u8) -> u64 {
     let t = wrapping_add_usize(start.turn, b as usize);

@@ -50,7 +50,7 @@ fn run_lines(input: &[u8]) -> bool {
 // The names of what is counted.
 fn write_names() -> bool {
     answer::say(
-        b"kind\torder\tdrawn\tagree\ttables\t1\t2\t3\t4\t5\t6\t7\t8\t9\t10\t11\t18\tover 1 step\tover 2 steps\thidden matter\talike\torder matters\n",
+        b"kind\torder\tdrawn\tagree\ttables\t1\t2\t3\t4\t5\t6\t7\t8\t9\t10\t11\tover 1 step\tover 2 steps\thidden matter\talike\torder matters\n",
     )
 }
 

@@ -18,9 +18,7 @@ const AGREE: usize = 1;
 
 const TABLES: usize = 2;
 
-const UNUSED_SIGNAL: usize = TABLES + 12;
-
-const OVER_ONE: usize = UNUSED_SIGNAL + 1;
+const OVER_ONE: usize = TABLES + 12;
 
 const OVER_TWO: usize = OVER_ONE + 1;
 
@@ -67,18 +65,10 @@ fn add_if(counts: &mut Counts, class: usize, is_in: bool) {
     }
 }
 
-// The class of a table, by 0, or of a refusal by its number. Numbers 12 to 17 are no answers to a problem.
-fn class_of(number: usize) -> usize {
-    if number == 18 {
-        return UNUSED_SIGNAL;
-    }
-    wrapping_add_usize(TABLES, number)
-}
-
 // Counts a problem on which both solvers agree, where d is the answer if the hidden signals are observed.
 fn add_agreed(counts: &mut Counts, c: Compared, d: Compared) {
     add(counts, AGREE);
-    add(counts, class_of(c.number));
+    add(counts, wrapping_add_usize(TABLES, c.number));
     add_if(counts, OVER_ONE, c.worst_case > 1);
     add_if(counts, OVER_TWO, c.worst_case > 2);
     add_if(counts, HIDDEN_MATTER, differ(c, d));
@@ -133,11 +123,10 @@ fn draw_by(line: &[u8], seed: u64, read: bool, second: bool, text: &mut [u8]) ->
         size: argument(line, 7),
         operators: argument(line, 8),
         damage: argument(line, 9),
-        named: argument(line, 10),
         second,
         read,
     };
-    draw(kind, field(line, 11), seed, text)
+    draw(kind, field(line, 10), seed, text)
 }
 
 // Draws a problem of a line's kind and an order in both ways, and counts it.

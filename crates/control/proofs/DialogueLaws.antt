@@ -24,9 +24,9 @@ use Rattle.stepping.specs.declared.position.Position.{Position}
 use Rattle.stepping.specs.declared.position.Answer.{Answer}
 use Rattle.lines.specs.Refusal.{refused}
 use Rattle.play.specs.Limits.{side_limit}
-use Rattle.answers.specs.Limits.{text_size}
+use Rattle.printer.specs.Limits.{text_size}
 use Rattle.wellformed.proofs.WellFormedLaws.{side_le}
-use Rattle.answers.proofs.PrintedLaws.{words_fit}
+use Rattle.printer.proofs.TextLaws.{words_fit}
 use Rattle.tables.specs.declared.shape.Shape.{Shape}
 use Rattle.control.specs.Dialogue.{word_room, answer_text, observation_in}
 

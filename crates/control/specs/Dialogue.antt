@@ -7,7 +7,7 @@ use Rattle.basics.specs.Text.{decimal, line}
 use Rattle.stepping.specs.declared.position.Answer.{Answer}
 use Rattle.stepping.specs.declared.position.Answer.TheVariants.{Choice, Stop, Ready, Refused}
 use Rattle.play.specs.Limits.{side_limit}
-use Rattle.answers.specs.Printed.{refusal_text}
+use Rattle.printer.specs.Text.{refusal_text}
 
 -- the longest word of a line with one number
 abbrev pub word_room : ℕ

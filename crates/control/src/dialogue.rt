@@ -2,12 +2,12 @@
 ghost use Rattle.std.specs.Prelude.{◌≡◌, [], ◌∷◌, ◌≤◌, length};
 ghost use Rattle.basics.specs.Lists.{written};
 ghost use Rattle.basics.specs.Text.{decimal, line};
-ghost use Rattle.answers.specs.Limits.{text_size};
+ghost use Rattle.printer.specs.Limits.{text_size};
 ghost use Rattle.control.specs.Dialogue.{word_room, answer_text, observation_in};
 
-use answers::put_refusal;
 use basics::{LINE_END, number_below, put_byte, put_bytes, put_decimal, put_field, put_line, same};
 use cabinet::Answer;
+use printer::put_refusal;
 use tables::SIDE_LIMIT;
 
 // Puts a line of a short word and a number, and answers its length.

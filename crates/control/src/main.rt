@@ -49,14 +49,18 @@ fn obey(argument: &[u8]) {
     if streams::is_help(argument) {
         help::explain();
     } else if streams::is_option(argument) {
-        streams::tell_usage(b"control", argument, b"no such option");
+        streams::tell(b"control", argument, b"no such option; see control --help");
     } else {
         run_file(argument);
     }
 }
 
 fn tell_arguments() {
-    streams::tell_usage(b"control", b"arguments", b"one is needed");
+    streams::tell(
+        b"control",
+        b"arguments",
+        b"one is needed; see control --help",
+    );
 }
 
 fn run_argument() {

@@ -1,5 +1,5 @@
--- The examples A to K, A to H under the other order, of unused signals and of plan words (REFERENCE.md, Examples, Unused signals and Plan words),
--- as one table: a problem's bytes, what is asked of them, and the answer.
+-- The examples A to K, A to H under the other order, and of plan words (REFERENCE.md, Examples and Plan words), as one table: a problem's
+-- bytes, what is asked of them, and the answer.
 -- Assumes nothing.
 use Rattle.std.specs.Prelude.{ℕ, List, [], ◌∷◌, ◌++◌}
 use Prim.Native.String.{String}
@@ -14,7 +14,6 @@ use Rattle.rules.specs.Limits.{work_size}
 use Rattle.rules.specs.Problem.{Problem, Outcome, accepted, problem_parts, read_problem}
 use Rattle.rules.specs.Problem as reading
 use Rattle.rules.specs.Judge.{judged, told_verdict}
-use Rattle.rules.specs.UnusedAs.{unused_text}
 use Rattle.search.specs.PatternSet.{PatternSet, accepts}
 use Rattle.search.specs.ReachableSets.{same_set}
 use Rattle.states.specs.States.{state_after}
@@ -28,10 +27,10 @@ use Rattle.cabinet.specs.Response.{response}
 use Rattle.examples.specs.Count.{count}
 
 -- what is asked of a problem: its table's row count, observed signals, order (0 for `set`, 1 for `read`) and worst case; the table's cells;
--- the bytes that are written for it; how many beliefs count, and how many did by the earlier count; the list of its unused signals; the verdict
--- on a trace; or whether its states accept the trace
+-- the bytes that are written for it; how many beliefs count, and how many did by the earlier count; the verdict on a trace; or whether its
+-- states accept the trace
 pub data Asked : Type 0 where
-  table cells text beliefs unused : Asked
+  table cells text beliefs : Asked
   judge accept : Trace → Asked
 
 -- 1 where the states of the problem accept the trace, and 0 where they do not
@@ -56,7 +55,6 @@ told_for source table = told_solved (solved_by work_size table_size source)
 told_for source cells = values (cells_by work_size table_size source)
 told_for source text = values (response source)
 told_for source beliefs = told_counts (read_problem source)
-told_for source unused = values (unused_text source)
 told_for source (judge π) = told_verdict (judged work_size source π)
 told_for source (accept π) = told_accepted (read_problem source) π
 
@@ -72,12 +70,7 @@ expected (example name source asked told) = told
 
 abbrev pub examples : List Example
 examples =
-    example "A" "out\tvalve\nhid\twet\nrule\tF valve\n" table (refused 18 2)
-    ∷ example "A" "out\tvalve\nhid\twet\nrule\tF valve\n" (judge (1 ∷ [])) (refused 18 2)
-    ∷ example "A" "out\tvalve\nhid\twet\nrule\tF valve\n" unused (values (bytes_of "wet\n"))
-    ∷ example "A without wet" "out\tvalve\nrule\tF valve\n" table (values (2 ∷ 0 ∷ 0 ∷ 1 ∷ []))
-    ∷ example "A without wet" "out\tvalve\nrule\tF valve\n" text (values (bytes_of "table\t2\t1\nrow\t0\t1\t1\t1\nrow\t1\t0\tstop\n"))
-    ∷ example "A without wet" "out\tvalve\nrule\tF valve\n" unused (values [])
+    example "A" "out\tvalve\nhid\twet\nrule\tF valve\n" table (values (2 ∷ 0 ∷ 0 ∷ 1 ∷ []))
     ∷ example "B" "out\ta\nsee\ts\nrule\ts -> X a\n" table (values (3 ∷ 1 ∷ 0 ∷ 2 ∷ []))
     ∷ example "B" "out\ta\nsee\ts\nrule\ts -> X a\n" text
     (values (bytes_of "table\t3\t2\nrow\t0\t2\t0\t1\t2\nrow\t1\t0\tstop\nrow\t2\t1\t1\t1\t1\n"))
@@ -105,8 +98,7 @@ examples =
     ∷ example "J" "out\ta\nout\tb\nrule\ta U b\n" (accept (1 ∷ [])) (values (0 ∷ []))
     ∷ example "K" "out\ta\nout\tb\nrule\ta R b\n" (judge (2 ∷ [])) (values (1 ∷ []))
     ∷ example "K" "out\ta\nout\tb\nrule\ta R b\n" (accept (2 ∷ [])) (values (1 ∷ []))
-    ∷ example "A, read" "out\tvalve\nhid\twet\nrule\tF valve\norder\tread\n" table (refused 18 2)
-    ∷ example "A without wet, read" "out\tvalve\nrule\tF valve\norder\tread\n" table (values (2 ∷ 0 ∷ 1 ∷ 1 ∷ []))
+    ∷ example "A, read" "out\tvalve\nhid\twet\nrule\tF valve\norder\tread\n" table (values (2 ∷ 0 ∷ 1 ∷ 1 ∷ []))
     ∷ example "B, read" "out\ta\nsee\ts\nrule\ts -> X a\norder\tread\n" table (values (3 ∷ 1 ∷ 1 ∷ 2 ∷ []))
     ∷ example "B, read" "out\ta\nsee\ts\nrule\ts -> X a\norder\tread\n" text
     (values (bytes_of "rtable\t3\t2\nrow\t0\t2\t0\t1\t0\t2\nrow\t1\t0\tstop\nrow\t2\t1\t1\t1\t1\t1\n"))
@@ -129,17 +121,6 @@ examples =
     ∷ example "no rule" "order\tread\n" table (refused 8 0)
     ∷ example "no order" "order\tRead\nrule\ttrue\n" table (refused 2 1)
     ∷ example "a second order" "order\tread\nrule\ttrue\norder\tread\n" table (refused 2 3)
-    ∷ example "unused" "see\tg\nout\ta\nout\tb\nrule\ta\n" table (refused 18 1)
-    ∷ example "unused" "see\tg\nout\ta\nout\tb\nrule\ta\n" unused (values (bytes_of "g\nb\n"))
-    ∷ example "declared order" "hid\th\nsee\ts\nout\to\nrule\ttrue\n" table (refused 18 1)
-    ∷ example "declared order" "hid\th\nsee\ts\nout\to\nrule\ttrue\n" unused (values (bytes_of "h\ns\no\n"))
-    ∷ example "behind the rules" "out\ta\nrule\ta\nsee\ts\n" table (refused 18 3)
-    ∷ example "8 before 18" "out\ta\n" table (refused 8 0)
-    ∷ example "8 before 18" "out\ta\n" unused (values (bytes_of "refused\t8\t0\n"))
-    ∷ example "7 before 18" "out\ta\nsee\ts\nrule\tFFFFFFFFa\n" table (refused 7 3)
-    ∷ example "18 before 16" "out\ta\nsee\ts\nrule\ta\n" (judge []) (refused 18 2)
-    ∷ example "in a plan word" "out\ta\nout\tb\nrule\twithin(0,a,b)\n" unused (values [])
-    ∷ example "a tautology" "out\ta\nrule\ta | !a\n" unused (values [])
     ∷ example "once" "out\ta\nrule\tonce(a)\n" (judge (1 ∷ 1 ∷ 0 ∷ [])) (values (1 ∷ []))
     ∷ example "once" "out\ta\nrule\tonce(a)\n" (judge (1 ∷ 0 ∷ 1 ∷ [])) (values (0 ∷ []))
     ∷ example "before" "out\ta\nout\tb\nrule\tbefore(a,b)\n" (judge (2 ∷ 1 ∷ [])) (values (1 ∷ []))

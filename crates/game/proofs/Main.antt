@@ -12,7 +12,7 @@ use Rattle.rules.specs.Limits.{work_size}
 use Rattle.rules.specs.Problem.{Problem}
 use Rattle.rules.specs.Satisfies.{Satisfies}
 use Rattle.rules.specs.Denotes.{Denotes}
-use Rattle.rules.specs.Refuses.{Refuses, OfText}
+use Rattle.rules.specs.Refuses.{Refuses}
 use Rattle.search.specs.PatternSet.{PatternSet}
 use Rattle.play.specs.Limits.{side_limit}
 use Rattle.play.specs.Cells.{row_size, stop_cell, table_size, rank_cell}
@@ -55,8 +55,8 @@ module _ (source : List ℕ) (work table : ℕ) where
   short_memory = SolvedAsCases.short_memory source work table
 
   module _ (enough : work_size ≤ work) (room : table_size ≤ table) where
-    -- 1 to 8 and 18: the text denotes no problem, and this is why
-    pub refused-text : (number place : ℕ) → OfText number → (told_by work table source ≡ refused number place) ↔ Refuses source number place
+    -- 1 to 8: the text denotes no problem, and this is why
+    pub refused-text : (number place : ℕ) → number ≤ 8 → (told_by work table source ≡ refused number place) ↔ Refuses source number place
     refused-text = SolvedAsCases.refused-text source work table enough room
 
     module _ (p : Problem) (denotes : Denotes source p) where

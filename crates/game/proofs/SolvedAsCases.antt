@@ -10,9 +10,9 @@ use Rattle.rules.specs.Limits.{work_size}
 use Rattle.rules.specs.Problem.{Problem}
 use Rattle.rules.specs.Satisfies.{Satisfies}
 use Rattle.rules.specs.Denotes.{Denotes}
-use Rattle.rules.specs.Refuses.{Refuses, OfText}
+use Rattle.rules.specs.Refuses.{Refuses}
 use Rattle.lines.proofs.RefusalLaws.{told-apart, one_number, one_place}
-use Rattle.rules.proofs.RefusesLaws.{between_not, not_of_text}
+use Rattle.rules.proofs.RefusesLaws.{refuses-number}
 use Rattle.play.specs.Cells.{table_size, rank_cell}
 use Rattle.basics.specs.declared.order.Order.{Order}
 use Rattle.basics.specs.Order.{order_number}
@@ -38,7 +38,7 @@ module _ (source : List ℕ) (work room : ℕ) where
 
   when_short : (a : Told) (t : List ℕ) → SolvedAs work room source a t → a ≡ refused 12 0 → Short work room
   when_short a t (due.short_memory s) e = s
-  when_short a t (due.bad_source f number place x) e = not_of_text 12 (omega arith) (omega arith) (one_number e) x
+  when_short a t (due.bad_source f number place x) e = absurd (omega (arith, one_number e, refuses-number x))
   when_short a t (due.too_many_states_lem f p d m) e = absurd (omega (arith, one_number e))
   when_short a t (due.too_many_beliefs_lem f p d s m) e = absurd (omega (arith, one_number e))
   when_short a t (due.unrealizable f p d small u) e = absurd (omega (arith, one_number e))
@@ -52,19 +52,19 @@ module _ (source : List ℕ) (work room : ℕ) where
     long-enough (inl s) = absurd (omega arith)
     long-enough (inr s) = absurd (omega arith)
 
-    -- ---- 1 to 8 and 18
+    -- ---- 1 to 8
 
-    when_refused : (a : Told) (t : List ℕ) → SolvedAs work room source a t → (number place : ℕ) → OfText number → a ≡ refused number place
+    when_refused : (a : Told) (t : List ℕ) → SolvedAs work room source a t → (number place : ℕ) → number ≤ 8 → a ≡ refused number place
         → Refuses source number place
-    when_refused a t (due.short_memory s) number place h e = between_not 12 (omega arith) (omega arith) h (sym (one_number e))
+    when_refused a t (due.short_memory s) number place h e = absurd (omega (arith, one_number e))
     when_refused a t (due.bad_source f n m x) number place h e =
         subst (λ k. Refuses source k place) (one_number e) (subst (Refuses source n) (one_place e) x)
-    when_refused a t (due.too_many_states_lem f p d m) number place h e = between_not 9 (omega arith) (omega arith) h (sym (one_number e))
-    when_refused a t (due.too_many_beliefs_lem f p d s m) number place h e = between_not 10 (omega arith) (omega arith) h (sym (one_number e))
-    when_refused a t (due.unrealizable f p d small u) number place h e = between_not 11 (omega arith) (omega arith) h (sym (one_number e))
+    when_refused a t (due.too_many_states_lem f p d m) number place h e = absurd (omega (arith, one_number e))
+    when_refused a t (due.too_many_beliefs_lem f p d s m) number place h e = absurd (omega (arith, one_number e))
+    when_refused a t (due.unrealizable f p d small u) number place h e = absurd (omega (arith, one_number e))
     when_refused a t (due.table f p d small n r c k) number place h e = told-apart (sym e)
 
-    pub refused-text : (number place : ℕ) → OfText number → (answer ≡ refused number place) ↔ Refuses source number place
+    pub refused-text : (number place : ℕ) → number ≤ 8 → (answer ≡ refused number place) ↔ Refuses source number place
     refused-text number place h = (
       when_refused answer cells (due_call source work room) number place h,
       λ x. ((answered_iff source work room _ _).1 (due.bad_source long-enough number place x)).0,

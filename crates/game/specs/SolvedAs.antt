@@ -105,7 +105,7 @@ Short work table = (work < work_size) ⊎ (table < table_size)
 pub data SolvedAs (work table : ℕ) (source : List ℕ) : Told → List ℕ → Type 0 where
   -- 12: lent memory is too short
   short_memory : Short work table → SolvedAs work table source (refused 12 0) []
-  -- 1 to 8, 18: the text denotes no problem
+  -- 1 to 8: the text denotes no problem
   bad_source : (¬ Short work table) → (number place : ℕ) → Refuses source number place → SolvedAs work table source (refused number place) []
   -- 9: more than 128 states can be reached
   too_many_states_lem : (¬ Short work table) → (p : Problem) → Denotes source p → ManyStates p → SolvedAs work table source (refused 9 0) []

@@ -149,7 +149,7 @@ fn solve_source(source: &[u8], sets: &mut [u8], table: &mut [u16]) -> Solved
 }
 
 // Solves a problem: the table of a strategy that wins against every behaviour with the smallest worst case, or one refusal.
-// Refusals: 12, then 1 to 8, 18, 9, 10, 11. Only the table's used rows change; work memory is all zero afterwards, but untouched
+// Refusals: 12, then 1 to 8, 9, 10, 11. Only the table's used rows change; work memory is all zero afterwards, but untouched
 // where either is too short. The states' sets are made and kept in its front (`put_set` in `search` says how) until it is cleared.
 pub fn solve(source: &[u8], work: &mut [u8], table: &mut [u16]) -> Solved
     ensures answer { result ≡ solved_by (length work.old) (length table.old) source.now }

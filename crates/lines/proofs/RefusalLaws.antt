@@ -6,15 +6,14 @@ use mathlib.Core.List.{List, [], ◌∷◌}
 use lib.ListN.{get_or}
 use Rattle.lines.specs.declared.refusal.Refusal.{Refusal}
 use Rattle.lines.specs.declared.refusal.Refusal.TheVariants.{LongSource, BadLine, NameTwice, TooManySignals, BadFormula, UnknownName, TooManyParts, NoFormula}
-use Rattle.lines.specs.declared.refusal.Refusal.TheVariants.{TooManyStates, TooManyBeliefs, Unrealizable, ShortMemory, BadTable, Stopped}
-use Rattle.lines.specs.declared.refusal.Refusal.TheVariants.{BadObservation, BadTrace, BadText, UnusedSignal}
+use Rattle.lines.specs.declared.refusal.Refusal.TheVariants.{TooManyStates, TooManyBeliefs, Unrealizable, ShortMemory, BadTable, Stopped, BadObservation, BadTrace, BadText}
 use Rattle.lines.specs.Refusal.{number_of, place_of, values, refused}
 
 -- the refusals at a place, in the order of their numbers
 at : ℕ → List Refusal
 at n =
     LongSource ∷ BadLine n ∷ NameTwice n ∷ TooManySignals n ∷ BadFormula n ∷ UnknownName n ∷ TooManyParts n ∷ NoFormula ∷ TooManyStates
-    ∷ TooManyBeliefs ∷ Unrealizable ∷ ShortMemory ∷ BadTable ∷ Stopped ∷ BadObservation ∷ BadTrace n ∷ BadText n ∷ UnusedSignal n ∷ []
+    ∷ TooManyBeliefs ∷ Unrealizable ∷ ShortMemory ∷ BadTable ∷ Stopped ∷ BadObservation ∷ BadTrace n ∷ BadText n ∷ []
 
 refusal_of : ℕ → ℕ → Refusal
 refusal_of number place = get_or (LongSource ∷ at place) number LongSource
@@ -38,7 +37,6 @@ found Stopped = refl
 found BadObservation = refl
 found (BadTrace n) = refl
 found (BadText n) = refl
-found (UnusedSignal n) = refl
 
 pub same-told : (r q : Refusal) → number_of r ≡ number_of q → place_of r ≡ place_of q → r ≡ q
 same-told r q n p = sym (found r) ∙ ap₂ refusal_of n p ∙ found q

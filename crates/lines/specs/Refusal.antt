@@ -4,7 +4,7 @@ use Rattle.std.specs.Prelude.{ℕ, List}
 use Rattle.lines.specs.declared.refusal.Refusal.{Refusal}
 use Rattle.lines.specs.declared.refusal.Refusal.TheVariants.{LongSource, BadLine, NameTwice, TooManySignals, BadFormula}
 use Rattle.lines.specs.declared.refusal.Refusal.TheVariants.{UnknownName, TooManyParts, NoFormula, TooManyStates, TooManyBeliefs}
-use Rattle.lines.specs.declared.refusal.Refusal.TheVariants.{Unrealizable, ShortMemory, BadTable, Stopped, BadObservation, BadTrace, BadText, UnusedSignal}
+use Rattle.lines.specs.declared.refusal.Refusal.TheVariants.{Unrealizable, ShortMemory, BadTable, Stopped, BadObservation, BadTrace, BadText}
 
 abbrev pub number_of : Refusal → ℕ
 number_of LongSource = 1
@@ -24,7 +24,6 @@ number_of Stopped = 14
 number_of BadObservation = 15
 number_of (BadTrace n) = 16
 number_of (BadText n) = 17
-number_of (UnusedSignal n) = 18
 
 -- a line or a step, counted from 1, or 0
 abbrev pub place_of : Refusal → ℕ
@@ -45,7 +44,6 @@ place_of Stopped = 0
 place_of BadObservation = 0
 place_of (BadTrace n) = n
 place_of (BadText n) = n
-place_of (UnusedSignal n) = n
 
 -- an answer in the reference's terms: its values, or a refusal's number and place
 pub data Told : Type 0 where

@@ -21,7 +21,6 @@ pub enum Refusal {
     BadObservation,
     BadTrace(usize),
     BadText(usize),
-    UnusedSignal(usize),
 }
 
 // The number of a refusal.
@@ -46,7 +45,6 @@ pub fn number(r: Refusal) -> usize
         Refusal::BadObservation => 15,
         Refusal::BadTrace(_) => 16,
         Refusal::BadText(_) => 17,
-        Refusal::UnusedSignal(_) => 18,
     }
 }
 
@@ -72,6 +70,5 @@ pub fn place(r: Refusal) -> usize
         Refusal::BadObservation => 0,
         Refusal::BadTrace(n) => n,
         Refusal::BadText(n) => n,
-        Refusal::UnusedSignal(n) => n,
     }
 }

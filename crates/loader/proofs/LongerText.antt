@@ -7,7 +7,7 @@ use mathlib.Core.List.{List, ◌++◌, append_assoc}
 use lib.ListN.{length, take, drop, length-append, take-append-drop}
 use lib.Seq.{length-take-le, take-append-add}
 use Rattle.lines.specs.Refusal.{Told}
-use Rattle.answers.specs.Limits.{text_size}
+use Rattle.printer.specs.Limits.{text_size}
 use Rattle.printer.proofs.TextLaws.{text-fits}
 use Rattle.loader.specs.LoadedAs.{loaded_by, cells_by, told_loaded, IsText, Begins, FaultAt, bad-line, bad-worst, bad-rank}
 use Rattle.loader.specs.LoadedAs.{LoadedAs, short_memory, bad-text, table}

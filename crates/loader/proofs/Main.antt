@@ -8,7 +8,7 @@ use Rattle.basics.specs.Order.{order_number}
 use Rattle.basics.specs.declared.order.Order.{Order}
 use Rattle.lines.specs.Refusal.{Told, values, refused}
 use Rattle.play.specs.Cells.{row_size, table_size}
-use Rattle.answers.specs.Limits.{text_size}
+use Rattle.printer.specs.Limits.{text_size}
 use Rattle.printer.specs.Text.{table_text}
 use Rattle.wellformed.specs.WellFormed.{Printable}
 use Rattle.tables.specs.declared.shape.Shape.{Shape}

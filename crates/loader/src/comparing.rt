@@ -2,13 +2,12 @@
 ghost use Rattle.std.specs.Prelude.{◌≡◌, ◌*◌, ◌≤◌, length};
 ghost use Rattle.basics.specs.Limits.{kind_limit};
 ghost use Rattle.play.specs.Cells.{row_size};
-ghost use Rattle.answers.specs.Limits.{text_size};
+ghost use Rattle.printer.specs.Limits.{text_size};
 ghost use Rattle.printer.specs.Text.{table_text};
 ghost use Rattle.loader.specs.Difference.{difference};
 
-use answers::TEXT_SIZE;
 use basics::LINE_END;
-use printer::put_table;
+use printer::{TEXT_SIZE, put_table};
 use tables::Shape;
 
 // The line, from 1, of the first difference of two texts; 0 where they are the same.

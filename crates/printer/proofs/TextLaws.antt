@@ -17,7 +17,7 @@ use Rattle.basics.specs.declared.order.Order.TheVariants.{Set, Read}
 use Rattle.play.specs.Limits.{belief_limit, side_limit}
 use Rattle.play.specs.Cells.{row_size, next_at, stop_cell, cell_limit, cell, first_cell, is_stop, choice_cell, next_cell, rank_cell}
 use Rattle.tables.specs.declared.shape.Shape.{Shape}
-use Rattle.answers.specs.Limits.{text_size}
+use Rattle.printer.specs.Limits.{text_size}
 use Rattle.wellformed.specs.WellFormed.{IsFirst, FormedRow, Shaped}
 use Rattle.basics.specs.Text.{decimal, field, line}
 use Rattle.printer.specs.Text.{shown_from, shown_count, shown_fields, row_fields, row_text, rows_text, table_word, table_text}
@@ -204,3 +204,7 @@ text-fits t shape worst p =
       flat_length (row_text t shape) shape.rows 126 (λ row. row)
           (λ row l. row_length t shape row few p.sized.seen (p.each row l).formed l (p.each row l).rank),
     )
+
+-- a line of two numbers that a machine word holds has room too: they have at most 20 digits
+pub words_fit : (word : List ℕ) (a b : ℕ) → length word ≤ 100 → a < 2 ^ 64 → b < 2 ^ 64 → length (line word (decimal a ∷ decimal b ∷ [])) ≤ text_size
+words_fit word a b h ha hb = omega (arith, two_length word 19 a b (omega arith) (omega arith))

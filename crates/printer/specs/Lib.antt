@@ -1,2 +1,3 @@
 -- A table's text.
+pub mod Limits
 pub mod Text

@@ -1,10 +1,12 @@
--- The text that a table is printed as (REFERENCE.md, The text).
+-- The text that a table and a refusal are printed as (REFERENCE.md, The text).
 -- Assumes nothing.
 use Rattle.std.specs.Prelude.{ℕ, ◌+◌, ◌*◌, ◌^◌, cond}
 use mathlib.Core.List.{List, [], ◌∷◌, ◌++◌, flat_map}
 use Rattle.basics.specs.Bytes.{bytes_of}
 use Rattle.basics.specs.Lists.{tabulate}
 use Rattle.basics.specs.Text.{decimal, line}
+use Rattle.lines.specs.declared.refusal.Refusal.{Refusal}
+use Rattle.lines.specs.Refusal.{number_of, place_of}
 use Rattle.basics.specs.declared.order.Order.{Order}
 use Rattle.basics.specs.declared.order.Order.TheVariants.{Set, Read}
 use Rattle.play.specs.Cells.{cell, is_stop, rank_cell}
@@ -42,3 +44,7 @@ table_word Read = bytes_of "rtable"
 
 abbrev pub table_text : List ℕ → Shape → ℕ → List ℕ
 table_text t shape worst = line (table_word shape.order) (decimal shape.rows ∷ decimal worst ∷ []) ++ rows_text t shape shape.rows
+
+-- a refusal: its number and its place
+abbrev pub refusal_text : Refusal → List ℕ
+refusal_text r = line (bytes_of "refused") (decimal (number_of r) ∷ decimal (place_of r) ∷ [])

@@ -1,4 +1,4 @@
-// The text of a table, put into lent bytes. Each function answers the place behind what it has put.
+// The text of a table, and that of a refusal, put into lent bytes. Each function answers the place behind what it has put.
 ghost use Rattle.std.specs.Prelude.{◌≡◌, ◌+◌, ◌*◌, ◌≤◌, length};
 ghost use mathlib.Core.List.{[], ◌∷◌, ◌++◌, flat_map};
 ghost use Rattle.std.proofs.lemmas.List.Edits.{sets};
@@ -6,10 +6,12 @@ ghost use Rattle.basics.specs.Limits.{kind_limit};
 ghost use Rattle.play.specs.Limits.{side_limit};
 ghost use Rattle.play.specs.Cells.{row_size};
 ghost use Rattle.basics.specs.Lists.{written};
-ghost use Rattle.printer.specs.Text.{shown_from, shown_count, shown_fields, row_fields, row_text, rows_text, table_word, table_text};
+ghost use Rattle.printer.specs.Limits.{text_size};
+ghost use Rattle.printer.specs.Text.{shown_from, shown_count, shown_fields, row_fields, row_text, rows_text, table_word, table_text, refusal_text};
 ghost use Rattle.basics.specs.Text.{decimal, field, line};
 
 use basics::{LINE_END, Order, put_byte, put_bytes, put_field, put_line};
+use lines::{Refusal, number, place};
 use tables::{STOP, Shape, first_cell, rank_cell, row_size};
 
 // Where the printed cells of a row begin.
@@ -134,4 +136,15 @@ pub fn put_table(text: &mut [u8], table: &[u16], shape: Shape, worst: usize) -> 
 {
     let head = put_head(text, shape, worst);
     put_rows(text, head, table, shape)
+}
+
+// A refusal.
+pub fn put_refusal(text: &mut [u8], r: Refusal) -> usize
+    requires { text_size ≤ length text.old }
+    ensures value { result ≡ length (refusal_text r) }
+    ensures text_after { text.new ≡ written (refusal_text r) text.old }
+{
+    let n = number(r);
+    let p = place(r);
+    put_line(text, b"refused", n, p)
 }

@@ -19,8 +19,8 @@ use Rattle.lines.proofs.RefusalLaws.{told-apart, one_number, one_place}
 use Rattle.rules.specs.Problem.{Outcome, accepted, refused, read_problem}
 use Rattle.rules.specs.Reading.{reading_of, told_reading}
 use Rattle.rules.proofs.DenotesLaws.{read_denotes, denotes_read}
-use Rattle.rules.specs.Refuses.{Refuses, OfText}
-use Rattle.rules.proofs.RefusesLaws.{told-refused, between_not, not_of_text}
+use Rattle.rules.specs.Refuses.{Refuses}
+use Rattle.rules.proofs.RefusesLaws.{told-refused, refuses-number}
 use Rattle.rules.proofs.RefusesLaws as refusal
 use Rattle.records.specs.Reading.{read_into, parts_given, records_after, told_read, ListedAs, short_memory, bad_source, listed}
 
@@ -65,18 +65,18 @@ module _ (source : List ℕ) (old : List Part) where
 
   was_short : {a : Told} {new : List Part} → ListedAs source old a new → a ≡ told.refused 12 0 → length old < part_limit
   was_short (short_memory h) e = h
-  was_short (bad_source h n m f) e = not_of_text 12 (omega arith) (omega arith) (one_number e) f
+  was_short (bad_source h n m f) e = absurd (omega (arith, one_number e, refuses-number f))
   was_short (listed h p d) e = told-apart (sym e)
 
   pub short_iff : (told_read source old ≡ told.refused 12 0) ↔ (length old < part_limit)
   short_iff = (λ e. was_short listed-due e, λ h. (listed-told (short_memory h)).0)
 
-  was_refused : (n m : ℕ) → OfText n → {a : Told} {new : List Part} → ListedAs source old a new → a ≡ told.refused n m → Refuses source n m
-  was_refused n m small (short_memory h) e = between_not 12 (omega arith) (omega arith) small (sym (one_number e))
+  was_refused : (n m : ℕ) → n ≤ 8 → {a : Told} {new : List Part} → ListedAs source old a new → a ≡ told.refused n m → Refuses source n m
+  was_refused n m small (short_memory h) e = absurd (omega (arith, one_number e))
   was_refused n m small (bad_source h x y f) e = subst (λ k. Refuses source k m) (one_number e) (subst (Refuses source x) (one_place e) f)
   was_refused n m small (listed h p d) e = told-apart (sym e)
 
-  pub refused_iff : part_limit ≤ length old → (n m : ℕ) → OfText n → (told_read source old ≡ told.refused n m) ↔ Refuses source n m
+  pub refused_iff : part_limit ≤ length old → (n m : ℕ) → n ≤ 8 → (told_read source old ≡ told.refused n m) ↔ Refuses source n m
   refused_iff h n m small = (λ e. was_refused n m small listed-due e, λ f. (listed-told (bad_source h n m f)).0)
 
   was_kept : {a : Told} {new : List Part} → ListedAs source old a new → (n m : ℕ) → a ≡ told.refused n m → new ≡ old

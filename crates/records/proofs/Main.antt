@@ -20,7 +20,7 @@ use Rattle.rules.specs.Limits.{work_size}
 use Rattle.rules.specs.Problem.{Problem, formula_in, problem_parts}
 use Rattle.rules.specs.Satisfies.{Satisfies}
 use Rattle.rules.specs.Denotes.{Denotes}
-use Rattle.rules.specs.Refuses.{Refuses, OfText}
+use Rattle.rules.specs.Refuses.{Refuses}
 use Rattle.rules.specs.Trace.{RightLength, IsTrace, FirstBad}
 use Rattle.rules.specs.Reading.{sizes_of, reading_of}
 use Rattle.rules.specs.Judge.{judged, told_verdict, JudgedAs}
@@ -43,8 +43,8 @@ module _ (source : List ℕ) (old : List Part) where
   pub short_memory : (told_read source old ≡ refused 12 0) ↔ (length old < part_limit)
   short_memory = ListedIffDue.short_iff source old
 
-  -- 1 to 8 and 18: the text denotes no problem, and this is why
-  pub refused-text : part_limit ≤ length old → (number place : ℕ) → OfText number
+  -- 1 to 8: the text denotes no problem, and this is why
+  pub refused-text : part_limit ≤ length old → (number place : ℕ) → number ≤ 8
       → (told_read source old ≡ refused number place) ↔ Refuses source number place
   refused-text = ListedIffDue.refused_iff source old
 

@@ -39,7 +39,7 @@ told_read source old = told_reading (reading_of (read_into (length old) source))
 pub data ListedAs (source : List ℕ) (old : List Part) : Told → List Part → Type 0 where
   -- 12: fewer records are lent than a formula may have parts
   short_memory : length old < part_limit → ListedAs source old (told.refused 12 0) old
-  -- 1 to 8, 18: the text denotes no problem
+  -- 1 to 8: the text denotes no problem
   bad_source : part_limit ≤ length old → (number place : ℕ) → Refuses source number place
       → ListedAs source old (told.refused number place) old
   -- the formula's parts at the front, with the numbers of signals, parts and temporal operators, and the order's

@@ -14,7 +14,7 @@ use lines::{Reading, Sizes};
 use rules::Verdict;
 
 // Reads a problem, and writes the parts of its formula to the front of the lent records, or refuses: 12 where fewer than 96 records are
-// lent, else 1 to 8, then 18. A refusal leaves the records as they were, and those behind the parts stay.
+// lent, else 1 to 8. A refusal leaves the records as they were, and those behind the parts stay.
 pub fn read_parts(source: &[u8], parts: &mut [Part]) -> Reading
     ensures { (result ≡ reading_of (read_into (length parts.old) source.now))
         × (parts.new ≡ records_after source.now parts.old)

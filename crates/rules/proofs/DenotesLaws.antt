@@ -1,39 +1,80 @@
--- Reading a problem finds exactly what its text denotes; hence a text denotes at most one problem.
+-- Reading a problem finds exactly what its text denotes by the written grammar; hence a text denotes at most one problem.
 -- Assumes nothing.
-use Prim.Native.Nat.{ℕ}
-use mathlib.Core.Path.{◌≡◌, refl, sym, ap, ◌∙◌}
+use Prim.Native.Nat.{ℕ, suc}
+use native.Mathlib.Omega.{arith}
+use mathlib.Core.Path.{◌≡◌, refl, sym, subst, ◌∙◌}
 use mathlib.Core.Logic.{◌↔◌}
+use mathlib.Core.Bool.{Bool, true, false, cond}
 use mathlib.Core.List.{List, [], ◌∷◌}
-use Rattle.usage.specs.Used.{Declaration}
-use Rattle.rules.specs.Problem.{Problem, Outcome, accepted, refused, read_text, unused_in, or_unused, when_used, read_problem}
-use Rattle.rules.specs.Denotes.{Denotes}
-use Rattle.rules.proofs.WrittenLaws.{not_accepted, same-problem, written_read, read-written, one_written}
-use Rattle.rules.proofs.UnusedFound.{unused_iff}
+use borrow.Author.Tests.{le-ltb, ltb-false}
+use lib.Dec.{ltb}
+use lib.ListN.{length}
+use Rattle.lines.specs.declared.refusal.Refusal.{Refusal}
+use Rattle.lines.specs.declared.refusal.Refusal.TheVariants.{LongSource}
+use Rattle.rules.specs.Limits.{source_limit}
+use Rattle.lines.specs.Lines.{SourceLine, ended, unended, lines}
+use Rattle.lines.specs.declared.problem.OrderSoFar.{OrderSoFar}
+use Rattle.lines.specs.StepOrder.{order_or}
+use Rattle.rules.specs.Problem.{Line, Draft, Problem, Outcome, accepted, refused, finish, after, effect_after}
+use Rattle.rules.specs.Problem.{with_declared, with_formula, with_order, read_lines, blank, read_problem}
+use Rattle.lines.specs.Effect.{Signals, Effect, declares, states, orders, refuses}
+use Rattle.rules.specs.Denotes.{Reads, Make, done, next, Denotes}
+use Rattle.rules.proofs.LineMeaning.{Sound, sound-blank, sound-after, Said, said, read-after}
+
+pub not_accepted : {C : Type 0} (r : Refusal) (p : Problem) → refused r ≡ accepted p → C
+not_accepted r p e = let z : ◌≡◌ {A = ℕ} 0 1 = cc in absurd (omega arith)
+
+same-problem : (p q : Problem) → accepted p ≡ accepted q → p ≡ q
+same-problem p q e = cc
+
+no_lines : {C : Type 0} {l : Line} {ls : List Line} → l ∷ ls ≡ [] → C
+no_lines e = let z : ◌≡◌ {A = ℕ} 0 1 = cc in absurd (omega arith)
+
+pub finish-some : (g : Signals) (o : OrderSoFar) (ls : List Line) → ¬ (ls ≡ [])
+    → finish g o ls ≡ accepted (record { signals = g; order = order_or o; lines = ls })
+finish-some g o [] h = absurd (h refl)
+finish-some g o (l ∷ ls) h = refl
+
+make-read : {d : Draft} {ls : List SourceLine} {p : Problem} → Sound d.signals → Make d ls p → (line : ℕ) → read_lines line ls d ≡ accepted p
+unfolding read_lines
+make-read s (done {d = d} some) line = finish-some d.signals d.order d.lines some
+make-read s (next {d = d} {ls = ls} d' r m) line = read-after d s line (read_lines (suc line) ls) r ∙ make-read (sound-after s r) m (suc line)
+
+-- a line with an effect is read
+after_read : (line : ℕ) (l : List ℕ) (d : Draft) (p : Problem) (f : Draft → Outcome) (s : Sound d.signals) (e : Effect) → Said d s line l e
+    → after e d f ≡ accepted p
+    → (d' : Draft) × Reads d l d' × (f d' ≡ accepted p)
+after_read line l d p f s (declares k name) i h = (with_declared k name d, i, h)
+after_read line l d p f s (states φ) i h = (with_formula φ d, i, h)
+after_read line l d p f s (orders o) i h = (with_order o d, i, h)
+after_read line l d p f s (refuses r) i h = not_accepted r p h
+
+finish-make : (d : Draft) (p : Problem) (ls : List Line) → d.lines ≡ ls → finish d.signals d.order ls ≡ accepted p → Make d [] p
+finish-make d p [] e h = not_accepted _ p h
+finish-make d p (l ∷ ls) e h =
+    let is : accepted (record { signals = d.signals; order = order_or d.order; lines = d.lines }) ≡ accepted p = rw e h in
+    subst (Make d []) (same-problem _ p is) (done (λ z. no_lines (sym e ∙ z)))
+
+read-make : (ls : List SourceLine) (line : ℕ) (d : Draft) (p : Problem) → Sound d.signals → read_lines line ls d ≡ accepted p → Make d ls p
+unfolding read_lines
+read-make [] line d p s h = finish-make d p d.lines refl h
+read-make (unended l ∷ ls) line d p s h = not_accepted _ p h
+read-make (ended l ∷ ls) line d p s h =
+    let r = after_read line l d p (read_lines (suc line) ls) s (effect_after line l d) (said d s line l) h in
+    next r.0 r.1 (read-make ls (suc line) r.0 p (sound-after s r.1) r.2)
 
 module _ (source : List ℕ) (p : Problem) where
-  -- a problem that is read is written in the text, and each of its signals is used
-  read_parted : read_problem source ≡ accepted p → (read_text source ≡ accepted p) × (unused_in source p ≡ [])
-  unfolding read_problem
-  read_parted e = go (read_text source) refl e
-    where
-      no_other : (q : Problem) (ds : List Declaration) → unused_in source q ≡ ds → or_unused ds q ≡ accepted p → (q ≡ p) × (unused_in source q ≡ [])
-      no_other q [] i h = (same-problem q p h, i)
-      no_other q (d ∷ ds) i h = not_accepted _ p h
-
-      go : (o : Outcome) → read_text source ≡ o → when_used source o ≡ accepted p → (read_text source ≡ accepted p) × (unused_in source p ≡ [])
-      go (accepted q) i h = let (same, none) = no_other q (unused_in source q) refl h in (i ∙ ap accepted same, ap (unused_in source) (sym same) ∙ none)
-      go (refused r) i h = not_accepted r p h
-
   pub denotes_read : Denotes source p → read_problem source ≡ accepted p
   unfolding read_problem
-  denotes_read d =
-      ap (when_used source) (written_read source p d.written) ∙ ap (λ ds. or_unused ds p) ((unused_iff source p d.written []).1 d.used)
+  denotes_read d = rw (le-ltb _ _ d.short) (make-read sound-blank d.make 1)
 
   pub read_denotes : read_problem source ≡ accepted p → Denotes source p
-  read_denotes e =
-      let (text, none) = read_parted e in
-      let w = read-written source p text in
-      record { written = w; used = (unused_iff source p w []).0 none }
+  unfolding read_problem
+  read_denotes e = go (ltb source_limit (length source)) refl e
+    where
+      go : (b : Bool) → ltb source_limit (length source) ≡ b → cond b (refused LongSource) (read_lines 1 (lines source) blank) ≡ accepted p → Denotes source p
+      go true q h = not_accepted _ p h
+      go false q h = record { short = ltb-false _ _ q; make = read-make (lines source) 1 blank p sound-blank h }
 
   -- a problem is read exactly where the text denotes it
   pub read_iff_denotes : (read_problem source ≡ accepted p) ↔ Denotes source p
@@ -41,4 +82,4 @@ module _ (source : List ℕ) (p : Problem) where
 
 -- a text denotes one problem
 pub one-problem : (source : List ℕ) (p q : Problem) → Denotes source p → Denotes source q → p ≡ q
-one-problem source p q d e = one_written source p q d.written e.written
+one-problem source p q d e = same-problem p q (sym (denotes_read source p d) ∙ denotes_read source q e)

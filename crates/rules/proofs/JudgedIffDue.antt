@@ -25,7 +25,7 @@ use Rattle.rules.specs.Judge.{judged_by, judged, told_verdict, JudgedAs, short_m
 use Rattle.rules.specs.Within.{counts_in}
 use Rattle.rules.proofs.SatisfiesLaws.{holds_iff_satisfies}
 use Rattle.rules.proofs.DenotesLaws.{read_denotes, denotes_read}
-use Rattle.rules.proofs.RefusesLaws.{refused_iff, told-refused, not_of_text}
+use Rattle.rules.proofs.RefusesLaws.{refused_iff, told-refused, refuses-number}
 use Rattle.rules.proofs.VerdictCases.{verdict_cases, length_verdict, step-verdict, value-verdict}
 use Rattle.rules.proofs.WithinLimits.{read-within}
 
@@ -128,7 +128,7 @@ module _ (work : ℕ) (source : List ℕ) (π : Trace) where
 
   was_refused : (step : ℕ) {a : Told} → JudgedAs work source π a → a ≡ refused 16 step → RefusedAt step
   was_refused step (short_memory h) e = absurd (omega (arith, one_number e))
-  was_refused step (bad_source enough f) e = not_of_text 16 (omega arith) (omega arith) (one_number e) f
+  was_refused step (bad_source enough f) e = absurd (omega (arith, one_number e, refuses-number f))
   was_refused step (bad_length p enough d n) e = (p, d, inl (sym (one_place e), n))
   was_refused step (bad-step p enough d r f) e = (p, d, inr (r, subst (FirstBad (counts_in p.signals) π) (one_place e) f))
   was_refused step (is_true p enough d t s) e = told-apart (sym e)

@@ -31,8 +31,8 @@ use Rattle.lines.proofs.LineCases.{line_case, declare_line_lem, rule-line, order
 use Rattle.lines.proofs.LineCases as case
 use Rattle.rules.specs.Problem.{Draft, part_count, operator_count, with_declared, with_formula, with_order, Outcome, after, effect_after, blank}
 use Rattle.rules.specs.Within.{Few}
-use Rattle.rules.specs.Written.{IsDeclared, AllDeclared, stated_formula, Fits, Reads, declared, stated, ordered}
-use Rattle.rules.specs.RefusesText.{LineRefused, bad-line, name_twice, too_many_signals, bad_formula, unknown_name, too_many_parts}
+use Rattle.rules.specs.Denotes.{IsDeclared, AllDeclared, stated_formula, Fits, Reads, declared, stated, ordered}
+use Rattle.rules.specs.Refuses.{LineRefused, bad-line, name_twice, too_many_signals, bad_formula, unknown_name, too_many_parts}
 use Rattle.rules.proofs.LineTests.{names_more, declared-says, all-declared-says, few-more, few-room, small-fits, fits-small}
 
 -- what holds of the signals between lines

@@ -26,7 +26,7 @@ use Rattle.lines.specs.Effect.{Signals, count, first_bit, with_signal, is_declar
 use Rattle.lines.proofs.DeclaredNames.{index_in_lem, in_index}
 use Rattle.rules.specs.Problem.{joined_lines, size_in, operators_in, Draft, part_count, operator_count, with_formula}
 use Rattle.rules.specs.Within.{Few}
-use Rattle.rules.specs.Written.{IsDeclared, AllDeclared, Fits}
+use Rattle.rules.specs.Denotes.{IsDeclared, AllDeclared, Fits}
 use Rattle.rules.proofs.JoinedFormulas.{size-joined, operators-joined, joined-more}
 
 -- ---- signals

@@ -3,10 +3,10 @@ use Prim.Native.Nat.{ℕ, ◌+◌, ◌≤◌, ◌<◌}
 use mathlib.Core.Path.{◌≡◌}
 use mathlib.Core.Logic.{◌↔◌, ◌⊎◌}
 use mathlib.Core.Bool.{true}
-use mathlib.Core.List.{List, [], ◌∷◌}
-use lib.ListN.{length, get_or, drop, replicate}
+use mathlib.Core.List.{List}
+use lib.ListN.{length, replicate}
 use Rattle.grammar.specs.Names.{Name, index_of}
-use Rattle.formula.specs.Formula.{Formula, size, operators, uses}
+use Rattle.formula.specs.Formula.{Formula, size, operators}
 use Rattle.formula.specs.Letter.{Counts, IsLetter, is_letter}
 use Rattle.syntax.specs.declared.plans.PlanWord.{PlanWord}
 use Rattle.syntax.specs.declared.plans.PlanWord.TheVariants as plan
@@ -19,24 +19,19 @@ use Rattle.basics.specs.Limits.{kind_limit}
 use Rattle.basics.specs.Member.{◌∈◌}
 use Rattle.basics.specs.declared.order.Order.{Order}
 use Rattle.lines.specs.declared.refusal.Refusal.{Refusal}
-use Rattle.lines.specs.declared.refusal.Refusal.TheVariants.{BadTrace, UnusedSignal}
+use Rattle.lines.specs.declared.refusal.Refusal.TheVariants.{BadTrace}
 use Rattle.lines.specs.declared.problem.Kind.{Kind}
 use Rattle.lines.specs.Limits.{name_limit}
-use Rattle.lines.specs.Refusal.{number_of, place_of, Told, values}
-use Rattle.lines.specs.Refusal as told
-use Rattle.answers.specs.Printed.{told_printed}
-use Rattle.usage.specs.Used.{Declaration, IsUsed, Unused, IsUnused, Ascends}
+use Rattle.lines.specs.Refusal.{number_of, place_of, Told}
 use Rattle.lines.specs.Lines.{ended, lines, order_line}
 use Rattle.lines.specs.StepOrder.{default_order}
 use Rattle.lines.specs.Effect.{Signals, count, first_bit, with_signal, plan_formula}
 use Rattle.rules.specs.declared.judging.Verdict.TheVariants.{True, False, Refused}
 use Rattle.rules.specs.Limits.{work_size}
-use Rattle.rules.specs.Problem.{Draft, Problem, formula_in, problem_parts, accepted, refused, blank, read_text, read_problem}
+use Rattle.rules.specs.Problem.{Draft, Problem, formula_in, problem_parts, accepted, refused, blank, read_problem}
 use Rattle.rules.specs.Satisfies.{Satisfies}
 use Rattle.rules.specs.Within.{Few, Named, Within, counts_in}
-use Rattle.rules.specs.Written.{IsDeclared, Reads, Written}
-use Rattle.rules.specs.Denotes.{Denotes}
-use Rattle.rules.specs.RefusesText.{RefusesText}
+use Rattle.rules.specs.Denotes.{IsDeclared, Reads, Denotes}
 use Rattle.rules.specs.Refuses.{Refuses}
 use Rattle.rules.specs.Trace.{RightLength, IsTrace, FirstBad}
 use Rattle.rules.specs.Reading.{reading_of, told_reading, ReadAs}
@@ -45,18 +40,11 @@ use Rattle.formula.proofs.Agreement
 use Rattle.formula.proofs.ConstraintsLaws
 use Rattle.formula.proofs.LetterLaws
 use Rattle.lines.proofs.PlanCounts
-use Rattle.rules.specs.UnusedAs.{listed_by, bytes_listed, list_after, UnusedAs}
 use Rattle.rules.proofs.SatisfiesLaws
 use Rattle.rules.proofs.ProblemLaws
-use Rattle.rules.proofs.WrittenLaws
-use Rattle.rules.proofs.RefusesTextLaws
-use Rattle.rules.proofs.UnusedSignals
 use Rattle.rules.proofs.DenotesLaws
 use Rattle.rules.proofs.ProblemOrder
 use Rattle.rules.proofs.RefusesLaws
-use Rattle.rules.proofs.ListedSignals
-use Rattle.rules.proofs.EachSignalUsed
-use Rattle.rules.proofs.UnusedAsLaws
 use Rattle.rules.proofs.ReadIffDue
 use Rattle.rules.proofs.WithinLimits
 use Rattle.rules.proofs.JudgeLaws
@@ -69,7 +57,7 @@ module _ (source : List ℕ) where
   pub reading : (p : Problem) → (read_problem source ≡ accepted p) ↔ Denotes source p
   reading = DenotesLaws.read_iff_denotes source
 
-  -- and a refusal is given exactly where its number and its place are due: 1 to 8, then 18 (REFERENCE.md, Refusals)
+  -- and a refusal is given exactly where its number and its place are due (REFERENCE.md, Refusals)
   pub refusing : (r : Refusal) → (read_problem source ≡ refused r) ↔ Refuses source (number_of r) (place_of r)
   refusing = RefusesLaws.refused_iff source
 
@@ -94,51 +82,6 @@ module _ (source : List ℕ) where
   -- a problem that is read is within the limits
   pub limits : (p : Problem) → read_problem source ≡ accepted p → Within p
   limits = WithinLimits.read-within source
-
-  -- ---- without number 18
-
-  -- the tests 1 to 8 find what is written in the text, whether or not each signal is used
-  pub reading-text : (p : Problem) → (read_text source ≡ accepted p) ↔ Written source p
-  reading-text = WrittenLaws.read_iff_written source
-
-  pub refusing-text : (r : Refusal) → (read_text source ≡ refused r) ↔ RefusesText source (number_of r) (place_of r)
-  refusing-text = RefusesTextLaws.refused_iff source
-
-  -- ---- signals that no rule uses
-
-  -- 18: a problem is written in the text, some declared signal has a name that no rule has, and the place is the least line of such a one
-  pub unused-signal : (n : ℕ) → (read_problem source ≡ refused (UnusedSignal n))
-      ↔ (((p : Problem) × Written source p)
-      × ((d : Declaration) × (IsUnused source d × ((e : Declaration) → IsUnused source e → d.line ≤ e.line)) × (d.line ≡ n)))
-  unused-signal = ListedSignals.unused_iff_first source
-
-  -- a problem that is denoted uses each of its signals: a bit that has a name is in its formula
-  pub uses-each : (p : Problem) → Denotes source p → (b : ℕ) → ¬ (get_or p.signals.names b [] ≡ []) → uses (formula_in p) b ≡ true
-  uses-each = EachSignalUsed.uses-each source
-
-  -- the formula uses the signal of a name exactly where some rule has the name
-  pub used-names : (p : Problem) → Written source p → (name : Name)
-      → (uses (formula_in p) (index_of name p.signals.names) ≡ true) ↔ IsUsed (lines source) name
-  used-names = UnusedSignals.uses-says source
-
-  -- the list of unused signals has each of them and no other, by ascending lines
-  pub listed-each : (ds : List Declaration) → Unused source ds → (d : Declaration) → (d ∈ ds) ↔ IsUnused source d
-  listed-each = ListedSignals.listed-each source
-
-  pub listed-order : (ds : List Declaration) → Unused source ds → Ascends ds
-  listed-order = ListedSignals.listed-order source
-
-  -- the unused names are listed exactly as it is due: 12, a refusal from 1 to 8 as text, or the names in declared order
-  pub listing : (room : ℕ) (a : Told) (bytes : List ℕ)
-      → ((told_printed (listed_by room source) ≡ a) × (bytes_listed room source ≡ bytes)) ↔ UnusedAs room source a bytes
-  listing = UnusedAsLaws.listed_iff source
-
-  -- a refusal leaves the lent text as it was, and an answer all behind it
-  pub list_kept : (text : List ℕ) (number place : ℕ) → told_printed (listed_by (length text) source) ≡ told.refused number place → list_after source text ≡ text
-  list_kept = UnusedAsLaws.list_kept source
-
-  pub list_rest : (text : List ℕ) (n : ℕ) → told_printed (listed_by (length text) source) ≡ values (n ∷ []) → drop n (list_after source text) ≡ drop n text
-  list_rest = UnusedAsLaws.list_rest source
 
 -- the order of a problem is what its line `order` says, wherever that stands, and the default where there is none
 module _ (source : List ℕ) (p : Problem) (denotes : Denotes source p) where

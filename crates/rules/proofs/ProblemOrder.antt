@@ -11,8 +11,7 @@ use Rattle.lines.specs.Lines.{SourceLine, ended, lines, order_line}
 use Rattle.lines.specs.StepOrder.{default_order, order_or}
 use Rattle.lines.proofs.LineCases.{declare_no_order, rule_no_order, open_fixed, same-order}
 use Rattle.rules.specs.Problem.{Draft, Problem}
-use Rattle.rules.specs.Written.{Reads, declared, stated, ordered, Make, done, next}
-use Rattle.rules.specs.Denotes.{Denotes}
+use Rattle.rules.specs.Denotes.{Reads, declared, stated, ordered, Make, done, next, Denotes}
 
 same_bytes_lem : (l m : List ℕ) → ended l ≡ ended m → l ≡ m
 same_bytes_lem l m e = cc
@@ -59,7 +58,7 @@ make_unsaid (next d' r m) n e =
 
 module _ (source : List ℕ) (p : Problem) (d : Denotes source p) where
   pub order-said : (o : Order) → ended (order_line o) ∈ lines source → p.order ≡ o
-  order-said o i = make-said o d.written.make i
+  order-said o i = make-said o d.make i
 
   pub order_unsaid : ((o : Order) → ¬ (ended (order_line o) ∈ lines source)) → p.order ≡ default_order
-  order_unsaid n = make_unsaid d.written.make n refl
+  order_unsaid n = make_unsaid d.make n refl

@@ -8,7 +8,7 @@ use mathlib.Core.Option.{Option, some}
 use mathlib.Core.List.{List, [], ◌∷◌, ◌++◌}
 use borrow.Author.Tests.{ltb-true, ltb-false, lt-ltb, le-ltb, eqb-false}
 use lib.Dec.{eqb, ltb}
-use lib.ListN.{length, get_or, drop, replicate, get_or-replicate, length-replicate}
+use lib.ListN.{length, get_or, drop, replicate, get_or-replicate}
 use lib.Seq.{length-sets}
 use Rattle.basics.specs.Bytes.{not_line_end, past, between}
 use Rattle.grammar.specs.Names.{bits, names_from, names_in, Spans}
@@ -27,15 +27,15 @@ use Rattle.lines.specs.Lines.{lines, tab_place, has_tab}
 use Rattle.basics.specs.declared.order.Order.{Order}
 use Rattle.lines.specs.declared.problem.OrderSoFar.TheVariants.{Open}
 use Rattle.rules.specs.Problem.{rule, joined, joined_lines, size_in, operators_in, Draft, part_count, operator_count, Outcome, accepted, refused}
-use Rattle.rules.specs.Problem.{finish, with_declared, with_formula, with_order, after, read_lines, blank, read_text}
+use Rattle.rules.specs.Problem.{finish, with_declared, with_formula, with_order, after, read_lines, blank, read_problem}
 use Rattle.lines.specs.Effect.{first_bit, is_full, joint, Effect, declares, states, orders, refuses, with_signal}
 use Rattle.lines.specs.Memory.{signals_in, count_in, more_signals, more_parts, order_in, fix_order, added_parts, stored_from, spanned}
 use Rattle.lines.specs.Memory.{reading_after, spans_after, parts_after, Kept, line_effect, LineRead}
-use Rattle.rules.specs.Reading.{reading_of, PartsRead, NamesRead, parts_of_outcome}
+use Rattle.rules.specs.Reading.{reading_of, PartsRead, parts_of_outcome}
 use Rattle.basics.proofs.BytesLaws.{past_in}
 use Rattle.lines.proofs.LineFields.{field_is, length_line}
 use Rattle.rules.proofs.JoinedFormulas.{written, stored-joined, size-joined, operators-joined, joined-more, joined-some, no_parts_lem}
-use Rattle.rules.proofs.WrittenLaws.{finish-some}
+use Rattle.rules.proofs.DenotesLaws.{finish-some}
 use Rattle.basics.proofs.Booleans.{or_left, or_right}
 use Rattle.lines.proofs.LinesLaws.{lines_none, lines_ended, lines_unended}
 use Rattle.lines.proofs.SignalSpans.{spans_more, signals-more}
@@ -63,19 +63,15 @@ spans_none : (source : List ℕ) → Spans source (replicate (2 * bits) 0)
 spans_none source =
     record {
       all = refl;
-      ordered = λ b h. zero_le (none (2 * b) (omega arith));
-      inside = λ b h. zero_le (none (2 * b + 1) (omega arith));
+      ordered = λ b h. zero_le (zeros (2 * b) (omega arith));
+      inside = λ b h. zero_le (zeros (2 * b + 1) (omega arith));
     }
   where
-    none : (i : ℕ) → i < 2 * bits → ◌≡◌ {A = ℕ} (get_or (replicate (2 * bits) 0) i 0) 0
-    none i h = get_or-replicate (2 * bits) i 0 0 h
+    zeros : (i : ℕ) → i < 2 * bits → ◌≡◌ {A = ℕ} (get_or (replicate (2 * bits) 0) i 0) 0
+    zeros i h = get_or-replicate (2 * bits) i 0 0 h
 
     zero_le : {m n : ℕ} → m ≡ 0 → m ≤ n
     zero_le e = omega arith
-
--- spans that are all zero are as many as all others
-pub zeros : {spans : List ℕ} → spans ≡ replicate (2 * bits) 0 → length spans ≡ 2 * bits
-zeros e = ap length e ∙ length-replicate {A = ℕ} (2 * bits) 0
 
 pub begin : (source p : List ℕ) → length p ≡ part_limit → Going source p 0 1 no_sizes (replicate (2 * bits) 0) p
 unfolding written names_in names_from
@@ -290,35 +286,30 @@ module _ {source p₀ : List ℕ} {at line : ℕ} {s : Sizes} {spans p : List �
     no_formula z = finished ∙ ap (finish g.draft.signals g.draft.order) (no_parts_lem g.draft.lines (g.parts ∙ z))
 
     -- a problem that is read has the counts and the order that are kept, and its parts are stored
-    pub some_formula : (s.parts ≡ 0 → ⊥) → (t : Sizes) → t ≡ fix_order (order_in s) s
-        → (Accepted t ≡ reading_of whole) × (PartsRead whole p₀ p × NamesRead source whole spans)
+    pub some_formula : (s.parts ≡ 0 → ⊥) → (t : Sizes) → t ≡ fix_order (order_in s) s → (Accepted t ≡ reading_of whole) × PartsRead whole p₀ p
     unfolding written
     some_formula z t i =
         let some-line : ¬ (g.draft.lines ≡ []) = λ e. z (sym g.parts ∙ ap (λ ls. size_in (joined_lines ls)) e) in
         let (φ, e) = joined-some g.draft.lines some-line in
         rw (finished, finish-some g.draft.signals g.draft.order g.draft.lines some-line, i)
         (rw (g.signals, g.order, e, sym (ap size_in e) ∙ g.parts, sym (ap operators_in e) ∙ g.operators)
-        (refl, (g.stored ∙ ap (λ f. stored_from (written f) 0 p₀) e, (g.kept.spans_in, refl))))
+        (refl, g.stored ∙ ap (λ f. stored_from (written f) 0 p₀) e))
 
-pub refused-answer : (source : List ℕ) (o : Outcome) (x : Refusal) (q q' spans : List ℕ) → o ≡ refused x
-    → (Refused x ≡ reading_of o) × (PartsRead o q q' × NamesRead source o spans)
-refused-answer source o x q q' spans e = rw e (refl, (tt, tt))
+pub refused-answer : (o : Outcome) (x : Refusal) (q q' : List ℕ) → o ≡ refused x → (Refused x ≡ reading_of o) × PartsRead o q q'
+refused-answer o x q q' e = rw e (refl, tt)
 
 -- ---- the whole text
 
-pub long_source : (source : List ℕ) → source_limit < length source → read_text source ≡ refused LongSource
-unfolding read_text
-long_source source h = rw (lt-ltb source_limit (length source) h)
+pub long_source : (source q q' : List ℕ) → source_limit < length source
+    → (Refused LongSource ≡ reading_of (read_problem source)) × PartsRead (read_problem source) q q'
+unfolding read_problem
+long_source source q q' h = rw (lt-ltb source_limit (length source) h) (refl, tt)
 
-pub short_source : (source : List ℕ) → length source ≤ source_limit → read_lines 1 (lines source) blank ≡ read_text source
-unfolding read_text
+pub short_source : (source : List ℕ) → length source ≤ source_limit → read_lines 1 (lines source) blank ≡ read_problem source
+unfolding read_problem
 short_source source h = rw (le-ltb source_limit (length source) h)
 
 -- what is left in the list
-pub parts_open : (o : Outcome) (p q : List ℕ) → q ≡ parts_of_outcome o p → PartsRead o p q
-parts_open (accepted x) p q e = e
-parts_open (refused x) p q e = tt
-
 module _ (o : Outcome) (r : Reading) (e : r ≡ reading_of o) (p : List ℕ) where
   pub parts-accepted : (s : Sizes) → r ≡ Accepted s → (q : List ℕ) → PartsRead o p q → q ≡ parts_of_outcome o p
   parts-accepted s a q h = go o (sym e ∙ a) h

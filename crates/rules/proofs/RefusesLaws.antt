@@ -1,51 +1,93 @@
 -- Reading refuses a text exactly with the number and the place that are due; hence a text denotes one problem or has one refusal.
 -- Assumes nothing.
-use Prim.Native.Nat.{ℕ, ◌<◌}
+use Prim.Native.Nat.{ℕ, suc, ◌≤◌}
 use native.Mathlib.Omega.{arith}
 use mathlib.Core.Path.{◌≡◌, refl, sym, ap, subst, ◌∙◌}
-use mathlib.Core.Logic.{◌↔◌, ◌⊎◌, inl, inr, ⊎_elim}
+use mathlib.Core.Logic.{◌↔◌, ◌⊎◌, inl, inr}
+use mathlib.Core.Bool.{Bool, true, false, cond}
 use mathlib.Core.List.{List, [], ◌∷◌}
+use borrow.Author.Tests.{lt-ltb, le-ltb, ltb-true, ltb-false}
+use lib.Dec.{ltb}
+use lib.ListN.{length}
 use Rattle.lines.specs.declared.refusal.Refusal.{Refusal}
-use Rattle.lines.specs.declared.refusal.Refusal.TheVariants.{UnusedSignal}
+use Rattle.lines.specs.declared.refusal.Refusal.TheVariants.{LongSource, BadLine, NoFormula}
 use Rattle.lines.specs.Refusal.{number_of, place_of}
+use Rattle.lines.specs.Lines.{SourceLine, ended, unended, lines}
+use Rattle.lines.specs.Effect.{Effect, declares, states, orders, refuses}
 use Rattle.lines.proofs.RefusalLaws.{same-told}
-use Rattle.usage.specs.Used.{Declaration}
-use Rattle.rules.specs.Problem.{Problem, Outcome, accepted, refused, read_text, unused_in, or_unused, when_used, read_problem}
+use Rattle.rules.specs.Limits.{source_limit}
+use Rattle.rules.specs.Problem.{Line, Draft, Problem, Outcome, accepted, refused, finish, after, effect_after}
+use Rattle.rules.specs.Problem.{with_declared, with_formula, with_order, read_lines, blank, read_problem}
 use Rattle.rules.specs.Denotes.{Denotes}
-use Rattle.rules.specs.Refuses.{Refuses, unwritten, unused-signal, OfText}
-use Rattle.rules.proofs.WrittenLaws.{not_accepted, written_read, read-written}
-use Rattle.rules.proofs.RefusesTextLaws.{same-refused, IsRefused, text-number}
-use Rattle.rules.proofs.RefusesTextLaws as text
-use Rattle.rules.proofs.UnusedFound.{unused_iff}
-use Rattle.rules.proofs.DenotesLaws.{denotes_read, read_denotes}
+use Rattle.rules.specs.Refuses.{LineRefused, bad-line, name_twice, too_many_signals, bad_formula, unknown_name, too_many_parts}
+use Rattle.rules.specs.Refuses.{RefusedFrom, not_ended, here, later, no_formula, Refuses, long_source, in_lines}
+use Rattle.rules.proofs.LineMeaning.{Sound, sound-blank, sound-after, Said, said, read-after, due}
+use Rattle.rules.proofs.DenotesLaws.{not_accepted, denotes_read, read_denotes}
+
+same-refused : (r q : Refusal) → refused r ≡ refused q → r ≡ q
+same-refused r q e = cc
+
+-- ---- what is refused is due
+
+DueFrom : ℕ → Draft → List SourceLine → Refusal → Type 0
+DueFrom line d ls r = RefusedFrom line d ls (number_of r) (place_of r)
+
+after-told : (line : ℕ) (l : List ℕ) (ls : List SourceLine) (d : Draft) (r : Refusal) (s : Sound d.signals) (e : Effect) → Said d s line l e
+    → ((d' : Draft) → Sound d'.signals → read_lines (suc line) ls d' ≡ refused r → DueFrom (suc line) d' ls r) → after e d (read_lines (suc line) ls) ≡ refused r
+    → DueFrom line d (ended l ∷ ls) r
+unfolding DueFrom
+after-told line l ls d r s (declares k name) i ih h = later (with_declared k name d) i (ih _ (sound-after s i) h)
+after-told line l ls d r s (states φ) i ih h = later (with_formula φ d) i (ih _ (sound-after s i) h)
+after-told line l ls d r s (orders o) i ih h = later (with_order o d) i (ih _ (sound-after s i) h)
+after-told line l ls d r s (refuses q) i ih h =
+    subst (DueFrom line d (ended l ∷ ls)) (same-refused q r h)
+    (subst (RefusedFrom line d (ended l ∷ ls) (number_of q)) (sym i.1) (here i.0))
+
+finish-told : (line : ℕ) (d : Draft) (r : Refusal) (ls : List Line) → d.lines ≡ ls → finish d.signals d.order ls ≡ refused r
+    → DueFrom line d [] r
+unfolding DueFrom
+finish-told line d r [] e h = subst (DueFrom line d []) (same-refused NoFormula r h) (no_formula e)
+finish-told line d r (l ∷ ls) e h = not_accepted r _ (sym h)
+
+lines-told : (ls : List SourceLine) (line : ℕ) (d : Draft) (r : Refusal) → Sound d.signals → read_lines line ls d ≡ refused r → DueFrom line d ls r
+unfolding read_lines DueFrom
+lines-told [] line d r s h = finish-told line d r d.lines refl h
+lines-told (unended l ∷ ls) line d r s h = subst (DueFrom line d (unended l ∷ ls)) (same-refused (BadLine line) r h) not_ended
+lines-told (ended l ∷ ls) line d r s h =
+    after-told line l ls d r s (effect_after line l d) (said d s line l) (λ d'. lines-told ls (suc line) d' r) h
+
+-- ---- what is due is refused
+
+-- a refusal with this number and this place
+abbrev IsRefused : Outcome → ℕ → ℕ → Type 0
+IsRefused o number place = (r : Refusal) × (o ≡ refused r) × (number_of r ≡ number) × (place_of r ≡ place)
+
+from-refused : {line : ℕ} {d : Draft} {ls : List SourceLine} {number place : ℕ} → Sound d.signals
+    → RefusedFrom line d ls number place → IsRefused (read_lines line ls d) number place
+unfolding read_lines
+from-refused s (not_ended {at = line}) = (BadLine line, refl, refl, refl)
+from-refused s (here {at = line} {d = d} {ls = ls} l) =
+    let r = due d s line l in (r.0, ap (λ e. after e d (read_lines (suc line) ls)) r.1, r.2, r.3)
+from-refused s (later {at = line} {d = d} {ls = ls} d' l f) =
+    let r = from-refused (sound-after s l) f in (r.0, read-after d s line (read_lines (suc line) ls) l ∙ r.1, r.2, r.3)
+from-refused s (no_formula {d = d} e) = (NoFormula, ap (finish d.signals d.order) e, refl, refl)
+
+-- ---- a whole text
 
 module _ (source : List ℕ) where
-  abbrev Due : Refusal → Type 0
-  Due r = Refuses source (number_of r) (place_of r)
-
-  refused-told : (r : Refusal) → read_problem source ≡ refused r → Due r
-  unfolding read_problem
-  refused-told r e = go (read_text source) refl e
+  refused-told : (r : Refusal) → read_problem source ≡ refused r → Refuses source (number_of r) (place_of r)
+  unfolding read_problem DueFrom
+  refused-told r e = go (ltb source_limit (length source)) refl e
     where
-      at_first : (p : Problem) → read_text source ≡ accepted p → (ds : List Declaration) → unused_in source p ≡ ds → or_unused ds p ≡ refused r → Due r
-      at_first p i [] j h = not_accepted r p (sym h)
-      at_first p i (d ∷ ds) j h =
-          let w = read-written source p i in
-          subst Due (same-refused (UnusedSignal d.line) r h) (unused-signal p d ds w ((unused_iff source p w (d ∷ ds)).0 j))
-
-      go : (o : Outcome) → read_text source ≡ o → when_used source o ≡ refused r → Due r
-      go (accepted p) i h = at_first p i (unused_in source p) refl h
-      go (refused q) i h = subst Due (same-refused q r h) (unwritten (text.refused-told source q i))
+      go : (b : Bool) → ltb source_limit (length source) ≡ b → cond b (refused LongSource) (read_lines 1 (lines source) blank) ≡ refused r
+          → Refuses source (number_of r) (place_of r)
+      go true q h = subst (λ x. Refuses source (number_of x) (place_of x)) (same-refused LongSource r h) (long_source (ltb-true _ _ q))
+      go false q h = in_lines (ltb-false _ _ q) (lines-told (lines source) 1 blank r sound-blank h)
 
   pub told-refused : {number place : ℕ} → Refuses source number place → IsRefused (read_problem source) number place
   unfolding read_problem
-  told-refused (unwritten f) = let r = text.told-refused source f in (r.0, ap (when_used source) r.1, r.2, r.3)
-  told-refused (unused-signal p d ds w u) = (
-    UnusedSignal d.line,
-    ap (when_used source) (written_read source p w) ∙ ap (λ es. or_unused es p) ((unused_iff source p w (d ∷ ds)).1 u),
-    refl,
-    refl,
-  )
+  told-refused (long_source h) = (LongSource, rw (lt-ltb _ _ h), refl, refl)
+  told-refused (in_lines h f) = let r = from-refused sound-blank f in (r.0, rw (le-ltb _ _ h) r.1, r.2, r.3)
 
   -- reading refuses exactly what is to be refused
   pub refused_iff : (r : Refusal) → (read_problem source ≡ refused r) ↔ Refuses source (number_of r) (place_of r)
@@ -72,16 +114,22 @@ module _ (source : List ℕ) where
       let e = same-refused q.0 r.0 (sym q.1 ∙ r.1) in
       (sym q.2 ∙ ap number_of e ∙ r.2, sym q.3 ∙ ap place_of e ∙ r.3)
 
--- ---- the numbers are 1 to 8 and 18
+-- ---- the numbers are 1 to 8
 
-pub refuses-number : {source : List ℕ} {number place : ℕ} → Refuses source number place → OfText number
-refuses-number (unwritten f) = inl (text-number f)
-refuses-number (unused-signal p d ds w u) = inr refl
+line-number : {d : Draft} {line : List ℕ} {number : ℕ} → LineRefused d line number → number ≤ 8
+line-number (bad-line f g h) = omega arith
+line-number (name_twice k name named twice) = omega arith
+line-number (too_many_signals k name named new full) = omega arith
+line-number (bad_formula text is underived) = omega arith
+line-number (unknown_name text a is derives unknown) = omega arith
+line-number (too_many_parts text a is derives known large) = omega arith
 
--- no number between them is among these
-pub between_not : {C : Type 0} {number : ℕ} (n : ℕ) → 8 < n → n < 18 → OfText number → number ≡ n → C
-between_not n low high o e = absurd (⊎_elim (λ h. omega arith) (λ h. omega arith) o)
+from-number : {at : ℕ} {d : Draft} {ls : List SourceLine} {number place : ℕ} → RefusedFrom at d ls number place → number ≤ 8
+from-number not_ended = omega arith
+from-number (here l) = line-number l
+from-number (later d r f) = from-number f
+from-number (no_formula e) = omega arith
 
--- so no text is refused with one
-pub not_of_text : {C : Type 0} {source : List ℕ} {number place : ℕ} (n : ℕ) → 8 < n → n < 18 → number ≡ n → Refuses source number place → C
-not_of_text n low high e f = between_not n low high (refuses-number f) e
+pub refuses-number : {source : List ℕ} {number place : ℕ} → Refuses source number place → number ≤ 8
+refuses-number (long_source h) = omega arith
+refuses-number (in_lines h f) = from-number f

@@ -23,7 +23,7 @@ use Rattle.rules.specs.Problem.{accepted, blank, read_problem}
 use Rattle.lines.specs.Effect.{Signals, count, first_bit, with_signal}
 use Rattle.rules.specs.Within.{Few, Within}
 use Rattle.rules.specs.Within.{Named}
-use Rattle.rules.specs.Written.{IsDeclared, Reads, declared, stated, ordered, Make, done, next, Written}
+use Rattle.rules.specs.Denotes.{IsDeclared, Reads, declared, stated, ordered, Make, done, next}
 use Rattle.formula.proofs.CodesLaws.{Held, Coded, held-binary}
 use Rattle.lines.proofs.TreeCodes.{derived_stands}
 use Rattle.lines.proofs.LinesLaws.{name-short}
@@ -139,19 +139,11 @@ blank-small =
       operators = omega arith;
     }
 
-module _ {source : List ℕ} {p : Problem} (w : Written source p) where
-  -- a problem that is written in a text is within the limits
-  pub written-within : Within p
-  written-within = (make-within blank-small w.make).0
+module _ (source : List ℕ) (p : Problem) (e : read_problem source ≡ accepted p) where
+  -- a problem that is read is within the limits
+  pub read-within : Within p
+  read-within = (make-within blank-small (read_denotes source p e).make).0
 
   -- and numbers hold its parts
-  pub written_held : Held (problem_parts p)
-  written_held = (make-within blank-small w.make).1
-
--- the same of one that is read
-module _ (source : List ℕ) (p : Problem) (e : read_problem source ≡ accepted p) where
-  pub read-within : Within p
-  read-within = written-within (read_denotes source p e).written
-
   pub read_held : Held (problem_parts p)
-  read_held = written_held (read_denotes source p e).written
+  read_held = (make-within blank-small (read_denotes source p e).make).1

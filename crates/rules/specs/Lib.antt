@@ -3,11 +3,8 @@ pub mod Limits
 pub mod Problem
 pub mod Satisfies
 pub mod Within
-pub mod Written
-pub mod RefusesText
 pub mod Denotes
 pub mod Refuses
 pub mod Trace
 pub mod Judge
 pub mod Reading
-pub mod UnusedAs

@@ -5,10 +5,10 @@ use Rattle.std.proofs.Math.Option.{Option, none, some}
 use mathlib.Core.List.{List, [], ◌∷◌, ◌++◌, foldl}
 use Rattle.grammar.specs.Names.{Name}
 use Rattle.lines.specs.declared.refusal.Refusal.{Refusal}
-use Rattle.lines.specs.declared.refusal.Refusal.TheVariants.{LongSource, BadLine, NoFormula, UnusedSignal}
+use Rattle.lines.specs.declared.refusal.Refusal.TheVariants.{LongSource, BadLine, NoFormula}
 use Rattle.lines.specs.declared.problem.Kind.{Kind}
 use Rattle.rules.specs.Limits.{source_limit}
-use Rattle.formula.specs.Formula.{Formula, True, And, size, operators, uses}
+use Rattle.formula.specs.Formula.{Formula, True, And, size, operators}
 use Rattle.formula.specs.Parts.{parts_of}
 use Rattle.formula.specs.declared.parts.Part.{Part}
 use Rattle.basics.specs.declared.order.Order.{Order}
@@ -16,8 +16,6 @@ use Rattle.lines.specs.declared.problem.OrderSoFar.{OrderSoFar}
 use Rattle.lines.specs.declared.problem.OrderSoFar.TheVariants.{Open, Fixed}
 use Rattle.lines.specs.Lines.{SourceLine, ended, unended, lines}
 use Rattle.lines.specs.StepOrder.{order_or}
-use Rattle.usage.specs.Used.{Declaration}
-use Rattle.usage.specs.Declarations.{unused_from}
 use Rattle.lines.specs.Effect.{Effect, Signals, declares, effect_of, no_signals, orders, refuses, states, with_signal}
 
 -- what a line asks of a trace
@@ -111,25 +109,5 @@ read_lines line (ended l ∷ ls) d = after (effect_after line l d) d (read_lines
 abbrev pub blank : Draft
 blank = record { signals = no_signals; order = Open; lines = [] }
 
--- numbers 1 to 8
-unfoldable pub read_text : List ℕ → Outcome
-read_text source = cond (ltb source_limit (length source)) (refused LongSource) (read_lines 1 (lines source) blank)
-
--- ---- signals that no rule uses
-
--- those of a problem that is read, in declared order
-abbrev pub unused_in : List ℕ → Problem → List Declaration
-unused_in source p = unused_from (uses (formula_in p)) p.signals.names 1 (lines source)
-
--- number 18 at the first of them, if there is one
-abbrev pub or_unused : List Declaration → Problem → Outcome
-or_unused [] p = accepted p
-or_unused (d ∷ ds) p = refused (UnusedSignal d.line)
-
-abbrev pub when_used : List ℕ → Outcome → Outcome
-when_used source (accepted p) = or_unused (unused_in source p) p
-when_used source (refused r) = refused r
-
--- the whole test of a text: 1 to 8, then 18
 unfoldable pub read_problem : List ℕ → Outcome
-read_problem source = when_used source (read_text source)
+read_problem source = cond (ltb source_limit (length source)) (refused LongSource) (read_lines 1 (lines source) blank)

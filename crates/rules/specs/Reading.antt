@@ -1,8 +1,6 @@
 -- What reading a whole problem answers and leaves, and what is due.
 -- Assumes nothing.
-use Rattle.std.specs.Prelude.{ℕ, zero, suc, ◌≡◌, List, [], ◌∷◌, length, replicate}
-use Rattle.grammar.specs.Names.{Spans, names_in}
-use Rattle.lines.specs.declared.refusal.Refusal.TheVariants.{UnusedSignal}
+use Rattle.std.specs.Prelude.{ℕ, ◌≡◌, List, [], ◌∷◌, length, replicate}
 use Rattle.lines.specs.declared.problem.Sizes.{Sizes}
 use Rattle.lines.specs.declared.problem.Reading.{Reading}
 use Rattle.lines.specs.declared.problem.Reading.TheVariants.{Accepted, Refused}
@@ -35,16 +33,6 @@ reading_of (refused r) = Refused r
 abbrev pub PartsRead : Outcome → List ℕ → List ℕ → Type 0
 PartsRead (accepted p) q q' = q' ≡ stored_from (problem_parts p) 0 q
 PartsRead (refused r) q q' = Unit {0}
-
--- what is left in the spans of names; after a refusal they are open
-abbrev pub NamesRead : List ℕ → Outcome → List ℕ → Type 0
-NamesRead source (accepted p) spans = Spans source spans × (names_in source spans ≡ p.signals.names)
-NamesRead source (refused r) spans = Unit {0}
-
--- the reading of a problem of which `line` is the line of the first unused signal, 0 if there is none
-abbrev pub reading_unless : ℕ → Sizes → Reading
-reading_unless zero s = Accepted s
-reading_unless (suc n) s = Refused (UnusedSignal (suc n))
 
 -- the formula's parts at the front of the list, or a list that is all zero
 abbrev pub parts_of_outcome : Outcome → List ℕ → List ℕ

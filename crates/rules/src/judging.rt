@@ -95,7 +95,7 @@ fn judge_source(source: &[u8], trace: &[u16]) -> Verdict
 }
 
 // Judges a recorded trace by a problem's text: true exactly where the trace satisfies the formula that the written grammar
-// derives. Refusals: 12, then 1 to 8, 18, then 16. Work memory is all zero afterwards, but untouched where it is too short.
+// derives. Refusals: 12, then 1 to 8, then 16. Work memory is all zero afterwards, but untouched where it is too short.
 pub fn judge(source: &[u8], trace: &[u16], work: &mut [u8]) -> Verdict
     ensures answer { result ≡ judged (length work.old) source.now trace.now }
     ensures cleared { work.new ≡ work_after work.old }

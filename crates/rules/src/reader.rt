@@ -1,22 +1,17 @@
-// Reading a problem: line by line, and then whether its rules use each of its signals.
-ghost use Rattle.std.specs.Prelude.{◌≡◌, ◌*◌, ◌≤◌, length, replicate};
+// Reading a problem line by line.
+ghost use Rattle.std.specs.Prelude.{◌≡◌, ◌≤◌, length};
 ghost use Rattle.rules.specs.Limits.{source_limit};
 ghost use Rattle.formula.specs.Limits.{part_limit};
 ghost use Rattle.lines.specs.Lines.{lines};
-ghost use Rattle.grammar.specs.Names.{bits, names_in, Spans};
-ghost use Rattle.formula.specs.Codes.{parts_in};
-ghost use Rattle.formula.specs.Parts.{have_signal};
-ghost use Rattle.usage.specs.Declarations.{unused_from, first_line};
-ghost use Rattle.rules.specs.Problem.{read_lines, blank, read_text, read_problem};
+ghost use Rattle.rules.specs.Problem.{read_lines, blank, read_problem};
 ghost use Rattle.lines.specs.Memory.{Kept, LineRead};
-ghost use Rattle.rules.specs.Reading.{reading_of, reading_unless, PartsRead, NamesRead, parts_of_outcome, told_reading, ReadAs};
+ghost use Rattle.rules.specs.Reading.{reading_of, PartsRead, parts_of_outcome, told_reading, ReadAs};
 
 use basics::{Class, clear_words, past};
 use grammar::BITS;
 use lines::{
     OrderSoFar, Reading, Refusal, Sizes, Word, add_formula, add_order, declare, ordered, word_of,
 };
-use usage::first_unused;
 
 // Reads line `line`, the source's bytes from at up to end.
 fn read_line(
@@ -47,15 +42,14 @@ fn read_line(
     }
 }
 
-// Reads all lines, with the spans of names all zero. After a refusal both lists may hold anything.
-fn read_lines(source: &[u8], spans: &mut [usize], parts: &mut [u32]) -> Reading
+// Reads all lines. After a refusal the list may hold anything.
+fn read_lines(source: &[u8], parts: &mut [u32]) -> Reading
     requires source_len_bound { length source.now ≤ source_limit }
-    requires spans_value { spans.old ≡ replicate (2 * bits) 0 }
     requires parts_len { length parts.old ≡ part_limit }
     ensures value { result ≡ reading_of (read_lines 1 (lines source.now) blank) }
     ensures parts_read { PartsRead (read_lines 1 (lines source.now) blank) parts.old parts.new }
-    ensures names_read { NamesRead source.now (read_lines 1 (lines source.now) blank) spans.new }
 {
+    let mut spans = [0usize; 2 * BITS];
     let mut s = Sizes {
         outputs: 0,
         observed: 0,
@@ -71,7 +65,7 @@ fn read_lines(source: &[u8], spans: &mut [usize], parts: &mut [u32]) -> Reading
         if end == source.len() {
             return Reading::Refused(Refusal::BadLine(line));
         }
-        match read_line(source, at, end, line, s, spans, parts) {
+        match read_line(source, at, end, line, s, &mut spans, parts) {
             Reading::Accepted(t) => {
                 s = t;
             }
@@ -91,51 +85,20 @@ fn read_lines(source: &[u8], spans: &mut [usize], parts: &mut [u32]) -> Reading
 // The most bytes of a problem's text.
 pub const SOURCE_LIMIT: usize = 4096;
 
-// Reads what is written in a text, by the tests 1 to 8. After a refusal both lists may hold anything.
-pub(crate) fn read_text(source: &[u8], spans: &mut [usize], parts: &mut [u32]) -> Reading
-    requires spans_value { spans.old ≡ replicate (2 * bits) 0 }
-    requires parts_len { length parts.old ≡ part_limit }
-    ensures value { result ≡ reading_of (read_text source.now) }
-    ensures parts_read { PartsRead (read_text source.now) parts.old parts.new }
-    ensures names_read { NamesRead source.now (read_text source.now) spans.new }
-{
-    if SOURCE_LIMIT < source.len() {
-        return Reading::Refused(Refusal::LongSource);
-    }
-    read_lines(source, spans, parts)
-}
-
-// The reading of a problem of these sizes and parts: 18 where a signal is in none of them.
-fn unless_unused(source: &[u8], spans: &[usize], s: Sizes, parts: &[u32]) -> Reading
-    requires { Spans source.now spans.now }
-    ensures { result ≡ reading_unless (first_line (unused_from (have_signal (parts_in parts.now))
-        (names_in source.now spans.now) 1 (lines source.now))) s }
-{
-    let line = first_unused(source, spans, parts);
-    if line == 0 {
-        return Reading::Accepted(s);
-    }
-    Reading::Refused(Refusal::UnusedSignal(line))
-}
-
 // Reads a problem. After a refusal the list may hold anything.
 fn read_source(source: &[u8], parts: &mut [u32]) -> Reading
     requires { length parts.old ≡ part_limit }
     ensures value { result ≡ reading_of (read_problem source.now) }
     ensures parts_read { PartsRead (read_problem source.now) parts.old parts.new }
 {
-    let mut spans = [0usize; 2 * BITS];
-    match read_text(source, &mut spans, parts) {
-        Reading::Accepted(s) => {
-            let n = s.parts;
-            unless_unused(source, &spans, s, &parts[..n])
-        }
-        Reading::Refused(r) => Reading::Refused(r),
+    if SOURCE_LIMIT < source.len() {
+        return Reading::Refused(Refusal::LongSource);
     }
+    read_lines(source, parts)
 }
 
 // Reads a problem: how many signals, parts and operators it has, and its order, with the parts of its formula at the front of the
-// list, or a refusal from 1 to 8 or 18, with the list all zero.
+// list, or a refusal from 1 to 8, with the list all zero.
 pub fn read(source: &[u8], parts: &mut [u32]) -> Reading
     requires { length parts.old ≡ part_limit }
     ensures value { result ≡ reading_of (read_problem source.now) }

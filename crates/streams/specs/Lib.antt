@@ -1,5 +1,4 @@
 -- What is known of an input, of a line and of an argument, and where in a buffer they stand.
 pub mod Arguments
-pub mod Asking
 pub mod Lines
 pub mod Reading

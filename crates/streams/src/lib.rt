@@ -2,15 +2,13 @@
 // failure is told on standard error.
 //
 // Which bytes are read and written, and which calls of the system fail, is open by nature: no contract can say it. The contracts say where
-// in a buffer a whole input, line or argument stands, and those of `ended`, `line_ended` and `asked_of` what is made of a read.
+// in a buffer a whole input, line or argument stands, and those of `ended` and `line_ended` what is made of a read that brings nothing.
 mod arguments;
-mod asking;
 mod reading;
 mod reading_lines;
 mod writing;
 
 pub use arguments::{Argument, argument_at, is_help, is_option, open};
-pub use asking::{Asked, ask};
 pub use reading::{Input, drain, first, read_to_end};
 pub use reading_lines::{Line, read_line, skip_line};
-pub use writing::{close_output, fail, say, say_last, say_number, tell, tell_usage};
+pub use writing::{close_output, fail, say, say_last, say_number, tell};

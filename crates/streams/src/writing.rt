@@ -26,17 +26,6 @@ pub fn tell(program: &[u8], what: &[u8], why: &[u8]) {
     io::write_all(STDERR_FILENO, b"\n");
 }
 
-// Tells that the program is used in another way, and where that is said.
-pub fn tell_usage(program: &[u8], what: &[u8], why: &[u8]) {
-    start_line(program);
-    io::write_all(STDERR_FILENO, what);
-    io::write_all(STDERR_FILENO, b": ");
-    io::write_all(STDERR_FILENO, why);
-    io::write_all(STDERR_FILENO, b"; see ");
-    io::write_all(STDERR_FILENO, program);
-    io::write_all(STDERR_FILENO, b" --help\n");
-}
-
 // One write, tried again where a signal interrupts it, as a read is.
 fn write_some(fd: i32, text: &[u8]) -> isize
     ensures { Moved (length text.now) result }

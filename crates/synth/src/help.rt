@@ -62,8 +62,6 @@ Or the answer is one line: refused, a number, and the line it is about, or 0:
    7  the 97th name, constant, operator or joining \"and\", or the 8th of XNFGUR;
       once has 3 of these, before 1, after 2, within n + 1, during n - 1
    8  no rule
-  18  the signal declared on this line is in no rule. Often a misspelt name;
-      the program unused lists all of them
    9  over 128 states
   10  over 256 beliefs
   11  no controller wins. Often X where N is meant: s at the last step breaks

@@ -5,7 +5,7 @@ use cabinet::{Printed, TEXT_SIZE};
 use game::TABLE_SIZE;
 use libc::STDIN_FILENO;
 use rules::{SOURCE_LIMIT, WORK_SIZE};
-use streams::Asked;
+use streams::{Argument, Input};
 
 mod help;
 
@@ -29,18 +29,57 @@ fn answer(source: &[u8]) {
     }
 }
 
-// One byte more than a problem may have tells that there is more of it. The rest of a long input is read once it is answered, so that whoever
-// writes it is not cut off.
-fn main() {
+// Reads and answers a problem, and says whether there may be more of it: one byte more than a problem may have tells that there is.
+fn solve(fd: i32, name: &[u8]) -> bool {
     let mut source = [0u8; SOURCE_LIMIT + 1];
-    match streams::ask(b"synth", &mut source) {
-        Asked::Text(n) => answer(streams::first(&source, n)),
-        Asked::LongFile => answer(&source),
-        Asked::LongInput => {
+    match streams::read_to_end(fd, &mut source) {
+        Input::Whole(n) => answer(streams::first(&source, n)),
+        Input::Longer => {
             answer(&source);
-            streams::drain(STDIN_FILENO);
+            return true;
         }
-        Asked::Help => help::explain(),
-        Asked::Nothing => {}
+        Input::Failed => streams::fail(b"synth", name),
     }
+    false
+}
+
+// The rest of a long problem is read once it is answered, so that whoever writes it is not cut off.
+fn solve_input() {
+    if solve(STDIN_FILENO, b"standard input") {
+        streams::drain(STDIN_FILENO);
+    }
+}
+
+fn solve_file(path: &[u8]) {
+    let fd = streams::open(b"synth", path);
+    if fd >= 0 {
+        solve(fd, path);
+    }
+}
+
+fn obey(argument: &[u8]) {
+    if streams::is_help(argument) {
+        help::explain();
+    } else if streams::is_option(argument) {
+        streams::tell(b"synth", argument, b"no such option; see synth --help");
+    } else {
+        solve_file(argument);
+    }
+}
+
+// Does what the first argument asks for, or solves the problem on standard input.
+fn run() {
+    let mut argument = io::buffer();
+    match streams::argument_at(1, &mut argument) {
+        Argument::Given(n) => obey(streams::first(&argument, n)),
+        Argument::Missing => solve_input(),
+        Argument::Long => streams::fail(b"synth", b"argument"),
+    }
+}
+
+fn main() {
+    if os::arg_count() > 2 {
+        return streams::tell(b"synth", b"arguments", b"one at most; see synth --help");
+    }
+    run();
 }

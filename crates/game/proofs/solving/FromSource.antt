@@ -18,7 +18,7 @@ use Rattle.formula.specs.Parts.{part_at, arity}
 use Rattle.rules.specs.Problem.{Outcome, problem_parts, accepted, refused}
 use Rattle.rules.specs.Trace.{counts_of}
 use Rattle.formula.proofs.CodesLaws.{length_in}
-use Rattle.rules.proofs.TakenProblem.{Taken, taken_length, taken-parts, some-parts, few-parts, few-signals, taken-ready}
+use Rattle.rules.proofs.JudgeLaws.{Taken, taken_length, taken-parts, some-parts, few-parts, few-signals, taken-ready}
 use Rattle.rules.proofs.ProblemLaws.{inside, temporals-are}
 use Rattle.obligations.specs.Obligation.{operators_of}
 use Rattle.obligations.specs.Values.{Stored}

@@ -21,7 +21,7 @@ returns : tie.Need-returns
 returns c = rw c.enum_told.given.1
 
 returns-2 : tie.Need-returns-2
-returns-2 c = rw c.before.enum-told2.given.1 c.is_word.ensures
+returns-2 c = rw c.before.enum-told2.given.1 c.is_IsWord.ensures
 
 returns-3 : tie.Need-returns-3
 returns-3 c = rw c.enum-told3.given.1

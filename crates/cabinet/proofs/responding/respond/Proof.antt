@@ -6,7 +6,7 @@ use mathlib.Core.Path.{sym, ap}
 use lib.ListN.{length}
 use lib.Seq.{length-take-le}
 use Rattle.wellformed.proofs.WellFormedLaws.{size_fits}
-use Rattle.answers.specs.declared.writing.Printed.TheVariants.{Text}
+use Rattle.cabinet.specs.declared.printing.Printed.TheVariants.{Text}
 use Rattle.cabinet.proofs.ResponseLaws.{tight_right, text-long, few-rows, rows-within, table-right, refusal_right}
 use borrow.Author.Rules.{rules}
 use Rattle.cabinet.proofs.responding.respond.Statement.{statement}

@@ -5,10 +5,10 @@ use Rattle.cases.proofs.call.call_number.Statement.{statement}
 use Rattle.cases.proofs.call.call_number.Tie as tie
 
 abbrev invariant-loop : tie.invariant-loop
-invariant-loop name k₀ k = k ≤ 13
+invariant-loop name k₀ k = k ≤ 12
 
 abbrev decreases-loop : tie.decreases-loop
-decreases-loop name k₀ k = 13 - k
+decreases-loop name k₀ k = 12 - k
 
 loop-holds : tie.Need-loop-init invariant-loop decreases-loop
 loop-holds c = search rules

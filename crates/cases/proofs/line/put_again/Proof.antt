@@ -7,10 +7,10 @@ use Rattle.cases.proofs.line.put_again.Statement.{statement}
 use Rattle.cases.proofs.line.put_again.Tie as tie
 
 abbrev invariant-loop : tie.invariant-loop
-invariant-loop text₀ n size first i₀ text i = length text ≡ length text₀
+invariant-loop text₀ n i₀ text i = length text ≡ length text₀
 
 abbrev decreases-loop : tie.decreases-loop
-decreases-loop text₀ n size first i₀ text i = size - i
+decreases-loop text₀ n i₀ text i = n - i
 
 sub-if1 : tie.Need-overflow-sub-if1 invariant-loop decreases-loop
 sub-if1 c = search rules
@@ -21,20 +21,14 @@ wrong-requires c κs = search rules
 returns : tie.Need-returns invariant-loop decreases-loop
 returns c = search rules
 
-sub-first : tie.Need-overflow-sub-first invariant-loop decreases-loop
-sub-first c = search rules
-
 loop-holds : tie.Need-loop-init invariant-loop decreases-loop
 loop-holds c = search rules
-
-add-text : tie.Need-overflow-add-text invariant-loop decreases-loop
-add-text c = search rules
 
 slice-read-text : tie.Need-slice-read-text invariant-loop decreases-loop
 slice-read-text c = search rules
 
-add-text-2 : tie.Need-overflow-add-text-2 invariant-loop decreases-loop
-add-text-2 c = search rules
+add-text : tie.Need-overflow-add-text invariant-loop decreases-loop
+add-text c = search rules
 
 slice-write-text : tie.Need-slice-write-text invariant-loop decreases-loop
 slice-write-text c = search rules
@@ -66,11 +60,9 @@ put-again-spec =
     sub-if1
     wrong-requires
     returns
-    sub-first
     loop-holds
-    add-text
     slice-read-text
-    add-text-2
+    add-text
     slice-write-text
     add-i
     loop-less

@@ -7,10 +7,10 @@ use Rattle.cases.proofs.line.read_text.Statement.{statement}
 use Rattle.cases.proofs.line.read_text.Tie as tie
 
 abbrev invariant-loop : tie.invariant-loop
-invariant-loop raw text₀ n₀ from₀ i₀ text n from i = (n ≤ length text) × (length text ≡ length text₀)
+invariant-loop raw text₀ n₀ i₀ text n i = (n ≤ length text) × (length text ≡ length text₀)
 
 abbrev decreases-loop : tie.decreases-loop
-decreases-loop raw text₀ n₀ from₀ i₀ text n from i = length raw - i
+decreases-loop raw text₀ n₀ i₀ text n i = length raw - i
 
 loop-holds : tie.Need-loop-init invariant-loop decreases-loop
 loop-holds c = search rules
@@ -26,9 +26,6 @@ byte-at-requires c κs = search rules
 
 put-requires : tie.Need-put-requires invariant-loop decreases-loop
 put-requires c κs = search rules
-
-marked-requires : tie.Need-marked-requires invariant-loop decreases-loop
-marked-requires c κs = search rules
 
 width-requires : tie.Need-width-requires invariant-loop decreases-loop
 width-requires c κs = search rules
@@ -59,7 +56,6 @@ read-text-spec =
     add-byte-at
     byte-at-requires
     put-requires
-    marked-requires
     width-requires
     add-i
     loop-less

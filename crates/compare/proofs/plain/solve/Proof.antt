@@ -1,6 +1,6 @@
 -- `compare::plain::solve` is safe and ends. Assumes nothing.
 use Rattle.std.proofs.Common.{sym, arith, rules}
-use Rattle.rules.proofs.TakenProblem.{taken, taken_length, few-parts}
+use Rattle.rules.proofs.JudgeLaws.{taken, taken_length, few-parts}
 use Rattle.compare.proofs.plain.solve.Statement.{statement}
 use Rattle.compare.proofs.plain.solve.Tie as tie
 

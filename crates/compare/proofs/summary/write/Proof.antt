@@ -4,10 +4,10 @@ use Rattle.compare.proofs.summary.write.Statement.{statement}
 use Rattle.compare.proofs.summary.write.Tie as tie
 
 abbrev invariant-loop : tie.invariant-loop
-invariant-loop kind order counts k₀ t5 k = k ≤ 20
+invariant-loop kind order counts k₀ t5 k = k ≤ 19
 
 abbrev decreases-loop : tie.decreases-loop
-decreases-loop kind order counts k₀ t5 k = 20 - k
+decreases-loop kind order counts k₀ t5 k = 19 - k
 
 say-requires : tie.Need-say-requires invariant-loop decreases-loop
 say-requires c κs = search rules

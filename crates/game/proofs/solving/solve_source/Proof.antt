@@ -3,7 +3,7 @@
 use native.Mathlib.Omega.{arith}
 use mathlib.Core.Path.{sym}
 use Rattle.rules.specs.Problem.{read_problem}
-use Rattle.rules.proofs.TakenProblem.{taken, taken_length, few-parts}
+use Rattle.rules.proofs.JudgeLaws.{taken, taken_length, few-parts}
 use Rattle.game.proofs.solving.FromSource.{refused-right, stored-taken, sized-taken, source_right}
 use borrow.Author.Rules.{rules}
 use Rattle.game.proofs.solving.solve_source.Statement.{statement}

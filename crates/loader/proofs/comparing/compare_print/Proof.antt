@@ -3,7 +3,7 @@
 use mathlib.Core.Path.{ap, ◌∙◌}
 use lib.ListN.{replicate}
 use borrow.Author.Rules.{rules}
-use Rattle.answers.specs.Limits.{text_size}
+use Rattle.printer.specs.Limits.{text_size}
 use Rattle.printer.specs.Text.{table_text}
 use Rattle.loader.specs.Difference.{difference}
 use Rattle.basics.proofs.ListsLaws.{front-taken, taken_length}

@@ -4,8 +4,7 @@ use borrow.Author.Rules.{rules}
 use native.Mathlib.Omega.{arith}
 use mathlib.Core.Path.{sym}
 use Rattle.rules.specs.Problem.{read_problem}
-use Rattle.rules.proofs.JudgeLaws.{refused_source, judged_source}
-use Rattle.rules.proofs.TakenProblem.{taken, taken_length, some-parts, few-parts, few-signals}
+use Rattle.rules.proofs.JudgeLaws.{refused_source, taken, taken_length, some-parts, few-parts, few-signals, judged_source}
 use Rattle.rules.proofs.judging.judge_source.Statement.{statement}
 use Rattle.rules.proofs.judging.judge_source.Tie as tie
 

@@ -1,4 +1,4 @@
--- `answers::writing::put_refusal` meets its contract: its line has room.
+-- `printer::writing::put_refusal` meets its contract: its line has room.
 -- Assumes nothing.
 use native.Mathlib.Omega.{arith}
 use mathlib.Core.Path.{ap, ap₂, ◌∙◌}
@@ -9,9 +9,9 @@ use Rattle.basics.specs.Bytes.{bytes_of}
 use Rattle.basics.specs.Text.{decimal, line}
 use Rattle.basics.specs.Lists.{written}
 use Rattle.basics.proofs.Stores.{put_front}
-use Rattle.answers.proofs.PrintedLaws.{words_fit}
-use Rattle.answers.proofs.writing.put_refusal.Statement.{statement}
-use Rattle.answers.proofs.writing.put_refusal.Tie as tie
+use Rattle.printer.proofs.TextLaws.{words_fit}
+use Rattle.printer.proofs.writing.put_refusal.Statement.{statement}
+use Rattle.printer.proofs.writing.put_refusal.Tie as tie
 
 slice-aggregate-put-line : tie.Need-slice-aggregate-put-line
 slice-aggregate-put-line c = search rules

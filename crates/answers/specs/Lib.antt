@@ -1,3 +1,0 @@
--- What a call that writes text answers.
-pub mod Limits
-pub mod Printed

@@ -1,3 +1,0 @@
--- What the proofs of `usage::using` use.
-pub mod FirstLoop
-pub mod NamesLoop
