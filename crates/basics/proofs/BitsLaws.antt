@@ -2,7 +2,7 @@
 -- Assumes nothing.
 use Prim.Native.Nat.{ℕ, ◌/◌, ◌^◌, ◌<◌, zero, suc, ◌+◌, ◌*◌, ◌%◌, ◌-◌, ◌≤◌}
 use native.Mathlib.Nat.{div-eq_of_lt, div-one, pow-suc, pow-succ', div-div-eq-div-mul, mul-add-mod_self_right, zero-div, div-add-mod'}
-use native.Mathlib.Nat.{mod-lt, div-lt_iff_lt-mul, mod-eq_of_lt, one-mul, add-zero, zero_add, lt_of_lt_of_le}
+use native.Mathlib.Nat.{mod-lt, div-lt_iff_lt-mul, mod-eq_of_lt, one-mul, add-zero, zero-add, lt_of_lt_of_le}
 use mathlib.Core.Path.{◌≡◌, refl, ap, sym, ap₂, ◌∙◌, subst}
 use mathlib.Core.Bool.{Bool, true, false, true≢false, false≢true}
 use lib.Bits.{bit_and, and_mask, mask_lt}
@@ -143,7 +143,7 @@ module _ (f : ℕ → Bool) where
 
   pub from_all : (m : ℕ) → table_from f 0 m ≡ from_bits (tabulate m f)
   unfolding table_from
-  from_all m = ap from_bits (tabulate_ext m (λ j. f (0 + j)) f (λ j h. ap f (zero_add j)))
+  from_all m = ap from_bits (tabulate_ext m (λ j. f (0 + j)) f (λ j h. ap f (zero-add j)))
 
 -- a loop that makes a number of w bits so: n is the number of the bits from j on
 

@@ -1,7 +1,7 @@
 -- Lists of equally long rows one after another.
 -- Assumes nothing.
 use Prim.Native.Nat.{ℕ, zero, suc, ◌+◌, ◌*◌, ◌/◌, ◌%◌, ◌≤◌, ◌<◌}
-use native.Mathlib.Nat.{zero-mul, zero_add, suc-mul, add_assoc, add_comm, not-suc-le-zero, le_of_suc-le-suc, mul-le-mul_right, mul-zero, zero-lt-suc, div-lt_iff_lt-mul, mod-lt}
+use native.Mathlib.Nat.{zero-mul, zero-add, suc-mul, add_assoc, add_comm, not-suc-le-zero, le_of_suc-le-suc, mul-le-mul_right, mul-zero, zero-lt-suc, div-lt_iff_lt-mul, mod-lt}
 use mathlib.Core.Path.{◌≡◌, sym, ap, ◌∙◌, subst}
 use mathlib.Core.List.{List, [], ◌∷◌, ◌++◌, flat_map}
 use lib.ListN.{length, get_or, length-append, get_or-append}
@@ -29,7 +29,7 @@ module _ {A : Type 0} (w : ℕ) (g : A → List ℕ) (wide : (x : A) → length 
   unfolding flat_map
   get_d_rows [] d j b h l = absurd (not-suc-le-zero h)
   get_d_rows (x ∷ xs) d zero b h l =
-      ap (λ n. get_or (g x ++ flat_map g xs) n 0) (ap (λ n. n + b) (zero-mul w) ∙ zero_add b)
+      ap (λ n. get_or (g x ++ flat_map g xs) n 0) (ap (λ n. n + b) (zero-mul w) ∙ zero-add b)
       ∙ get_or-append (g x) (flat_map g xs) 0 b (subst (λ n. b < n) (sym (wide x)) l)
   get_d_rows (x ∷ xs) d (suc j) b h l =
       ap (λ n. get_or (g x ++ flat_map g xs) n 0)

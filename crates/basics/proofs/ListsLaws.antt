@@ -1,7 +1,7 @@
 -- Lists as tables.
 -- Assumes nothing.
 use Prim.Native.Nat.{ℕ, zero, suc, ◌+◌, ◌<◌, ◌-◌, ◌≤◌}
-use native.Mathlib.Nat.{not-suc-le-zero, le_of_suc-le-suc, zero_add}
+use native.Mathlib.Nat.{not-suc-le-zero, le_of_suc-le-suc, zero-add}
 use mathlib.Core.Path.{◌≡◌, refl, sym, ap, ◌∙◌, ap₂, subst}
 use mathlib.Core.List.Memᴰ
 use mathlib.Core.List.{List, [], ◌∷◌, ◌++◌, map, append-nil}
@@ -36,7 +36,7 @@ tabulate_ext (suc n) f g e =
 -- a table behind another is the other, continued
 pub tabulate_append : (m n : ℕ) (f g : ℕ → ℕ) → ((k : ℕ) → k < n → g k ≡ f (m + k)) → tabulate m f ++ tabulate n g ≡ tabulate (m + n) f
 tabulate_append zero n f g e =
-    tabulate_ext n g f (λ k h. e k h ∙ ap f (zero_add k)) ∙ ap (λ x. tabulate x f) (sym (zero_add n))
+    tabulate_ext n g f (λ k h. e k h ∙ ap f (zero-add k)) ∙ ap (λ x. tabulate x f) (sym (zero-add n))
 tabulate_append (suc m) n f g e =
     let more : suc (m + n) ≡ suc m + n = omega arith in
     ap (λ l. f 0 ∷ l) (tabulate_append m n (λ k. f (suc k)) g (λ k h. e k h ∙ ap f (omega arith))) ∙ ap (λ x. tabulate x f) more

@@ -1,6 +1,6 @@
 -- The same search under other names: where `named` is one to one on what is met, and steps go by it, what is listed is what was listed, renamed.
 -- Assumes nothing.
-use Prim.Native.Nat.{ℕ, zero, suc, ◌<◌, zero_le, suc-le-suc}
+use Prim.Native.Nat.{ℕ, zero, suc, ◌<◌, zero-le, suc-le-suc}
 use mathlib.Core.Path.{◌≡◌, refl, sym, ap, ap₂, ◌∙◌}
 use mathlib.Core.Bool.{Bool, true, false, cond, ◌||◌}
 use mathlib.Core.List.{List, [], ◌∷◌, ◌++◌, map, flat_map, map-append}
@@ -26,7 +26,7 @@ module _ {A : Type 0} (P : A → Type 0) where
 
   pub each-tabulate : (n : ℕ) (g : ℕ → A) → ((i : ℕ) → i < n → P (g i)) → Each P (tabulate n g)
   each-tabulate zero g f = tt
-  each-tabulate (suc n) g f = (f 0 (suc-le-suc zero_le), each-tabulate n (λ i. g (suc i)) (λ i h. f (suc i) (suc-le-suc h)))
+  each-tabulate (suc n) g f = (f 0 (suc-le-suc zero-le), each-tabulate n (λ i. g (suc i)) (λ i h. f (suc i) (suc-le-suc h)))
 
 abbrev pub EachListed : {A : Type 0} → (A → Type 0) → Listing A → Type 0
 EachListed P (closed xs) = Each P xs

@@ -1,7 +1,7 @@
 -- Runs of stores: entries of a list written one after another, and bytes put into a text so.
 -- Assumes nothing.
 use Prim.Native.Nat.{ℕ, zero, suc, ◌+◌, ◌<◌, ◌≤◌}
-use native.Mathlib.Nat.{add-zero, add-suc, suc-add, add_assoc, zero_add}
+use native.Mathlib.Nat.{add-zero, add-suc, suc-add, add_assoc, zero-add}
 use mathlib.Core.Path.{◌≡◌, refl, sym, ap, ◌∙◌, ap₂, subst}
 use mathlib.Core.List.{List, [], ◌∷◌, ◌++◌}
 use lib.ListN.{length, get_or, set, length-set, take, drop, length-append}
@@ -138,4 +138,4 @@ module _ (x : List ℕ) (at : ℕ) (bytes : List ℕ) (i : ℕ) where
 
 -- bytes put from the front on
 pub put_front : (bytes x : List ℕ) → length bytes ≤ length x → sets x 0 bytes ≡ written bytes x
-put_front bytes x h = sets-eq bytes x 0 (omega arith) ∙ ap (λ n. bytes ++ drop n x) (zero_add (length bytes))
+put_front bytes x h = sets-eq bytes x 0 (omega arith) ∙ ap (λ n. bytes ++ drop n x) (zero-add (length bytes))

@@ -1,6 +1,6 @@
 -- Entries of a list, and lists without repeats.
 -- Assumes nothing.
-use Rattle.std.specs.Prelude.{◌-◌, Bool, true, ◌&&◌}
+use Rattle.std.specs.Prelude.{Bool, true, ◌&&◌}
 use mathlib.Core.List.{List, [], ◌∷◌, Memᴰ}
 
 infix 4 ◌∈◌

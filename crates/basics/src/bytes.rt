@@ -3,7 +3,7 @@ ghost use Rattle.std.specs.Prelude.{◌≡◌};
 ghost use Rattle.basics.specs.Bytes.{lower, word_byte, in_class, same_bytes};
 
 // What a run of bytes is made of: spaces, the bytes of a word, those of a field, those of a line.
-#[derive(Drop)]
+#[derive(Clone, Copy)]
 pub enum Class {
     Space,
     Word,

@@ -1,5 +1,7 @@
 // What belongs to no layer: lists, bits, Booleans, searches below a bound and what can be reached, as definitions and laws; runs of
 // bytes, lent memory, and numbers and lines of text, as code too. Every function here is proved, and the crate assumes nothing.
+#![tactic(auto)]
+
 mod bytes;
 mod memory;
 mod numbers;

@@ -4,7 +4,7 @@ ghost use Rattle.basics.specs.Numbers.{number_in, with_digit, number_below};
 ghost use Rattle.basics.specs.declared.numbers.Number.TheVariants.{Value};
 
 // What digits stand for: a number, or none.
-#[derive(Drop)]
+#[derive(Clone, Copy)]
 pub enum Number {
     Value(usize),
     Bad,

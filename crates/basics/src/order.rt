@@ -1,7 +1,7 @@
 // The order of a step.
 
 // The outputs are set before the observation is read, or after it.
-#[derive(Drop)]
+#[derive(Clone, Copy)]
 pub enum Order {
     Set,
     Read,

@@ -1,12 +1,12 @@
 -- Beliefs in memory: what their bytes say, and what the functions on them do step by step.
 -- Assumes nothing.
-use Prim.Native.Nat.{ℕ, zero, suc, ◌+◌, ◌*◌, ◌/◌, ◌%◌, ◌^◌, ◌≤◌, ◌<◌, zero_le}
+use Prim.Native.Nat.{ℕ, zero, suc, ◌+◌, ◌*◌, ◌/◌, ◌%◌, ◌^◌, ◌≤◌, ◌<◌, zero-le}
 use native.Mathlib.Nat.{le_refl, add_assoc, one-mul, pow-suc, div-add-mod', mul-le-mul_right}
 use native.Mathlib.Numerals.{add-one}
 use native.Mathlib.Decide.{ℕ_discrete, dec_lt}
 use native.Mathlib.Omega.{arith}
 use mathlib.Core.Path.{◌≡◌, refl, sym, ap, ap₂, ◌∙◌, subst}
-use mathlib.Core.Bool.{Bool, true, false, cond, ◌||◌, or_false, or_comm, or_assoc}
+use mathlib.Core.Bool.{Bool, true, false, cond, ◌||◌, or-false, or_comm, or_assoc}
 use mathlib.Core.List.{List}
 use lib.Bits.{bit_or, or_lt}
 use lib.Dec.{eqb, eqb-zero-suc, eqb-suc-zero, eqb-suc-suc}
@@ -158,7 +158,7 @@ bits_state {bytes} {f} a t h = record {
         ∙ ap₂ ◌||◌ (ap (λ k. bit (get_or bytes k 0) (p % 8)) (sym e) ∙ a.answers p l) (bit_pow (t % 8) (p % 8) ∙ same_byte t p (sym e))
     at p l (no n) =
         ap (λ x. bit x (p % 8)) (get_or-set_other bytes (t / 8) (p / 8) new 0 n) ∙ a.answers p l
-        ∙ sym (ap (λ c. f p || c) (ne_eqb t p (λ q. n (ap (λ x. x / 8) (sym q)))) ∙ or_false (f p))
+        ∙ sym (ap (λ c. f p || c) (ne_eqb t p (λ q. n (ap (λ x. x / 8) (sym q)))) ∙ or-false (f p))
 
 -- state s leads to p by pair q with one of the first h hidden values
 unfoldable pub leads_to : List ℕ → ℕ → ℕ → ℕ → ℕ → ℕ → Bool
@@ -179,7 +179,7 @@ pub bits-hidden : {bytes : List ℕ} {f : ℕ → Bool} → Bits bytes f → (su
     → Bits (with_hidden successors s q pairs h bytes) (λ p. f p || leads_to successors q pairs h s p)
 unfolding with_hidden
 bits-hidden {f = f} a successors s q pairs zero small =
-    bits-same _ a (λ p l. sym (ap (λ c. f p || c) (leads-none successors q pairs s p) ∙ or_false (f p)))
+    bits-same _ a (λ p l. sym (ap (λ c. f p || c) (leads-none successors q pairs s p) ∙ or-false (f p)))
 bits-hidden {f = f} a successors s q pairs (suc h) small =
     bits-same _ (bits_state (bits-hidden a successors s q pairs h (λ k l. small k (omega arith))) (successor_in successors s (q + h * pairs))
     (small h (omega arith)))
@@ -217,7 +217,7 @@ pub pairs_le : (sets : List ℕ) (n pairs : ℕ) (b : Belief) → pairs_from set
 pairs_le sets n pairs b = at (is_final sets n b)
   where
     at : (f : Bool) → cond f 0 pairs ≤ pairs
-    at true = zero_le
+    at true = zero-le
     at false = le_refl pairs
 
 -- ---- what the functions do

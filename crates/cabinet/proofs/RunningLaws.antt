@@ -1,6 +1,6 @@
 -- A cabinet that runs a table laid out as the solver lays it does what the table says, read as a strategy.
 -- Assumes nothing.
-use Prim.Native.Nat.{ℕ, zero, suc, ◌*◌, ◌^◌, ◌≤◌, ◌<◌, zero_le, suc-le-suc}
+use Prim.Native.Nat.{ℕ, zero, suc, ◌*◌, ◌^◌, ◌≤◌, ◌<◌, zero-le, suc-le-suc}
 use native.Mathlib.Omega.{arith}
 use mathlib.Core.Path.{◌≡◌, refl, sym, ap, ◌∙◌, subst}
 use mathlib.Core.Bool.{Bool, true, false}
@@ -152,7 +152,7 @@ module _ (G : Game) (shape : Shape) (t : List ℕ) (few-choices : G.choices ≤ 
   leads zero play i h d a g = (i, h, a, refl)
   leads (suc m) play i h d a g =
       let s = (play 0).observation in
-      let (c, q) = g 0 (suc-le-suc zero_le) in
+      let (c, q) = g 0 (suc-le-suc zero-le) in
       let f = (row_goes o T i c q).0 in
       let goes = sym (stop-taken o n t i h) ∙ f in
       let next = ((stands i h).good.formed.goes s (eqb-false (first_cell o t i) stop_cell goes, seen_below play 0)).next in

@@ -2,6 +2,8 @@
 // `step` run a table as a controller, from a position that the caller keeps, as `start_from` and `step_from` do by value; `is_stopped` tells
 // whether it has stopped, and `steps_left` how many steps are left at most. Every function here is proved, and the crate assumes nothing. None
 // of these has a `requires`.
+#![tactic(auto)]
+
 mod printing;
 mod responding;
 

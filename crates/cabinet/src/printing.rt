@@ -8,7 +8,7 @@ use tables::Shape;
 use wellformed::is_printable;
 
 // The length of the text, or one refusal.
-#[derive(Drop)]
+#[derive(Clone, Copy)]
 pub enum Printed {
     Text(usize),
     Refused(Refusal),

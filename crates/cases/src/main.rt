@@ -19,6 +19,8 @@
 // `line.rt` says how a text, a list of numbers and an order are written, `parts.rt` how parts are. Lent memory holds ones before a call, and
 // all of it is looked at afterwards: the answer has the field `wrong` where it is not as it should be, or where the line is not of this
 // form. A table that was loaded is printed again, which has to give its text.
+#![tactic(auto)]
+
 use basics::Class;
 use libc::STDIN_FILENO;
 use streams::Input;

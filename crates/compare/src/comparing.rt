@@ -16,7 +16,7 @@ const BEFORE: u16 = 1;
 
 // The number of a refusal, or 0 with a table's worst case, as the plain solver answers; whether the proved one agrees, on both texts; and
 // whether these differ.
-#[derive(Drop)]
+#[derive(Clone, Copy)]
 pub struct Compared {
     pub number: usize,
     pub worst_case: usize,

@@ -8,7 +8,7 @@ use std::num::wrapping_add_usize;
 // What is drawn: so many signals of each kind and so many rules. A random tree has at most `size` parts, and all rules together have
 // at most `operators` temporal operators. Where `damage` is not 0, one byte of the text is overwritten by another of its bytes. `second`
 // says which side of a pair is put, and `read` which order the problem has.
-#[derive(Drop)]
+#[derive(Clone, Copy)]
 pub struct Kind {
     pub outputs: usize,
     pub observed: usize,

@@ -6,7 +6,7 @@ use std::num::wrapping_add_usize;
 
 // Where drawing stands: the generator, the length of the text, the temporal operators left, and whose turn it is among the signals; then
 // what it needs of the kind. Inputs are the signals that are not outputs.
-#[derive(Drop)]
+#[derive(Clone, Copy)]
 pub struct Drawing {
     pub seed: u64,
     pub at: usize,

@@ -4,6 +4,8 @@
 // line for each kind of problems, in fields parted by tabs: its name, the seed of the first problem, how many are drawn, and what `draw.rt`
 // asks for. The answer has a line for each kind and order, with the numbers that `summary.rt` counts. The first problem of a kind and an
 // order on which answers differ is written out before it, in both ways.
+#![tactic(auto)]
+
 use basics::{Class, field, past};
 use libc::STDIN_FILENO;
 use streams::Input;

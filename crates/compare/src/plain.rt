@@ -20,7 +20,7 @@ use tables::{BELIEF_LIMIT, PAIR_LIMIT, SIDE_LIMIT, TABLE_SIZE};
 pub type Table = [u16; TABLE_SIZE];
 
 // What is answered to a problem: the number and the place of a refusal, or 0 and 0 with a table's row count, worst case and order.
-#[derive(Drop)]
+#[derive(Clone, Copy)]
 pub struct Answer {
     pub number: usize,
     pub place: usize,

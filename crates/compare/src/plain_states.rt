@@ -17,7 +17,7 @@ pub const LETTERS: usize = PAIR_LIMIT * SIDE_LIMIT;
 pub type Successors = [[u8; LETTERS]; STATE_LIMIT];
 
 // How many choices, observations and hidden values there are, and whether a step's observation is read before its choice is set.
-#[derive(Drop)]
+#[derive(Clone, Copy)]
 pub struct Widths {
     pub choices: usize,
     pub observations: usize,

@@ -1,7 +1,7 @@
 -- The line of an answer as it is put, and the observation that a line holds.
 -- Assumes nothing.
 use Prim.Native.Nat.{ℕ, ◌+◌, ◌^◌, ◌≤◌, ◌<◌}
-use native.Mathlib.Nat.{zero_add}
+use native.Mathlib.Nat.{zero-add}
 use native.Mathlib.Decide.{dec_lt}
 use native.Mathlib.Omega.{arith}
 use mathlib.Core.Path.{◌≡◌, refl, sym, ap, subst, ◌∙◌}
@@ -36,7 +36,7 @@ abbrev Written : List ℕ → List ℕ → ℕ → List ℕ → Type 0
 Written l x end y = (end ≡ length l) × (y ≡ written l x)
 
 front-put : (l x : List ℕ) → length l ≤ length x → (end : ℕ) (y : List ℕ) → Put 0 l x end y → Written l x end y
-front-put l x room end y p = (p.0 ∙ zero_add (length l), p.1 ∙ put_front l x room)
+front-put l x room end y p = (p.0 ∙ zero-add (length l), p.1 ∙ put_front l x room)
 
 pub same_answer : {a b : Answer} → a ≡ b → (left : ℕ) (x : List ℕ) (end : ℕ) (y : List ℕ) → Written (answer_text b left) x end y
     → Written (answer_text a left) x end y

@@ -3,6 +3,8 @@
 // the start, and each observation gets the choice for its own step. Each line is answered, on standard output, before the next is read. A
 // line that is no observation is refused, and the run goes on; a text that is no table is refused, and nothing is read. A failure is told
 // on standard error, and not by the exit status: a `main` returns nothing in this language.
+#![tactic(auto)]
+
 use cabinet::{Loaded, TEXT_SIZE, load};
 use streams::{Argument, Input};
 use tables::TABLE_SIZE;

@@ -9,7 +9,7 @@ use streams::Line;
 use tables::{SIDE_LIMIT, Shape};
 
 // Where a run is behind an answer: at a position; at its end; or cut off by a write that failed, which is told.
-#[derive(Drop)]
+#[derive(Clone, Copy)]
 enum Next {
     At(Position),
     End,

@@ -1,7 +1,7 @@
 -- How many bytes stand for temporal operators.
 -- Assumes nothing.
 use Prim.Native.Nat.{ℕ, ◌+◌}
-use native.Mathlib.Nat.{zero_add, add-zero, add_assoc}
+use native.Mathlib.Nat.{zero-add, add-zero, add_assoc}
 use native.Mathlib.Omega.{arith}
 use mathlib.Core.Path.{◌≡◌, refl, sym, ap, ◌∙◌}
 use mathlib.Core.List.{List, [], ◌∷◌, ◌++◌, map-append}
@@ -14,7 +14,7 @@ use Rattle.formula.specs.declared.parts.Part.{Part}
 
 pub temporals_append : (xs ys : List ℕ) → temporals (xs ++ ys) ≡ temporals xs + temporals ys
 unfolding temporals
-temporals_append [] ys = sym (zero_add (temporals ys))
+temporals_append [] ys = sym (zero-add (temporals ys))
 temporals_append (x ∷ xs) ys = ap (λ n. digit (is_temporal x) + n) (temporals_append xs ys) ∙ sym
     (add_assoc (digit (is_temporal x)) (temporals xs) (temporals ys))
 

@@ -5,7 +5,7 @@ ghost use Rattle.formula.specs.Parts.{byte_of, op_of, is_temporal};
 ghost use Rattle.formula.specs.Values.{combine, owed};
 ghost use Rattle.formula.specs.Entries.{entry};
 
-#[derive(Drop)]
+#[derive(Clone, Copy)]
 pub enum Op {
     Signal,
     True,

@@ -1,4 +1,6 @@
 // Formulas: their operators and parts, and their value on a trace. Every function here is proved, and the crate assumes nothing.
+#![tactic(auto)]
+
 mod evaluate;
 mod formula;
 mod parts;

@@ -6,7 +6,7 @@ ghost use Rattle.formula.specs.Codes.{code_of, part_of, parts_in};
 use crate::formula::{Op, byte_of, is_temporal, op_of};
 
 // A part of a formula: an operator, and the indices of its operands; a signal's number is its left one.
-#[derive(Drop)]
+#[derive(Clone, Copy)]
 pub struct Part {
     pub kind: Op,
     pub left: u8,

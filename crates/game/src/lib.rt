@@ -1,5 +1,7 @@
 // The game behind a problem: `solve` reads a problem and answers with the table of a strategy that wins with the smallest worst case,
 // or with one refusal. Every function here is proved, and the crate assumes nothing. `solve` has no `requires`.
+#![tactic(auto)]
+
 mod solving;
 
 pub use solving::{Solved, solve};

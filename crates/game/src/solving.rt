@@ -30,7 +30,7 @@ use tables::{BELIEF_LIMIT, Outcome, PAIR_LIMIT, Shape, TABLE_SIZE, answer};
 const SETS_SIZE: usize = (STATE_LIMIT + 1) * SET;
 
 // A table with its shape and worst case, or one refusal.
-#[derive(Drop)]
+#[derive(Clone, Copy)]
 pub enum Solved {
     Table { shape: Shape, worst_case: usize },
     Refused(Refusal),

@@ -11,21 +11,21 @@ const STEPS_LIMIT: usize = 5;
 const LAST_LIMIT: usize = 7;
 
 // A digit with a comma behind it, and the place behind both.
-#[derive(Drop)]
+#[derive(Clone, Copy)]
 pub enum Number {
     At { value: usize, next: usize },
     Bad,
 }
 
 // A word with its numbers, and where its first operand is looked for.
-#[derive(Drop)]
+#[derive(Clone, Copy)]
 pub enum Head {
     At { word: PlanWord, operand: usize },
     Bad,
 }
 
 // Where an operand is looked for.
-#[derive(Drop)]
+#[derive(Clone, Copy)]
 pub enum Place {
     At { at: usize },
     Bad,

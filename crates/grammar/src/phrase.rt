@@ -19,7 +19,7 @@ use syntax::{
 pub const TEXT_LIMIT: usize = 240;
 
 // What reading a phrase gives: where it ends and how many parts are written then, or that there is none.
-#[derive(Drop)]
+#[derive(Clone, Copy)]
 pub enum Read {
     At { next: usize, count: usize },
     Bad,

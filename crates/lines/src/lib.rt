@@ -1,5 +1,7 @@
 // One line of a problem: what it declares, states or says of the order of a step, or the numbered refusal. Every function here is
 // proved, and the crate assumes nothing. `declare` and `add_formula` serve the crate `rules`, which shows what they ask.
+#![tactic(auto)]
+
 mod adding;
 mod declaring;
 mod ordering;

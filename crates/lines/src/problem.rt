@@ -6,7 +6,7 @@ use crate::refusal::Refusal;
 use basics::{Order, same};
 
 // A kind of signal: set by the controller, read by it, or neither.
-#[derive(Drop)]
+#[derive(Clone, Copy)]
 pub enum Kind {
     Output,
     Observed,
@@ -14,7 +14,7 @@ pub enum Kind {
 }
 
 // What a line's first field says.
-#[derive(Drop)]
+#[derive(Clone, Copy)]
 pub enum Word {
     Declare(Kind),
     Rule,
@@ -23,14 +23,14 @@ pub enum Word {
 }
 
 // The order of a step, as far as a text has been read: open until a line says it. At the end of the text it is fixed.
-#[derive(Drop)]
+#[derive(Clone, Copy)]
 pub enum OrderSoFar {
     Open,
     Fixed(Order),
 }
 
 // How many signals of each kind, parts and temporal operators there are, and the order of a step.
-#[derive(Drop)]
+#[derive(Clone, Copy)]
 pub struct Sizes {
     pub outputs: usize,
     pub observed: usize,
@@ -41,7 +41,7 @@ pub struct Sizes {
 }
 
 // What reading a problem, or one more line of it, gives.
-#[derive(Drop)]
+#[derive(Clone, Copy)]
 pub enum Reading {
     Accepted(Sizes),
     Refused(Refusal),

@@ -9,7 +9,7 @@ use lines::Refusal;
 use tables::{Shape, TABLE_SIZE, row_size};
 
 // A table's shape and worst case, or one refusal.
-#[derive(Drop)]
+#[derive(Clone, Copy)]
 pub enum Loaded {
     Table { shape: Shape, worst_case: usize },
     Refused(Refusal),

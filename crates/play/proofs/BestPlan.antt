@@ -1,6 +1,6 @@
 -- Ranks are least worst cases, over any order, from any position and for any goal that it tracks.
 -- Assumes nothing.
-use Prim.Native.Nat.{ℕ, zero, suc, ◌≤◌, ◌<◌, zero_le}
+use Prim.Native.Nat.{ℕ, zero, suc, ◌≤◌, ◌<◌, zero-le}
 use native.Mathlib.Nat.{le_refl}
 use native.Mathlib.Omega.{arith}
 use mathlib.Core.Path.{◌≡◌, subst}
@@ -23,7 +23,7 @@ pub record BestPlan (G : Game) (O : StepOrder G.choices G.observations) (Φ : Li
 module _ (G : Game) (O : StepOrder G.choices G.observations) (A : Arena) (some-observation : 0 < G.observations) (some-hidden : 0 < G.hiddens)
     (k : A.K) (Φ : List ℕ → Type 0) (T : Tracks G A k Φ) where
   pub plan-least : (r : ℕ) → HasRank O A k r → (τ : Plan) → Legal O τ → WinsFor G Φ τ → (p : Play G) × (n : ℕ) × PlanSteps G τ p n × (r ≤ n)
-  plan-least zero a τ l win = let p = idle G some-observation some-hidden in let (n, st, φ) = win p in (p, n, st, zero_le)
+  plan-least zero a τ l win = let p = idle G some-observation some-hidden in let (n, st, φ) = win p in (p, n, st, zero-le)
   plan-least (suc r) a τ l win = lower G O A some-observation some-hidden r k Φ T (a.1 r (le_refl (suc r))) τ l win
 
   pub plan-best : (answer : A.K → ℕ → ℕ) (n : ℕ) → Descends O A answer n → (r : ℕ) → r < n → HasRank O A k r → BestPlan G O Φ (follow A answer k) r

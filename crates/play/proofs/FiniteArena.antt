@@ -1,6 +1,6 @@
 -- Finitely many positions: every rank is below their number, and a position without a rank lies in a trap.
 -- Assumes nothing.
-use Prim.Native.Nat.{ℕ, zero, suc, ◌+◌, ◌≤◌, ◌<◌, zero_le}
+use Prim.Native.Nat.{ℕ, zero, suc, ◌+◌, ◌≤◌, ◌<◌, zero-le}
 use native.Mathlib.Nat.{le_refl}
 use native.Mathlib.Omega.{arith}
 use mathlib.Core.Path.{◌≡◌, refl}
@@ -22,10 +22,10 @@ count ok (a ∷ l) = cond (ok a) 1 0 + count ok l
 
 module _ {A : Type 0} (f g : A → Bool) (up : (a : A) → f a ≡ true → g a ≡ true) where
   one_le : (a : A) → cond (f a) 1 0 ≤ cond (g a) 1 0
-  one_le a = elim (test (f a)) [ inl t ↦ rw (t, up a t) (le_refl 1) | inr e ↦ rw e zero_le ]
+  one_le a = elim (test (f a)) [ inl t ↦ rw (t, up a t) (le_refl 1) | inr e ↦ rw e zero-le ]
 
   pub count_le : (l : List A) → count f l ≤ count g l
-  count_le [] = zero_le
+  count_le [] = zero-le
   count_le (a ∷ l) = omega (arith, one_le a, count_le l)
 
   pub count_lt : (a : A) → f a ≡ false → g a ≡ true → (l : List A) → Memᴰ a l → count f l < count g l
@@ -37,7 +37,7 @@ module _ {A : Type 0} (f g : A → Bool) (up : (a : A) → f a ≡ true → g a 
       ]
 
 pub count_length : {A : Type 0} (f : A → Bool) (l : List A) → count f l ≤ length l
-count_length f [] = zero_le
+count_length f [] = zero-le
 count_length f (a ∷ l) = elim (test (f a)) [ inl t ↦ rw t (omega (arith, count_length f l)) | inr e ↦ rw e (omega (arith, count_length f l)) ]
 
 module _ {choices observations : ℕ} (O : StepOrder choices observations) (A : Arena) (some-observation : 0 < observations) (ks : List A.K) where

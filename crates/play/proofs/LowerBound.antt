@@ -1,6 +1,6 @@
 -- The lower bound: a plan that wins from a position that is not within r has a play of more than r steps.
 -- Assumes nothing.
-use Prim.Native.Nat.{ℕ, zero, suc, ◌≤◌, ◌<◌, zero_le, suc-le-suc}
+use Prim.Native.Nat.{ℕ, zero, suc, ◌≤◌, ◌<◌, zero-le, suc-le-suc}
 use native.Mathlib.Omega.{arith}
 use mathlib.Core.Path.{◌≡◌}
 use mathlib.Core.Logic.{inl, inr}
@@ -22,7 +22,7 @@ module _ (G : Game) (O : StepOrder G.choices G.observations) (A : Arena) (some-o
       stopped : σ [] ≡ none → (n : ℕ) × PlanSteps G σ (idle G some-observation some-hidden) n
           × Φ (plan_run G σ (idle G some-observation some-hidden) n) → Goes (σ [])
       stopped e (zero, st, φ) = clash ((T [] tt).1 (λ x xb. φ)) f
-      stopped e (suc n, st, φ) = st.1 0 (suc-le-suc zero_le)
+      stopped e (suc n, st, φ) = st.1 0 (suc-le-suc zero-le)
 
   -- a play that takes n steps or more, of those that the plan makes
   abbrev pub Lasts : Plan → ℕ → Type 0
@@ -41,7 +41,7 @@ module _ (G : Game) (O : StepOrder G.choices G.observations) (A : Arena) (some-o
   lower zero k Φ T f σ l win =
       let o = goes k Φ T f σ win in
       let (n, st, φ) = wins-after G some-observation some-hidden Φ σ o.0 o.1 win 0 some-observation (idle G some-observation some-hidden) in
-      longer 0 σ 0 some-observation o (idle G some-observation some-hidden, n, st, zero_le)
+      longer 0 σ 0 some-observation o (idle G some-observation some-hidden, n, st, zero-le)
   lower (suc r) k Φ T f σ l win =
       let o = goes k Φ T (or_left (A.final k) _ f) σ win in
       let al = l [] tt o.0 o.1 in

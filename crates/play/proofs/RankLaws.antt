@@ -1,6 +1,6 @@
 -- Facts on ranks, over any order of choosing and observation.
 -- Assumes nothing.
-use Prim.Native.Nat.{ℕ, zero, suc, ◌≤◌, ◌<◌, zero_le, suc-le-suc}
+use Prim.Native.Nat.{ℕ, zero, suc, ◌≤◌, ◌<◌, zero-le, suc-le-suc}
 use native.Mathlib.Nat.{not-suc-le-zero, le_of_suc-le-suc, le_refl}
 use native.Mathlib.Decide.{dec_le}
 use native.Mathlib.Omega.{arith}
@@ -48,7 +48,7 @@ module _ {choices observations : ℕ} (O : StepOrder choices observations) (A : 
 
   -- a rank over 0: no final position, and the controller can go on to ranks below
   pub unstopped : (k : A.K) (r : ℕ) → HasRank k (suc r) → A.final k ≡ false
-  unstopped k r a = a.1 0 (suc-le-suc zero_le)
+  unstopped k r a = a.1 0 (suc-le-suc zero-le)
 
   -- a final position has rank 0
   pub final-rank : (k : A.K) (r : ℕ) → HasRank k r → A.final k ≡ true → r ≡ 0

@@ -1,7 +1,7 @@
 -- What defeats a plan: a trap, positions that are not final and that some observation leads back into whatever is chosen. Against
 -- every plan there is a play that stays in the trap, so no plan wins from there.
 -- Assumes nothing.
-use Prim.Native.Nat.{ℕ, zero, suc, ◌≤◌, ◌<◌, zero_le, suc-le-suc}
+use Prim.Native.Nat.{ℕ, zero, suc, ◌≤◌, ◌<◌, zero-le, suc-le-suc}
 use native.Mathlib.Nat.{le_of_suc-le-suc}
 use native.Mathlib.Omega.{arith}
 use mathlib.Core.Path.{◌≡◌, refl, sym, ap, ◌∙◌, subst}
@@ -21,7 +21,7 @@ module _ (G : Game) (O : StepOrder G.choices G.observations) where
       → Possible G.choices G.observations (history G σ p n)
   possible zero σ l p o = tt
   possible (suc n) σ l p o =
-      let (g, e) = o 0 (suc-le-suc zero_le) in
+      let (g, e) = o 0 (suc-le-suc zero-le) in
       let s = (p 0).observation in
       let sb = (p 0).observation-below in (
         subst (λ (d : Option (ℕ → ℕ)). respond d s < G.choices) (sym e) (O.below g (l [] tt g e) s sb),
@@ -60,7 +60,7 @@ module _ (G : Game) (O : StepOrder G.choices G.observations) (A : Arena) where
         → ((m : ℕ) → m < n → Goes (σ (seen p m))) → P (know A k (history G σ p n))
     trapped zero k t σ l p f o = t
     trapped (suc n) k t σ l p f o =
-        let (g, e) = o 0 (suc-le-suc zero_le) in
+        let (g, e) = o 0 (suc-le-suc zero-le) in
         let s = (p 0).observation in
         let r : respond (σ []) ≡ g = ap respond e in
         let is : s ≡ trap.foil k g = f 0 (λ m h. let z : m ≡ 0 = omega arith in rw z (g, e)) ∙ ap (trap.foil k) r in
@@ -94,14 +94,14 @@ module _ (G : Game) (O : StepOrder G.choices G.observations) (A : Arena) where
 
       pub against_foils : (σ : Plan) (l : Legal O σ) (k : A.K) (t : P k) → Foils k σ (against σ l k t)
       unfolding against gauge respite
-      against_foils σ l k t zero o = (respite-is (σ []) (l [] tt) k t (o 0 zero_le)).0
+      against_foils σ l k t zero o = (respite-is (σ []) (l [] tt) k t (o 0 zero-le)).0
       against_foils σ l k t (suc n) o =
           let r = respite (σ []) (l [] tt) k t in
           let σ' = after σ r.0 in
           let l' = legal-after O σ r.0 r.1 l in
           against_foils σ' l' r.2 r.3 n (λ m h. o (suc m) (suc-le-suc h))
           ∙ ap (λ (k' : A.K). trap.foil (know A k' (history G σ' (against σ' l' r.2 r.3) n)) (respond (σ' (seen (against σ' l' r.2 r.3) n))))
-          (sym (respite-is (σ []) (l [] tt) k t (o 0 zero_le)).1)
+          (sym (respite-is (σ []) (l [] tt) k t (o 0 zero-le)).1)
 
       pub no_win : (k : A.K) → P k → (Φ : List ℕ → Type 0) → Tracks G A k Φ → (σ : Plan) → Legal O σ → WinsFor G Φ σ → ⊥
       no_win k t Φ T σ l win =

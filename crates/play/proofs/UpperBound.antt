@@ -1,6 +1,6 @@
 -- The upper bound: to follow, at each position, an answer that leads below its rank wins, in no more steps than the rank.
 -- Assumes nothing.
-use Prim.Native.Nat.{ℕ, zero, suc, ◌≤◌, ◌<◌, zero_le, suc-le-suc}
+use Prim.Native.Nat.{ℕ, zero, suc, ◌≤◌, ◌<◌, zero-le, suc-le-suc}
 use native.Mathlib.Nat.{not-suc-le-zero, le_of_suc-le-suc}
 use native.Mathlib.Omega.{arith}
 use mathlib.Core.Path.{◌≡◌, sym, ap, ◌∙◌, subst, fun_ext}
@@ -75,7 +75,7 @@ module _ (G : Game) (O : StepOrder G.choices G.observations) (A : Arena) (answer
 
   ends : (r : ℕ) (k : A.K) (Φ : List ℕ → Type 0) → Tracks G A k Φ → A.final k ≡ true → (p : Play G) → Within r k Φ p
   ends r k Φ T t p =
-      (0, (follow-stop A answer k t [], λ m b. absurd (not-suc-le-zero b)), (T [] tt).0 t (λ i. 0) (λ i. some-hidden), zero_le)
+      (0, (follow-stop A answer k t [], λ m b. absurd (not-suc-le-zero b)), (T [] tt).0 t (λ i. 0) (λ i. some-hidden), zero-le)
 
   -- one more step before
   later : (r : ℕ) (k : A.K) (Φ : List ℕ → Type 0) → A.final k ≡ false → (p : Play G)

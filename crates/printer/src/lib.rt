@@ -1,5 +1,7 @@
 // A table as text. Every function here is proved, and the crate assumes nothing. It serves the crates `loader` and `cabinet`, which show what each
 // `requires` asks.
+#![tactic(auto)]
+
 mod sizes;
 mod writing;
 

@@ -13,7 +13,7 @@ use lines::{PART_LIMIT, Reading, Refusal, Sizes};
 use rules::{Verdict, judge_trace, read};
 
 // What reading gave, and the numbers of the parts: so many, with zeros behind them.
-#[derive(Drop)]
+#[derive(Clone, Copy)]
 pub struct Listing {
     pub count: usize,
     pub codes: [u32; PART_LIMIT],
@@ -73,7 +73,7 @@ pub(crate) fn reading_in(l: Listing) -> Reading
 }
 
 // Parts to judge by, as numbers.
-#[derive(Drop)]
+#[derive(Clone, Copy)]
 pub struct PartList {
     pub codes: [u32; PART_LIMIT],
 }

@@ -1,7 +1,7 @@
 -- What is answered to a trace is what is due: by its length, by its first step with a bit without a signal, or by the value on it.
 -- Assumes nothing.
 use Prim.Native.Nat.{ℕ, suc, ◌+◌, ◌≤◌}
-use native.Mathlib.Nat.{zero_add}
+use native.Mathlib.Nat.{zero-add}
 use native.Mathlib.Numerals.{add-one}
 use native.Mathlib.Omega.{arith}
 use mathlib.Core.Path.{◌≡◌, refl, sym, ap, subst, ◌∙◌}
@@ -102,7 +102,7 @@ module _ (c : Counts) (few : (c.outputs ≤ kind_limit) × (c.observed ≤ kind_
       where
         by-step : RightLength π → Searched 0 π → P (told_verdict (or_bad_step (bad_step c 1 π) (cond b True False)))
         by-step r (good e f) = rw e (valued (r, f))
-        by-step r (bad i e f) = rw (e, zero_add i) (stepped i r f)
+        by-step r (bad i e f) = rw (e, zero-add i) (stepped i r f)
 
     -- and the other way round
     pub length_verdict : ¬ RightLength π → verdict_on c π b ≡ Refused (BadTrace 0)
@@ -111,7 +111,7 @@ module _ (c : Counts) (few : (c.outputs ≤ kind_limit) × (c.observed ≤ kind_
 
     pub step-verdict : {step : ℕ} → RightLength π → FirstBad c π step → verdict_on c π b ≡ Refused (BadTrace step)
     unfolding verdict_on
-    step-verdict {step} r f = rw (length_test π r, first-bad f 0, zero_add step)
+    step-verdict {step} r f = rw (length_test π r, first-bad f 0, zero-add step)
 
     pub value-verdict : (v : Bool) → IsTrace c π → b ≡ v → verdict_on c π b ≡ cond v True False
     unfolding verdict_on

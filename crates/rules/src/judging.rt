@@ -15,7 +15,7 @@ use formula::holds_on;
 use lines::{PART_LIMIT, Reading, Refusal, Sizes};
 
 // The verdict on a trace, or a refusal.
-#[derive(Drop)]
+#[derive(Clone, Copy)]
 pub enum Verdict {
     True,
     False,

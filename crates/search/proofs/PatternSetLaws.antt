@@ -3,7 +3,7 @@
 use Prim.Native.Nat.{ℕ, suc, ◌^◌, ◌<◌}
 use native.Mathlib.Omega.{arith}
 use mathlib.Core.Path.{◌≡◌, refl, sym, ◌∙◌, subst}
-use mathlib.Core.Bool.{Bool, true, false, and_true}
+use mathlib.Core.Bool.{Bool, true, false, and-true}
 use mathlib.Core.List.{List, [], ◌∷◌, foldr}
 use lib.Pow.{pow_pos}
 use lib.ListN.{length}
@@ -61,7 +61,7 @@ module _ (d : ℕ) (back : ℕ → ℕ → ℕ) (s : PatternSet) where
   -- where it is the only one
   pub next_all-one : (a : ℕ) → next_all d back s (a ∷ []) ≡ next d back s a
   unfolding next_all next
-  next_all-one a = set_of_ext d _ _ (λ p h. and_true (member s (back a p)))
+  next_all-one a = set_of_ext d _ _ (λ p h. and-true (member s (back a p)))
 
 module _ (d : ℕ) (back : ℕ → ℕ → ℕ) (fits : (a p : ℕ) → back a p < 2 ^ suc d) where
   pub foldr_fits : (π : List ℕ) (p : ℕ) → p < 2 ^ suc d → foldr back p π < 2 ^ suc d

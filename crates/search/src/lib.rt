@@ -1,5 +1,7 @@
 // Sets in memory, and the search for all sets of patterns that letters reach. Every function here is proved, and the crate assumes
 // nothing. It serves the crates `states` and `beliefs`, which show what it asks.
+#![tactic(auto)]
+
 mod searching;
 mod sets;
 mod sizes;

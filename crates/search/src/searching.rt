@@ -16,7 +16,7 @@ use crate::sizes::{LETTER_LIMIT, MAP, SET, STATE_LIMIT};
 use basics::clear;
 
 // How many things a search found, or that they are too many.
-#[derive(Drop)]
+#[derive(Clone, Copy)]
 pub enum Explored {
     Found(usize),
     TooMany,

@@ -1,7 +1,7 @@
 -- A cabinet stops in time: a step that is answered leads to a lower rank, whatever the table; and where it may stand on every row, it is
 -- refused nothing before it stops, and stops within the rank of the row where it stands.
 -- Assumes nothing.
-use Prim.Native.Nat.{ℕ, zero, suc, ◌+◌, ◌^◌, ◌≤◌, ◌<◌, zero_le}
+use Prim.Native.Nat.{ℕ, zero, suc, ◌+◌, ◌^◌, ◌≤◌, ◌<◌, zero-le}
 use native.Mathlib.Nat.{le_refl}
 use native.Mathlib.Omega.{arith}
 use mathlib.Core.Path.{◌≡◌, refl, sym, ap, subst}
@@ -82,13 +82,13 @@ module _ (t : List ℕ) (shape : Shape) (stands : (row : ℕ) → row < shape.ro
   stops-here observation p h e =
       record {
         steps = 0;
-        within = zero_le;
+        within = zero-le;
         goes = λ k l. absurd (omega arith);
         stops = rw (stopped-there t shape p h, e) refl;
         shown = λ k l.
             let z : 0 ≡ k = omega arith in
             subst (λ (k : ℕ). (left : ℕ) × (left_of t shape (position_after t shape observation p k) ≡ Steps left) × (0 ≤ k + left)) z
-            (rank t shape p, shown-there t shape p h, zero_le);
+            (rank t shape p, shown-there t shape p h, zero-le);
       }
 
   -- one step more

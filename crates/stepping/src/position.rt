@@ -12,14 +12,14 @@ use tables::{STOP, Shape, choice_cell, first_cell, next_cell, rank_cell};
 use wellformed::{is_row, is_sized};
 
 // The row, and the choice last set: 65535 for stop, and where none is set yet.
-#[derive(Drop)]
+#[derive(Clone, Copy)]
 pub struct Position {
     pub row: usize,
     pub choice: u16,
 }
 
 // A choice, stop, ready for an observation where no choice is set yet, or one refusal.
-#[derive(Drop)]
+#[derive(Clone, Copy)]
 pub enum Answer {
     Choice(u16),
     Stop,
@@ -28,14 +28,14 @@ pub enum Answer {
 }
 
 // The position afterwards, and the answer.
-#[derive(Drop)]
+#[derive(Clone, Copy)]
 pub struct Moved {
     pub position: Position,
     pub answer: Answer,
 }
 
 // How many steps are left at most, or one refusal.
-#[derive(Drop)]
+#[derive(Clone, Copy)]
 pub enum Left {
     Steps(u16),
     Refused(Refusal),

@@ -6,7 +6,7 @@ use crate::writing::fail;
 use basics::same;
 
 // An argument: so many bytes of the buffer, none, or more than the buffer has room for.
-#[derive(Drop)]
+#[derive(Clone, Copy)]
 pub enum Argument {
     Given(usize),
     Missing,

@@ -3,6 +3,8 @@
 //
 // Which bytes are read and written, and which calls of the system fail, is open by nature: no contract can say it. The contracts say where
 // in a buffer a whole input, line or argument stands, and those of `ended` and `line_ended` what is made of a read that brings nothing.
+#![tactic(auto)]
+
 mod arguments;
 mod reading;
 mod reading_lines;

@@ -7,7 +7,7 @@ use libc::EINTR;
 
 // What is known of an input: that it has so many bytes and no more; that it fills the buffer, so that there may be more; or that a read
 // failed, and errno says why.
-#[derive(Drop)]
+#[derive(Clone, Copy)]
 pub enum Input {
     Whole(usize),
     Longer,

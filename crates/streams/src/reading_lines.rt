@@ -8,7 +8,7 @@ use basics::LINE_END;
 
 // What is known of a line: that it has so many bytes, its end not counted; that it fills the buffer, so that there may be more; that there
 // is none, since the input has ended; or that a read failed, and errno says why.
-#[derive(Drop)]
+#[derive(Clone, Copy)]
 pub enum Line {
     Given(usize),
     Long,

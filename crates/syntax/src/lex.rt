@@ -8,7 +8,7 @@ use crate::kinds::{
 use basics::{Class, is_lower, past, same};
 
 // A token: its kind, where it starts, and where the next one is looked for.
-#[derive(Drop)]
+#[derive(Clone, Copy)]
 pub struct Token {
     pub kind: u8,
     pub from: usize,

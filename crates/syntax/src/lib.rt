@@ -1,5 +1,7 @@
 // The syntax of formulas below their grammar: the tokens of a text, the cells of a formula's parts, and the expansions of plan words. Every
 // function here is proved, and the crate assumes nothing. It serves the crates `grammar` and `lines`, which show what each `requires` asks.
+#![tactic(auto)]
+
 mod cells;
 mod kinds;
 mod lex;

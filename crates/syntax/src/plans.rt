@@ -10,7 +10,7 @@ use crate::cells::{ONE_SIDED, copy, put, put_two};
 use crate::kinds::{ALWAYS, AND, EVENTUALLY, NEXT, NOT, OR, UNTIL, WEAK_NEXT};
 
 // A plan word with its numbers.
-#[derive(Drop)]
+#[derive(Clone, Copy)]
 pub enum PlanWord {
     Once,
     Before,

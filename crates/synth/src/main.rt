@@ -1,6 +1,8 @@
 // Solves a problem, which is read on standard input or in a file, and writes its table, or the refusal, to standard output. A text that was
 // not read to its end is not answered, but for number 1, which the byte behind the limit decides. A failure is told on standard error, and
 // not by the exit status: a `main` returns nothing in this language.
+#![tactic(auto)]
+
 use cabinet::{Printed, TEXT_SIZE};
 use game::TABLE_SIZE;
 use libc::STDIN_FILENO;

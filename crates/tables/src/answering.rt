@@ -12,7 +12,7 @@ use crate::writing::put_table;
 use basics::Order;
 
 // A table with its row count and worst case, or that no strategy wins.
-#[derive(Drop)]
+#[derive(Clone, Copy)]
 pub enum Outcome {
     Table { rows: usize, worst_case: usize },
     Unrealizable,

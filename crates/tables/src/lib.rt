@@ -1,6 +1,8 @@
 // From the moves between numbered positions to the table of the best strategy: ranks, choices and rows. Every function here is proved,
 // and the crate assumes nothing. `answer` serves the crate `game`, which shows that it meets what is asked; `Shape` and the functions on
 // cells serve whoever reads a table.
+#![tactic(auto)]
+
 mod answering;
 mod cells;
 mod choosing;

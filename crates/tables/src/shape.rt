@@ -2,7 +2,7 @@
 use basics::Order;
 
 // The number of rows, the number of observed signals, and the order of a step.
-#[derive(Drop)]
+#[derive(Clone, Copy)]
 pub struct Shape {
     pub rows: usize,
     pub observed: usize,

@@ -1,5 +1,7 @@
 // What a table must be: the tests of number 13, which printing, loading and running share. Every function here is proved, and the crate assumes
 // nothing. It serves the crates above it, which show what each `requires` asks.
+#![tactic(auto)]
+
 mod checking;
 
 pub use checking::{is_printable, is_ranked, is_row, is_sized};

@@ -1,7 +1,7 @@
 -- Whether bytes are a formula's text, test by test.
 -- Assumes nothing.
 use Prim.Native.Nat.{ℕ, ◌≤◌, ◌<◌}
-use native.Mathlib.Nat.{zero_add}
+use native.Mathlib.Nat.{zero-add}
 use native.Mathlib.Omega.{arith}
 use mathlib.Core.Path.{◌≡◌, refl}
 use mathlib.Core.Bool.{Bool, true, false, ◌&&◌}
@@ -26,7 +26,7 @@ module _ (s : List ℕ) where
 
     pub text-tab : length s ≤ text_limit → (i : ℕ) → i ≡ past not_tab s 0 → eqb i (length s) ≡ is_text s
     unfolding is_text tab_place past
-    text-tab l i e = rw (lt-ltb 0 (length s) (omega arith), le-leb (length s) text_limit l, e, zero_add)
+    text-tab l i e = rw (lt-ltb 0 (length s) (omega arith), le-leb (length s) text_limit l, e, zero-add)
 
 -- a text is short
 middle : (a b c : Bool) → (a && (b && c)) ≡ true → b ≡ true

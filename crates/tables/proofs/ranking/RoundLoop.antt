@@ -1,6 +1,6 @@
 -- The rounds of ranking in the shape of their loops.
 -- Assumes nothing.
-use Prim.Native.Nat.{ℕ, zero, suc, ◌+◌, ◌≤◌, ◌<◌, zero_le}
+use Prim.Native.Nat.{ℕ, zero, suc, ◌+◌, ◌≤◌, ◌<◌, zero-le}
 use native.Mathlib.Numerals.{add-one}
 use native.Mathlib.Nat.{le_refl}
 use native.Mathlib.Decide.{dec_lt}
@@ -85,7 +85,7 @@ module _ (o : Order) (n choices observations : ℕ) (moves finals : List ℕ) wh
   first-is : (k : ℕ) → first_rank finals k ≡ entry 1 k
   unfolding first_rank
   first-is k =
-      let (_, e) = found-now 0 k (le-ltb (rank 0 k) 0 zero_le) in
+      let (_, e) = found-now 0 k (le-ltb (rank 0 k) 0 zero-le) in
       sym (e ∙ ap (λ (b : Bool). cond b 0 no_rank) (below_suc o A choices observations 0 k))
 
   pub ranks-first : (ranks rest : List ℕ) → ranks ≡ tabulate n (first_rank finals) ++ rest → take n ranks ≡ ranks_to 1

@@ -1,6 +1,6 @@
 -- `printer::writing::put_table` meets its contract: a line (place l), and the rows behind it.
 -- Assumes nothing.
-use native.Mathlib.Nat.{zero_add}
+use native.Mathlib.Nat.{zero-add}
 use native.Mathlib.Omega.{arith}
 use mathlib.Core.Path.{refl, sym, ◌∙◌}
 use mathlib.Core.List.{[], ◌∷◌, ◌++◌}
@@ -26,7 +26,7 @@ put-rows-requires c κs =
     let a = s.args in
     let head = line (table_word a.shape.order) (decimal a.shape.rows ∷ decimal a.worst ∷ []) in
     let r = rest_all 0 _ a.text.now (omega (arith, s.requires.1.1)) (head ++ rows_text a.table.now a.shape a.shape.rows) refl in
-    let r₁ = rest-next head _ r (l.put-head.ensures.0 ∙ sym (zero_add _), l.put-head.ensures.1) in
+    let r₁ = rest-next head _ r (l.put-head.ensures.0 ∙ sym (zero-add _), l.put-head.ensures.1) in
     (s.requires.0, (s.requires.1.0, r₁.room))
 
 same_length : tie.Need-same-length
@@ -39,9 +39,9 @@ returns c =
     let a = s.args in
     let head = line (table_word a.shape.order) (decimal a.shape.rows ∷ decimal a.worst ∷ []) in
     let r = rest_all 0 _ a.text.now (omega (arith, s.requires.1.1)) (head ++ rows_text a.table.now a.shape a.shape.rows) refl in
-    let r₁ = rest-next head _ r (l.put-head.ensures.0 ∙ sym (zero_add _), l.put-head.ensures.1) in
+    let r₁ = rest-next head _ r (l.put-head.ensures.0 ∙ sym (zero-add _), l.put-head.ensures.1) in
     let p = r₁.puts _ _ c.before.before.put-rows.ensures in
-    let n = p.0 ∙ zero_add _ in
+    let n = p.0 ∙ zero-add _ in
     (n, p.1 ∙ put_front (table_text a.table.now a.shape a.worst) a.text.now s.requires.1.1)
 
 pub put-table-spec : {M : Type 1} → statement M
