@@ -1,0 +1,20 @@
+-- `search::searching::expand` meets its contract. The invariant: the memory holds the sets that the letters passed lead to, behind
+-- those that were there, and the row has their places.
+-- Assumes nothing.
+use Prim.Native.Nat.{◌-◌}
+use native.Mathlib.Omega.{arith}
+use mathlib.Core.Path.{◌∙◌}
+use mathlib.Core.Logic.{⊎_elim}
+use lib.ListN.{length}
+use borrow.Author.Rules.{rules}
+use Rattle.search.proofs.StepsFromItem.{adding_all}
+use Rattle.search.proofs.searching.ExpandLoop.{place-small, Kept, kept-none, put_set_asked, kept_copy, kept-old, kept_new, kept-over}
+use Rattle.search.proofs.searching.expand.Given as goal
+
+abbrev pub invariant-loop-a : goal.invariant-loop-a
+invariant-loop-a l =
+    Kept l.d l.maps l.firsts l.initial.mem l.i l.n (length l.initial.row) l.present l.a l.m l.mem l.row
+
+abbrev pub decreases-loop-a : goal.decreases-loop-a
+decreases-loop-a l =
+    length l.initial.row - l.a

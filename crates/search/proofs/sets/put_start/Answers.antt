@@ -1,0 +1,22 @@
+use Prim.Native.Nat.{◌≤◌, ◌-◌}
+use native.Mathlib.Omega.{arith}
+use mathlib.Core.Path.{◌≡◌}
+use mathlib.Core.List.{◌++◌}
+use lib.ListN.{length-set, length, drop}
+use borrow.Author.Rules.{rules}
+use Rattle.basics.specs.Lists.{tabulate}
+use Rattle.search.specs.Memory.{start_byte}
+use Rattle.basics.proofs.Filling.{table_more}
+use Rattle.search.proofs.PackedSets.{start-done}
+use Rattle.search.proofs.sets.put_start.Goals as goal
+
+pub loop-i-preserved : goal.loop-i-preserved
+loop-i-preserved c = (
+  omega arith,
+  simp length-set c.loop-i.invariant.1,
+  table_more c.loop-i.i _ c.args.place.now c.loop-i.place _ (omega arith) c.loop-i.invariant.2 c.start_byte.ensures,
+)
+
+pub returns : goal.returns
+returns c =
+    start-done c.args.d c.args.place.now c.loop-i.place c.loop-i.i (omega arith) c.loop-i.invariant.2

@@ -1,0 +1,25 @@
+use Prim.Native.Nat.{◌≤◌, ◌-◌}
+use native.Mathlib.Omega.{arith}
+use mathlib.Core.Path.{sym, ◌≡◌}
+use mathlib.Core.Bool.{true}
+use borrow.Author.Rules.{rules}
+use Rattle.search.specs.Limits.{run_size}
+use Rattle.search.specs.Slots.{same_run}
+use Rattle.search.proofs.sets.SetLoops.{run_none, run_more, run-fails, run-done}
+use Rattle.search.proofs.sets.same_run.Goals as goal
+
+pub loop-y-init : goal.loop-y-init
+loop-y-init c =
+    (omega arith, run_none _ _ _)
+
+pub returns-then-mem-a : goal.returns-then-mem-a
+returns-then-mem-a c =
+    sym (run-fails c.args.mem.now c.args.a c.args.b run_size c.loop-y.y (omega (arith, c.loop-y-test.true)) c.if-mem-a.true)
+
+pub loop-y-preserved : goal.loop-y-preserved
+loop-y-preserved c =
+    (omega arith, run_more c.args.mem.now c.args.a c.args.b c.loop-y.y c.loop-y.invariant.1 c.if-mem-a.false)
+
+pub returns : goal.returns
+returns c =
+    sym (run-done c.args.mem.now c.args.a c.args.b run_size c.loop-y.y (omega arith) c.loop-y.invariant.1)

@@ -1,0 +1,19 @@
+-- `syntax::cells::put_codes` meets its contract. The invariant: the numbers of the cells passed are written.
+-- Assumes nothing.
+use borrow.Author.Rules.{rules}
+use Prim.Native.Nat.{◌+◌, ◌≤◌, ◌<◌, ◌-◌}
+use native.Mathlib.Omega.{arith}
+use mathlib.Core.Path.{◌≡◌, refl, ap₂, ◌∙◌}
+use lib.ListN.{length, take, set, length-set}
+use lib.Seq.{sets, take-length}
+use Rattle.syntax.specs.Cells.{codes_from}
+use Rattle.syntax.proofs.CellsLaws.{codes-none, codes-more}
+use Rattle.syntax.proofs.cells.put_codes.Given as goal
+
+abbrev pub invariant-loop-i : goal.invariant-loop-i
+invariant-loop-i l =
+    (l.i ≤ length l.cells) × (length l.parts ≡ length l.initial.parts) × (l.parts ≡ sets l.initial.parts l.n (codes_from l.n (take l.i l.cells)))
+
+abbrev pub decreases-loop-i : goal.decreases-loop-i
+decreases-loop-i l =
+    length l.cells - l.i
