@@ -1,0 +1,19 @@
+-- `tables::writing::put_row` meets its contract. The invariant: the next positions of the observations passed are among the rows, and
+-- the cells have their choices and numbers.
+-- Assumes nothing.
+use borrow.Author.Rules.{rules}
+use Prim.Native.Nat.{◌-◌}
+use native.Mathlib.Omega.{arith}
+use mathlib.Core.Path.{refl, sym, ◌∙◌}
+use mathlib.Core.Logic.{⊎_elim}
+use Rattle.tables.proofs.writing.RowLoop.{Adding, adding_begin, adding_old, adding_new, adding_end, cells-room, place_le, room-left}
+use Rattle.tables.proofs.PositionMemoryLaws.{pair_le, spot_lt}
+use Rattle.tables.proofs.writing.put_row.Given as goal
+
+abbrev pub invariant-loop-s : goal.invariant-loop-s
+invariant-loop-s l =
+    Adding l.order l.moves l.answers l.choices l.observations l.k l.m l.initial.rows l.s l.n l.rows l.cells
+
+abbrev pub decreases-loop-s : goal.decreases-loop-s
+decreases-loop-s l =
+    l.observations - l.s

@@ -1,0 +1,12 @@
+-- `tables::writing::put_stop` meets its contract.
+-- Assumes nothing.
+use borrow.Author.Rules.{rules}
+use mathlib.Core.Path.{refl, ◌∙◌}
+use Rattle.tables.proofs.writing.RowCells.{first-put, stop_is}
+use Rattle.tables.proofs.writing.put_stop.Goals as goal
+
+pub returns : goal.returns
+returns c =
+    c.set_first.ensures
+    ∙ first-put c.args.order _ _ _ _ c.requires c.clear_cells.ensures refl
+    ∙ stop_is c.args.order

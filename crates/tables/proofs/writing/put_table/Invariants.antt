@@ -1,0 +1,21 @@
+-- `tables::writing::put_table` meets its contract. The invariant: the rows met so far are those of the search at this turn, and the rows
+-- passed have the cells that they have in the end.
+-- Assumes nothing.
+use borrow.Author.Rules.{rules}
+use Prim.Native.Nat.{◌+◌, ◌-◌, ◌*◌}
+use native.Mathlib.Omega.{arith}
+use mathlib.Core.Path.{◌≡◌, refl, ap, ◌∙◌}
+use mathlib.Core.Logic.{⊎_elim}
+use lib.ListN.{length}
+use Rattle.play.specs.Limits.{belief_limit, side_limit}
+use Rattle.play.specs.Cells.{row_size}
+use Rattle.tables.proofs.writing.TableLoop.{Turn, row_room, turn-begin, row-part, row_small, turn-stop, row_asked, turn-choice, turn-answer}
+use Rattle.tables.proofs.writing.put_table.Given as goal
+
+abbrev pub invariant-loop-i : goal.invariant-loop-i
+invariant-loop-i l =
+    Turn l.order l.n l.choices l.observations l.moves l.finals l.initial.table l.i l.m l.rows l.table × (length l.answers ≡ side_limit)
+
+abbrev pub decreases-loop-i : goal.decreases-loop-i
+decreases-loop-i l =
+    belief_limit - l.i
