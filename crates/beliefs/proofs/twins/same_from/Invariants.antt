@@ -1,0 +1,19 @@
+-- `beliefs::twins::same_from` meets its contract. The invariant: the pairs agree at the hidden values passed.
+-- Assumes nothing.
+use borrow.Author.Rules.{rules}
+use Prim.Native.Nat.{◌≤◌, ◌-◌}
+use native.Mathlib.Omega.{arith}
+use mathlib.Core.Path.{◌≡◌, sym, ap, ◌∙◌}
+use mathlib.Core.Bool.{true}
+use Rattle.beliefs.specs.Twins.{same_from}
+use Rattle.beliefs.proofs.BeliefMemoryLaws.{hidden-place}
+use Rattle.beliefs.proofs.TwinsLaws.{from-none, from_more, from-fails}
+use Rattle.beliefs.proofs.twins.same_from.Given as goal
+
+abbrev pub invariant-loop-h : goal.invariant-loop-h
+invariant-loop-h l =
+    (l.h ≤ l.hiddens) × (same_from l.successors l.pairs l.h l.a l.b l.s ≡ true)
+
+abbrev pub decreases-loop-h : goal.decreases-loop-h
+decreases-loop-h l =
+    l.hiddens - l.h

@@ -1,0 +1,24 @@
+-- `lines::adding::all_declared` meets its contract. The invariant: the names of the tokens passed are declared, so that all are if the
+-- others are.
+-- Assumes nothing.
+use Prim.Native.Nat.{◌-◌, ◌≤◌}
+use native.Mathlib.Omega.{arith}
+use mathlib.Core.Path.{◌≡◌, refl, sym, ◌∙◌}
+use lib.ListN.{length}
+use Rattle.syntax.specs.Lex.{tokens}
+use Rattle.syntax.proofs.LexLaws.{tok_high, tok_ordered}
+use Rattle.lines.specs.declared.problem.Sizes.{Sizes}
+use Rattle.lines.specs.Effect.{all_declared}
+use Rattle.lines.specs.Memory.{signals_in}
+use Rattle.lines.proofs.DeclaredNames.{index_below, declared-end, token_past, declared-other, declared-name, declared-none}
+use Rattle.lines.proofs.adding.all_declared.Given as goal
+
+abbrev pub invariant-loop-at : goal.invariant-loop-at
+invariant-loop-at l =
+    (l.at ≤ length l.text)
+    × ((s : Sizes)
+    → all_declared (signals_in l.source s l.spans) l.text (tokens l.text 0) ≡ all_declared (signals_in l.source s l.spans) l.text (tokens l.text l.at))
+
+abbrev pub decreases-loop-at : goal.decreases-loop-at
+decreases-loop-at l =
+    length l.text - l.at

@@ -1,0 +1,20 @@
+use borrow.Author.Rules.{rules}
+use Prim.Native.Nat.{◌+◌, ◌-◌, ◌≤◌, ◌<◌}
+use native.Mathlib.Omega.{arith}
+use mathlib.Core.Path.{◌≡◌}
+use mathlib.Core.Logic.{⊎_elim}
+use lib.ListN.{length, drop}
+use Rattle.formula.specs.Parts.{temporals}
+use Rattle.syntax.specs.Cells.{kinds_in}
+use Rattle.lines.proofs.CellKinds.{temporals_hit, temporals_miss, temporals-end}
+use Rattle.lines.proofs.adding.temporals_in.Goals as goal
+use Rattle.lines.proofs.adding.temporals_in.Goals.{else-is_temporal, then-is_temporal}
+
+pub loop-i-preserved : goal.loop-i-preserved
+loop-i-preserved c =
+    let h : c.loop-i.i < length c.args.cells.now = omega arith in
+    elim c.if-is_temporal.branch [ then-is_temporal w ↦ omega (arith, temporals_hit c.args.cells.now c.loop-i.i h c.is_temporal.result c.is_temporal.ensures w.if-is_temporal.true) | else-is_temporal w ↦ omega (arith, temporals_miss c.args.cells.now c.loop-i.i h c.is_temporal.result c.is_temporal.ensures w.if-is_temporal.false) ]
+
+pub returns : goal.returns
+returns c =
+    omega (arith, temporals-end c.args.cells.now c.loop-i.i (omega arith))
