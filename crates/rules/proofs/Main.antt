@@ -104,7 +104,7 @@ long-name = WithinLimits.long_unknown
 -- a signal gets the next bit of its kind
 pub next_bit_lem : (g : Signals) → Named g → (k : Kind) (name : Name) → ¬ IsDeclared g name → Few (with_signal k name g)
     → index_of name (with_signal k name g).names ≡ first_bit k + count k g
-next_bit_lem = WithinLimits.next_bit
+next_bit_lem = WithinLimits.next_bit_lem
 
 -- ---- judging
 

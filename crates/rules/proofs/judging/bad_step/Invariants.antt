@@ -1,0 +1,19 @@
+-- `rules::judging::bad_step` meets its contract. The invariant: the first bad step is that of the letters that are left.
+-- Assumes nothing.
+use borrow.Author.Rules.{rules}
+use Prim.Native.Nat.{◌+◌, ◌-◌, ◌≤◌, ◌<◌}
+use native.Mathlib.Omega.{arith}
+use mathlib.Core.Path.{◌≡◌, sym, ap, ◌∙◌}
+use lib.ListN.{length, drop}
+use borrow.Author.Tests.{not-true, not-false}
+use Rattle.rules.specs.Trace.{counts_of, bad_step, step_number}
+use Rattle.rules.proofs.TraceLaws.{bad-end, bad_more, bad-here}
+use Rattle.rules.proofs.judging.bad_step.Given as goal
+
+abbrev pub invariant-loop-i : goal.invariant-loop-i
+invariant-loop-i l =
+    (l.i ≤ length l.trace) × (bad_step (counts_of l.s) 1 l.trace ≡ bad_step (counts_of l.s) (l.i + 1) (drop l.i l.trace))
+
+abbrev pub decreases-loop-i : goal.decreases-loop-i
+decreases-loop-i l =
+    length l.trace - l.i

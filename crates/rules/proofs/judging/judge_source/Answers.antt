@@ -1,0 +1,31 @@
+-- `rules::judging::judge_source` meets its contract, by those of `read` and `judge_trace`.
+-- Assumes nothing.
+use borrow.Author.Rules.{rules}
+use native.Mathlib.Omega.{arith}
+use mathlib.Core.Path.{sym}
+use Rattle.rules.specs.Problem.{read_problem}
+use Rattle.rules.proofs.JudgeLaws.{refused_source, taken, taken_length, some-parts, few-parts, few-signals, judged_source}
+use Rattle.rules.proofs.judging.judge_source.Goals as goal
+
+pub slice_bounds-parts-end : goal.slice_bounds-parts-end
+slice_bounds-parts-end c =
+    let t = taken c.args.source.now _ _ c.read.ensures.value c.in-Accepted.is _ c.read.ensures.parts_after in
+    omega (arith, few-parts t, c.read.auto.parts)
+
+pub slice_bounds-judge_trace-end : goal.slice_bounds-judge_trace-end
+slice_bounds-judge_trace-end c =
+    sym (taken_length (taken c.args.source.now _ _ c.read.ensures.value c.in-Accepted.is _ c.read.ensures.parts_after))
+
+pub judge_trace-requires : goal.judge_trace-requires
+judge_trace-requires c =
+    let t = taken c.args.source.now _ _ c.read.ensures.value c.in-Accepted.is _ c.read.ensures.parts_after in
+    record { parts_nonzero = (some-parts t, omega (arith, taken_length t, few-parts t)); outputs_le_kind_limit = few-signals t }
+
+pub returns-in-Refused : goal.returns-in-Refused
+returns-in-Refused c =
+    refused_source (read_problem c.args.source.now) c.args.trace.now _ _ c.read.ensures.value c.in-Refused.is
+
+pub returns-in-Accepted : goal.returns-in-Accepted
+returns-in-Accepted c =
+    let t = taken c.args.source.now _ _ c.read.ensures.value c.in-Accepted.is _ c.read.ensures.parts_after in
+    judged_source t _ _ c.judge_trace.ensures

@@ -1,0 +1,17 @@
+-- `rules::reader::read_lines` meets its contract. The invariant is `Going`.
+-- Assumes nothing.
+use borrow.Author.Rules.{rules}
+use Prim.Native.Nat.{◌-◌}
+use native.Mathlib.Omega.{arith}
+use lib.ListN.{length}
+use Rattle.rules.proofs.ReadingLaws.{Going, begin, line_in, unended_line, refused-line, accepted-line, no_formula, some_formula}
+use Rattle.rules.proofs.ReadingLaws.{refused-answer}
+use Rattle.rules.proofs.reader.read_lines.Given as goal
+
+abbrev pub invariant-loop-at : goal.invariant-loop-at
+invariant-loop-at l =
+    Going l.source l.initial.parts l.at l.line l.s l.spans l.parts
+
+abbrev pub decreases-loop-at : goal.decreases-loop-at
+decreases-loop-at l =
+    length l.source - l.at

@@ -1,0 +1,18 @@
+-- `stepping::position::is_stopped` meets its contract.
+-- Assumes nothing.
+use borrow.Author.Rules.{rules}
+use Rattle.stepping.proofs.PositionLaws.{has-row, holds, not_stopped, stopped-there}
+use Rattle.stepping.proofs.position.is_stopped.Goals as goal
+
+pub returns-then-not-is_holding : goal.returns-then-not-is_holding
+returns-then-not-is_holding c =
+    not_stopped c.args.table.now c.args.shape c.args.position _ c.is_holding.ensures c.if-not-is_holding.true-raw
+
+pub first_cell-first-requires : goal.first_cell-first-requires
+first_cell-first-requires c =
+    has-row c.args.table.now c.args.shape c.args.position.row
+    (holds c.args.table.now c.args.shape c.args.position _ c.is_holding.ensures c.if-not-is_holding.false-raw).0
+
+pub returns : goal.returns
+returns c =
+    stopped-there c.args.table.now c.args.shape c.args.position _ c.is_holding.ensures c.if-not-is_holding.false-raw _ c.first_cell-first.ensures

@@ -1,0 +1,22 @@
+-- `stepping::position::start_from` meets its contract.
+-- Assumes nothing.
+use borrow.Author.Rules.{rules}
+use Rattle.stepping.proofs.AnswersDue.{start-told}
+use Rattle.stepping.proofs.PositionLaws.{stands, has_first, start-refused, start-moves}
+use Rattle.stepping.proofs.position.start_from.Goals as goal
+
+pub returns-then-not-is_standing : goal.returns-then-not-is_standing
+returns-then-not-is_standing c =
+    start-told c.args.table.now c.args.shape c.args.position _
+    (start-refused c.args.table.now c.args.shape c.args.position _ c.is_standing.ensures c.if-not-is_standing.true-raw _
+    c.refuse.ensures)
+
+pub start_at-requires : goal.start_at-requires
+start_at-requires c =
+    has_first c.args.table.now c.args.shape (stands c.args.table.now c.args.shape 0 _ c.is_standing.ensures c.if-not-is_standing.false-raw)
+
+pub returns : goal.returns
+returns c =
+    start-told c.args.table.now c.args.shape c.args.position _
+    (start-moves c.args.table.now c.args.shape c.args.position
+    (stands c.args.table.now c.args.shape 0 _ c.is_standing.ensures c.if-not-is_standing.false-raw) _ c.start_at.ensures)
