@@ -1,0 +1,18 @@
+-- `loader::loading::copy` meets its contract. The invariant: the first i cells are copied.
+-- Assumes nothing.
+use Prim.Native.Nat.{◌-◌, ◌≤◌}
+use native.Mathlib.Omega.{arith}
+use mathlib.Core.Path.{◌≡◌, refl}
+use mathlib.Core.List.{◌++◌}
+use lib.ListN.{length, take, drop, length-set}
+use borrow.Author.Rules.{rules}
+use Rattle.loader.proofs.loading.CopyLoop.{copied_more, copied_all}
+use Rattle.loader.proofs.loading.copy.Given as goal
+
+abbrev pub invariant-loop-i : goal.invariant-loop-i
+invariant-loop-i l =
+    (l.i ≤ length l.cells) × (length l.table ≡ length l.initial.table) × (l.table ≡ take l.i l.cells ++ drop l.i l.initial.table)
+
+abbrev pub decreases-loop-i : goal.decreases-loop-i
+decreases-loop-i l =
+    length l.cells - l.i

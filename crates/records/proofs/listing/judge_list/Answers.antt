@@ -1,0 +1,62 @@
+-- `records::listing::judge_list` meets its contract, test by test, and by that of `judge_trace`.
+-- Assumes nothing.
+use Prim.Native.Nat.{ℕ}
+use native.Mathlib.Omega.{arith}
+use mathlib.Core.Path.{◌≡◌, sym, ◌∙◌}
+use mathlib.Core.List.{[], ◌∷◌}
+use lib.ListN.{length, length-map}
+use lib.Seq.{length-take-le}
+use denote.Laws.{Is}
+use denote.Struct.Laws as LL
+use borrow.Author.Tests.{not-true, not-false}
+use Rattle.rules.specs.Trace.{counts_of}
+use Rattle.records.specs.declared.listing.PartList.{PartList}
+use Rattle.records.specs.contracts.listing.PartList as L
+use Rattle.records.proofs.listing.PartList.TheLaws as L'
+use Rattle.records.proofs.JudgingLaws.{few_iff, short-is, signals-is, many_is, none_is, value-is}
+use borrow.Author.Rules.{rules}
+use Rattle.records.proofs.listing.judge_list.Goals as goal
+
+-- the array of a list that is passed has its length
+codes-long : (l : PartList) → Is L.the_row l (LL.val L.the_type L'.the_laws l ∷ []) → length l.codes ≡ 96
+codes-long l g = sym (length-map l.codes (λ (v : ℕ). v)) ∙ (LL.owed L.the_type L'.the_laws l _ g).0.1.0.1
+
+pub returns-then-room-n : goal.returns-then-room-n
+returns-then-room-n c =
+    sym (short-is c.args.room c.args.s _ c.args.trace.now c.if-room-n.true)
+
+pub returns-then-not-few_signals : goal.returns-then-not-few_signals
+returns-then-not-few_signals c =
+    sym (signals-is c.args.room c.args.s _ c.args.trace.now c.if-room-n.false
+    (sym c.few_signals.ensures ∙ not-true c.few_signals.result c.if-not-few_signals.true-raw))
+
+pub returns-then-n-gt-PART_LIMIT : goal.returns-then-n-gt-PART_LIMIT
+returns-then-n-gt-PART_LIMIT c =
+    sym (many_is c.args.room c.args.s _ c.args.trace.now c.if-room-n.false (sym c.few_signals.ensures ∙ not-false c.few_signals.result c.if-not-few_signals.false-raw)
+    c.if-n-gt-PART_LIMIT.true)
+
+pub returns-then-n-eq0 : goal.returns-then-n-eq0
+returns-then-n-eq0 c =
+    sym (none_is c.args.room c.args.s _ c.args.trace.now c.if-room-n.false (sym c.few_signals.ensures ∙ not-false c.few_signals.result c.if-not-few_signals.false-raw)
+    c.if-n-gt-PART_LIMIT.false c.if-n-eq0.true)
+
+pub slice_bounds-codes-end : goal.slice_bounds-codes-end
+slice_bounds-codes-end c =
+    omega (arith, codes-long c.args.l c.well_formed.0, c.if-n-gt-PART_LIMIT.false)
+
+pub slice_bounds-judge_trace-end : goal.slice_bounds-judge_trace-end
+slice_bounds-judge_trace-end c =
+    sym (length-take-le c.args.s.parts c.args.l.codes
+    (omega (arith, codes-long c.args.l c.well_formed.0, c.if-n-gt-PART_LIMIT.false)))
+
+pub judge_trace-requires : goal.judge_trace-requires
+judge_trace-requires c =
+    let n = length-take-le c.args.s.parts c.args.l.codes
+    (omega (arith, codes-long c.args.l c.well_formed.0, c.if-n-gt-PART_LIMIT.false)) in
+    let f = (few_iff (counts_of c.args.s)).0 (sym c.few_signals.ensures ∙ not-false c.few_signals.result c.if-not-few_signals.false-raw) in
+    record { parts_nonzero = (omega (arith, n, c.if-n-eq0.false), omega (arith, n, c.if-n-gt-PART_LIMIT.false)); outputs_le_kind_limit = (f.outputs, f.observed, f.hidden) }
+
+pub returns : goal.returns
+returns c =
+    c.judge_trace.ensures ∙ sym (value-is c.args.room c.args.s _ c.args.trace.now c.if-room-n.false
+    (sym c.few_signals.ensures ∙ not-false c.few_signals.result c.if-not-few_signals.false-raw) c.if-n-gt-PART_LIMIT.false c.if-n-eq0.false)
