@@ -73,6 +73,9 @@ for f in antt + rust:
         cited = {n.strip() for _, names in re.findall(r"ghost use ([\w·.+]+)\.\{([^}]*)\}", text) for n in names.split(",")}
         here[f] = (words, cited)
 
+# a dash may stay between two functions
+functions = {"length", "append", "drop", "take", "map", "reverse", "sum", "set", "replicate", "filter", "foldl", "get_or", "tabulate"}
+functions |= {n for n, where in own.items() if any("/specs/" in f for f in where) and re.search(r"[a-z][A-Z]|_", n)}
 table = {}
 for n in own:
     if n in BY_HAND:
@@ -82,7 +85,7 @@ for n in own:
     if len(parts) == 1:
         new = plain(n)
     else:
-        whole = all(p in own or p[:1].isupper() for p in parts)
+        whole = all(p in functions or p[:1].isupper() for p in parts)
         new = ("-" if whole else "_").join(plain(p) for p in parts)
         if not whole and parts[0][:1].isupper():
             new = plain(parts[0]) + "-" + "_".join(plain(p) for p in parts[1:])
@@ -123,11 +126,22 @@ def quoted(text):
     return QUOTED.sub(lambda m: re.sub(r"[^\s(){}.;,@\"\[\]\\`]+", lambda t: table.get(t.group(), t.group()), m.group()), text)
 
 
+def of_libraries(text):
+    """The names that a file brings in from a library: those keep their spelling there."""
+    out = set()
+    for path, names in re.findall(r"use ([\w·.+]+)\.\{([^}]*)\}", text):
+        if not re.match(r"Rattle\.(?!std\b)", path):
+            out.update(n.split(" as ")[0].strip() for n in names.split(","))
+    return out
+
+
 def turn_antt(m):
     t = m.group()
     if t.startswith("--"):
         return quoted(t)
-    if t.startswith('"'):
+    if t.startswith('"') or t in theirs:
+        return t
+    if t == "long-table" and m.string[m.start() - 1 : m.start()] == ".":
         return t
     if t in plain_words and (m.string[m.start() - 1 : m.start()] == "." or m.string[m.end() : m.end() + 1] == "."):
         return t
@@ -138,11 +152,12 @@ def turn_rust(m):
     t = m.group()
     if t.startswith("//"):
         return quoted(t)
-    return t if t in plain_words or t[:1] in "\"'" or t[:2] in ('b"', "b'") else table.get(t, t)
+    return t if t in theirs or t in plain_words or t[:1] in "\"'" or t[:2] in ('b"', "b'") else table.get(t, t)
 
 
 for f in antt + rust + files("crates/*/must-fail/*.edit"):
     old = read(f)
+    theirs = of_libraries(old)
     new = (TOKEN if f.endswith(".antt") else RUST).sub(turn_antt if f.endswith(".antt") else turn_rust, old)
     if new != old:
         with open(f, "w", encoding="utf-8", newline="") as it:

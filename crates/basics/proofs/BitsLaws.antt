@@ -25,19 +25,19 @@ pub digit_lt : (b : Bool) → digit b < 2
 digit_lt true = omega arith
 digit_lt false = omega arith
 
-pub digit-is : (b : Bool) → eqb (digit b) 1 ≡ b
-digit-is true = refl
-digit-is false = refl
+pub digit_is : (b : Bool) → eqb (digit b) 1 ≡ b
+digit_is true = refl
+digit_is false = refl
 
 -- a number below 2 is a digit
-pub one-digit : (x : ℕ) → x < 2 → x ≡ digit (eqb x 1)
-one-digit zero h = refl
-one-digit (suc zero) h = refl
-one-digit (suc (suc x)) h = absurd (omega arith)
+pub one_digit : (x : ℕ) → x < 2 → x ≡ digit (eqb x 1)
+one_digit zero h = refl
+one_digit (suc zero) h = refl
+one_digit (suc (suc x)) h = absurd (omega arith)
 
 -- the lowest bit of a number, as code cuts it out
 pub low_digit : (x : ℕ) → bit_and x 1 ≡ digit (eqb (x % 2) 1)
-low_digit x = and_mask x 1 ∙ one-digit (x % 2) (omega arith)
+low_digit x = and_mask x 1 ∙ one_digit (x % 2) (omega arith)
 
 pub low_lt : (x : ℕ) → bit_and x 1 < 2
 low_lt x = mask_lt x 1
@@ -47,8 +47,8 @@ pub shl_one : (k : ℕ) → k < word_size → 1 * 2 ^ k % 2 ^ word_size ≡ 2 ^ 
 shl_one k h = shl_exact 1 k word_size (lit< tt) (omega arith) ∙ one-mul (2 ^ k)
 
 -- bit 0 tells whether a number is odd, and the higher bits are those of its half
-pub bit-low : (n : ℕ) → bit n 0 ≡ eqb (n % 2) 1
-bit-low n = rw div-one
+pub bit_low : (n : ℕ) → bit n 0 ≡ eqb (n % 2) 1
+bit_low n = rw div-one
 
 pub bit_high : (n k : ℕ) → bit n (suc k) ≡ bit (n / 2) k
 bit_high n k = ap (λ x. eqb (x % 2) 1) (ap (λ y. n / y) (pow-succ' 2 k) ∙ sym (div-div-eq-div-mul n 2 (2 ^ k)))
@@ -58,8 +58,8 @@ bit_zero k = rw zero-div
 
 bit_cons_zero : (b : Bool) (bs : List Bool) → bit (from_bits (b ∷ bs)) 0 ≡ b
 unfolding from_bits
-bit_cons_zero b bs = bit-low (from_bits bs * 2 + digit b) ∙ ap (λ x. eqb x 1)
-    (mul-add-mod_self_right (from_bits bs) 2 (digit b) ∙ mod-eq_of_lt (digit_lt b)) ∙ digit-is b
+bit_cons_zero b bs = bit_low (from_bits bs * 2 + digit b) ∙ ap (λ x. eqb x 1)
+    (mul-add-mod_self_right (from_bits bs) 2 (digit b) ∙ mod-eq_of_lt (digit_lt b)) ∙ digit_is b
 
 bit_cons_suc : (b : Bool) (bs : List Bool) (k : ℕ) → bit (from_bits (b ∷ bs)) (suc k) ≡ bit (from_bits bs) k
 unfolding from_bits
@@ -78,8 +78,8 @@ from_bits_lt [] = omega arith
 from_bits_lt (b ∷ bs) = subst (λ x. from_bits bs * 2 + digit b < x) (sym (pow-suc 2 (length bs))) (digits_lt (from_bits_lt bs) (digit_lt b))
 
 -- a number below 2 ^ k has no bit from k on
-pub bit-out : (n k : ℕ) → n < 2 ^ k → bit n k ≡ false
-bit-out n k h = rw (div-eq_of_lt h)
+pub bit_out : (n k : ℕ) → n < 2 ^ k → bit n k ≡ false
+bit_out n k h = rw (div-eq_of_lt h)
 
 -- the low bits of a number are those of its remainder
 pub bit_mod : (n m k : ℕ) → k < m → bit (n % 2 ^ m) k ≡ bit n k
@@ -95,7 +95,7 @@ bits_ext (suc w) m n h l e =
     sym (div-add-mod' m 2)
     ∙ ap₂ (λ x y. x * 2 + y)
     (bits_ext w (m / 2) (n / 2) (half_lt w m h) (half_lt w n l) (λ k k<. sym (bit_high m k) ∙ e (suc k) (omega arith) ∙ bit_high n k))
-    (odd_ext (m % 2) (n % 2) (mod-lt m (omega arith)) (mod-lt n (omega arith)) (sym (bit-low m) ∙ e 0 (omega arith) ∙ bit-low n))
+    (odd_ext (m % 2) (n % 2) (mod-lt m (omega arith)) (mod-lt n (omega arith)) (sym (bit_low m) ∙ e 0 (omega arith) ∙ bit_low n))
     ∙ div-add-mod' n 2
   where
     half_lt : (v x : ℕ) → x < 2 ^ suc v → x / 2 < 2 ^ v
@@ -111,24 +111,24 @@ bits_ext (suc w) m n h l e =
     odd_ext (suc (suc x)) y a b p = absurd (omega arith)
 
 module _ (n : ℕ) (f : ℕ → Bool) where
-  pub bit-table : (j : ℕ) → j < n → bit (from_bits (tabulate n f)) j ≡ f j
-  bit-table j h = bit-from_bits (tabulate n f) j ∙ get_d_tabulate n f j false h
+  pub bit_table : (j : ℕ) → j < n → bit (from_bits (tabulate n f)) j ≡ f j
+  bit_table j h = bit-from_bits (tabulate n f) j ∙ get_d_tabulate n f j false h
 
   pub table_lt : from_bits (tabulate n f) < 2 ^ n
   table_lt = subst (λ m. from_bits (tabulate n f) < 2 ^ m) (length_tabulate n f) (from_bits_lt (tabulate n f))
 
   -- a number with the table's bits, and no others, is the table's
   pub table_unique : (x : ℕ) → x < 2 ^ n → ((j : ℕ) → j < n → bit x j ≡ f j) → x ≡ from_bits (tabulate n f)
-  table_unique x h e = bits_ext n x (from_bits (tabulate n f)) h table_lt (λ j l. e j l ∙ sym (bit-table j l))
+  table_unique x h e = bits_ext n x (from_bits (tabulate n f)) h table_lt (λ j l. e j l ∙ sym (bit_table j l))
 
 -- the number of the m bits from k on
 unfoldable pub table_from : (ℕ → Bool) → ℕ → ℕ → ℕ
 table_from f k m = from_bits (tabulate m (λ j. f (k + j)))
 
 module _ (f : ℕ → Bool) where
-  from-none : (k : ℕ) → table_from f k 0 ≡ 0
+  from_none : (k : ℕ) → table_from f k 0 ≡ 0
   unfolding table_from from_bits
-  from-none k = refl
+  from_none k = refl
 
   from_lt : (k m : ℕ) → table_from f k m < 2 ^ m
   unfolding table_from
@@ -149,36 +149,36 @@ module _ (f : ℕ → Bool) where
 
 module _ (w : ℕ) (f : ℕ → Bool) where
   pub bits_none : 0 ≡ table_from f w 0
-  bits_none = sym (from-none f w)
+  bits_none = sym (from_none f w)
 
   pub bits_small : (n j : ℕ) → 0 < j → n ≡ table_from f j (w - j) → n < 2 ^ (w - 1)
   bits_small n j h e =
       lt_of_lt_of_le (subst (λ x. x < 2 ^ (w - j)) (sym e) (from_lt f j (w - j))) (pow_mono {i = w - j} {j = w - 1} (omega arith))
 
-  pub bits-more : (n j x : ℕ) → 0 < j → j ≤ w → n ≡ table_from f j (w - j) → x ≡ digit (f (j - 1))
+  pub bits_more : (n j x : ℕ) → 0 < j → j ≤ w → n ≡ table_from f j (w - j) → x ≡ digit (f (j - 1))
       → n * 2 + x ≡ table_from f (j - 1) (w - (j - 1))
-  bits-more n j x h l e q =
+  bits_more n j x h l e q =
       let k : w - (j - 1) ≡ suc (w - j) = omega arith in
       let i : suc (j - 1) ≡ j = omega arith in
       ap₂ (λ m y. m * 2 + y) (e ∙ ap (λ t. table_from f t (w - j)) (sym i)) q ∙ sym (from_more f (j - 1) (w - j)) ∙ ap (table_from f (j - 1)) (sym k)
 
-  pub bits-done : (n j : ℕ) → j ≤ 0 → n ≡ table_from f j (w - j) → n ≡ table_from f 0 w
-  bits-done n j h e =
+  pub bits_done : (n j : ℕ) → j ≤ 0 → n ≡ table_from f j (w - j) → n ≡ table_from f 0 w
+  bits_done n j h e =
       let z : j ≡ 0 = omega arith in
       let all : w - j ≡ w = omega arith in
       e ∙ ap₂ (table_from f) z all
 
 -- a byte
 
-pub byte-none : (f : ℕ → Bool) → 0 ≡ table_from f 8 0
-byte-none = bits_none 8
+pub byte_none : (f : ℕ → Bool) → 0 ≡ table_from f 8 0
+byte_none = bits_none 8
 
 pub byte_small : (f : ℕ → Bool) (n j : ℕ) → 0 < j → n ≡ table_from f j (8 - j) → n < 128
 byte_small = bits_small 8
 
 pub byte_more : (f : ℕ → Bool) (n j x : ℕ) → 0 < j → j ≤ 8 → n ≡ table_from f j (8 - j) → x ≡ digit (f (j - 1))
     → n * 2 + x ≡ table_from f (j - 1) (8 - (j - 1))
-byte_more = bits-more 8
+byte_more = bits_more 8
 
-pub byte-done : (f : ℕ → Bool) (n j : ℕ) → j ≤ 0 → n ≡ table_from f j (8 - j) → n ≡ table_from f 0 8
-byte-done = bits-done 8
+pub byte_done : (f : ℕ → Bool) (n j : ℕ) → j ≤ 0 → n ≡ table_from f j (8 - j) → n ≡ table_from f 0 8
+byte_done = bits_done 8

@@ -20,19 +20,19 @@ pub last_or_before : (a x : ℕ) → x < a + 1 → (x ≡ a) ⊎ (x < a)
 last_or_before a x h = eq-or-lt_of_le (le_of_suc-le-suc (subst (λ n. x < n) (add-one a) h))
 
 module _ (f g : ℕ → ℕ) where
-  pub agree-none : agree f g 0 ≡ true
+  pub agree_none : agree f g 0 ≡ true
   unfolding agree
-  agree-none = refl
+  agree_none = refl
 
-  pub agree-more : (n : ℕ) → agree f g n ≡ true → f n ≡ g n → agree f g (n + 1) ≡ true
+  pub agree_more : (n : ℕ) → agree f g n ≡ true → f n ≡ g n → agree f g (n + 1) ≡ true
   unfolding agree
-  agree-more n a e = rw (add-one, a, eq-eqb (f n) (g n) e)
+  agree_more n a e = rw (add-one, a, eq-eqb (f n) (g n) e)
 
   -- a difference is found wherever it stands
-  pub agree-fails : (m n : ℕ) → n < m → (f n ≡ g n → ⊥) → agree f g m ≡ false
+  pub agree_fails : (m n : ℕ) → n < m → (f n ≡ g n → ⊥) → agree f g m ≡ false
   unfolding agree
-  agree-fails zero n h ne = absurd (omega arith)
-  agree-fails (suc m) n h ne = at (λ l. agree-fails m n l ne) (eq-or-lt_of_le (le_of_suc-le-suc h))
+  agree_fails zero n h ne = absurd (omega arith)
+  agree_fails (suc m) n h ne = at (λ l. agree_fails m n l ne) (eq-or-lt_of_le (le_of_suc-le-suc h))
     where
       at : (n < m → agree f g m ≡ false) → (n ≡ m) ⊎ (n < m) → agree f g (suc m) ≡ false
       at ih (inl e) = last (agree f g m) (eqb (f m) (g m)) (ne_eqb (f m) (g m) (λ q. ne (rw e q)))
@@ -55,23 +55,23 @@ module _ (f g : ℕ → ℕ) where
       at ih false c p q t s = absurd (false≢true t)
 
   -- equal entries agree
-  pub agree-all : (m : ℕ) → ((i : ℕ) → i < m → f i ≡ g i) → agree f g m ≡ true
+  pub agree_all : (m : ℕ) → ((i : ℕ) → i < m → f i ≡ g i) → agree f g m ≡ true
   unfolding agree
-  agree-all zero e = refl
-  agree-all (suc m) e = rw (agree-all m (λ i h. e i (omega arith)), eq-eqb (f m) (g m) (e m (omega arith)))
+  agree_all zero e = refl
+  agree_all (suc m) e = rw (agree_all m (λ i h. e i (omega arith)), eq-eqb (f m) (g m) (e m (omega arith)))
 
 module _ (p : ℕ → Bool) where
   -- as far as nothing passes, the search stands at its end
-  pub first-none : first_that p 0 ≡ 0
+  pub first_none : first_that p 0 ≡ 0
   unfolding first_that
-  first-none = refl
+  first_none = refl
 
   pub first_more : (n : ℕ) → first_that p n ≡ n → p n ≡ false → first_that p (n + 1) ≡ n + 1
   unfolding first_that
   first_more n e f = rw (add-one, e, le-ltb n n (le_refl n), f)
 
-  pub first-end : (a b : ℕ) → b ≡ a → first_that p b ≡ b → a ≡ first_that p a
-  first-end a b e q = sym (ap (first_that p) (sym e) ∙ q ∙ e)
+  pub first_end : (a b : ℕ) → b ≡ a → first_that p b ≡ b → a ≡ first_that p a
+  first_end a b e q = sym (ap (first_that p) (sym e) ∙ q ∙ e)
 
   -- and once something passes it stays there
   pub first_found : (m n : ℕ) → n < m → first_that p n ≡ n → p n ≡ true → first_that p m ≡ n
@@ -105,10 +105,10 @@ module _ (p : ℕ → Bool) where
       at ih false e true q h = q
       at ih false e false q h = absurd (omega arith)
 
-  pub first-least : (n i : ℕ) → i < first_that p n → p i ≡ false
+  pub first_least : (n i : ℕ) → i < first_that p n → p i ≡ false
   unfolding first_that
-  first-least zero i h = absurd (omega arith)
-  first-least (suc n) i h = at (first-least n i) (ltb (first_that p n) n) refl (p n) refl h
+  first_least zero i h = absurd (omega arith)
+  first_least (suc n) i h = at (first_least n i) (ltb (first_that p n) n) refl (p n) refl h
     where
       at : (i < first_that p n → p i ≡ false) → (b : Bool) → ltb (first_that p n) n ≡ b → (c : Bool) → p n ≡ c → i < cond b (first_that p n)
           (cond c n (suc n)) → p i ≡ false
@@ -134,11 +134,11 @@ last_or {P} n last rest i h = go (ℕ_discrete i n)
     go (yes e) = subst P (sym e) last
     go (no ne) = rest i (omega arith)
 
-pub all-at : (n : ℕ) (ok : ℕ → Bool) → all n ok ≡ true → (i : ℕ) → i < n → ok i ≡ true
-all-at zero ok e i h = absurd (not-suc-le-zero h)
-all-at (suc n) ok e i h =
+pub all_at : (n : ℕ) (ok : ℕ → Bool) → all n ok ≡ true → (i : ℕ) → i < n → ok i ≡ true
+all_at zero ok e i h = absurd (not-suc-le-zero h)
+all_at (suc n) ok e i h =
     let both : ok n && all n ok ≡ true = sym (all_suc n ok) ∙ e in
-    last_or n (and_left (ok n) (all n ok) both) (all-at n ok (and_right (ok n) (all n ok) both)) i h
+    last_or n (and_left (ok n) (all n ok) both) (all_at n ok (and_right (ok n) (all n ok) both)) i h
 
 pub all_of : (n : ℕ) (ok : ℕ → Bool) → ((i : ℕ) → i < n → ok i ≡ true) → all n ok ≡ true
 all_of zero ok f = refl
@@ -147,14 +147,14 @@ all_of (suc n) ok f =
 
 -- a loop that passes one number more, and one that is through
 pub all_more : (n : ℕ) (ok : ℕ → Bool) → all n ok ≡ true → ok n ≡ true → all (n + 1) ok ≡ true
-all_more n ok a e = all_of (n + 1) ok (below_more (λ i. ok i ≡ true) n (all-at n ok a) e)
+all_more n ok a e = all_of (n + 1) ok (below_more (λ i. ok i ≡ true) n (all_at n ok a) e)
 
 pub all_done : (s n : ℕ) (ok : ℕ → Bool) → s ≡ n → all s ok ≡ true → all n ok ≡ true
 all_done s n ok e a = subst (λ i. all i ok ≡ true) e a
 
 -- a loop that fails at one number fails
-pub all-fails : (n : ℕ) (ok : ℕ → Bool) (i : ℕ) → i < n → ok i ≡ false → all n ok ≡ false
-all-fails n ok i h f = elim (test (all n ok)) [ inl t ↦ clash (all-at n ok t i h) f | inr e ↦ e ]
+pub all_fails : (n : ℕ) (ok : ℕ → Bool) (i : ℕ) → i < n → ok i ≡ false → all n ok ≡ false
+all_fails n ok i h f = elim (test (all n ok)) [ inl t ↦ clash (all_at n ok t i h) f | inr e ↦ e ]
 
 pub all_not : (n : ℕ) (ok : ℕ → Bool) → all n ok ≡ false → (i : ℕ) × (i < n) × (ok i ≡ false)
 all_not zero ok e = absurd (true≢false e)
@@ -192,19 +192,19 @@ pub first_of : (ok : ℕ → Bool) (n i : ℕ) → i < n → ok i ≡ true → (
 first_of ok n i h t =
     elim (dec_lt (first_that ok n) n) [
       | yes l ↦ (l, first_passes ok n l)
-      | no k ↦ clash t (first-least ok n i (omega arith))
+      | no k ↦ clash t (first_least ok n i (omega arith))
     ]
 
 -- a loop's answer: the first number that passed, or the bound after none did
-pub first-is : (ok : ℕ → Bool) (n i : ℕ) → i < n → ok i ≡ true → ((j : ℕ) → j < i → ok j ≡ false) → first_that ok n ≡ i
-first-is ok n i h t before =
+pub first_is : (ok : ℕ → Bool) (n i : ℕ) → i < n → ok i ≡ true → ((j : ℕ) → j < i → ok j ≡ false) → first_that ok n ≡ i
+first_is ok n i h t before =
     let (b, o) = first_of ok n i h t in
     order (ℕ_discrete (first_that ok n) i) (dec_lt (first_that ok n) i) b o
   where
     order : Dec (first_that ok n ≡ i) → Dec (first_that ok n < i) → first_that ok n < n → ok (first_that ok n) ≡ true → first_that ok n ≡ i
     order (yes e) d b o = e
     order (no ne) (yes l) b o = clash o (before (first_that ok n) l)
-    order (no ne) (no nl) b o = clash t (first-least ok n i (omega arith))
+    order (no ne) (no nl) b o = clash t (first_least ok n i (omega arith))
 
 pub none_first : (ok : ℕ → Bool) (n : ℕ) → ((j : ℕ) → j < n → ok j ≡ false) → first_that ok n ≡ n
 none_first ok n none_is =
@@ -214,8 +214,8 @@ none_first ok n none_is =
     ]
 
 -- some number passes just where the search finds one
-pub any-first : (ok : ℕ → Bool) (n : ℕ) → any n ok ≡ ltb (first_that ok n) n
-any-first ok n =
+pub any_first : (ok : ℕ → Bool) (n : ℕ) → any n ok ≡ ltb (first_that ok n) n
+any_first ok n =
     elim (test (any n ok)) [
       | inl t ↦ let (i, h, o) = any_at n ok t in t ∙ sym (lt-ltb (first_that ok n) n (first_of ok n i h o).0)
       | inr f ↦ let e = none_first ok n (any_not n ok f) in f ∙ sym (le-ltb (first_that ok n) n (omega arith))
@@ -233,12 +233,12 @@ any_ext (suc n) f g e = any_suc n f ∙ ap₂ ◌||◌ (e n (omega arith)) (any_
 pub first_ext : (n : ℕ) (f g : ℕ → Bool) → ((i : ℕ) → i < n → f i ≡ g i) → first_that f n ≡ first_that g n
 first_ext n f g same =
     elim (dec_lt (first_that g n) n) [
-      | yes l ↦ first-is f n (first_that g n) l (same (first_that g n) l ∙ first_passes g n l) (λ j h. same j (omega arith) ∙ first-least g n j h)
+      | yes l ↦ first_is f n (first_that g n) l (same (first_that g n) l ∙ first_passes g n l) (λ j h. same j (omega arith) ∙ first_least g n j h)
       | no k ↦
           let e : first_that g n ≡ n = omega (arith, first_le g n) in
-          none_first f n (λ j h. same j h ∙ first-least g n j (omega arith)) ∙ sym e
+          none_first f n (λ j h. same j h ∙ first_least g n j (omega arith)) ∙ sym e
     ]
 
 -- what stands for a test of each number below n
-pub all-says : (n : ℕ) (ok : ℕ → Bool) (P : ℕ → Type 0) → ((i : ℕ) → Says (ok i) (P i)) → Says (all n ok) ((i : ℕ) → i < n → P i)
-all-says n ok P says = (λ e i h. (says i).0 (all-at n ok e i h), λ p. all_of n ok (λ i h. (says i).1 (p i h)))
+pub all_says : (n : ℕ) (ok : ℕ → Bool) (P : ℕ → Type 0) → ((i : ℕ) → Says (ok i) (P i)) → Says (all n ok) ((i : ℕ) → i < n → P i)
+all_says n ok P says = (λ e i h. (says i).0 (all_at n ok e i h), λ p. all_of n ok (λ i h. (says i).1 (p i h)))

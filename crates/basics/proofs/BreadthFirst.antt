@@ -25,7 +25,7 @@ use Rattle.basics.proofs.BoundedLaws.{last_or_before}
 use Rattle.basics.proofs.GrowingList.{index_kept}
 use Rattle.basics.proofs.EqualRows.{row_ends, length_rows, get_d_rows}
 use Rattle.basics.proofs.LentPart.{mid_before, mid_in, mid_after}
-use Rattle.basics.proofs.ReachLaws.{is_in-says, added_all}
+use Rattle.basics.proofs.ReachLaws.{is_in_says, added_all}
 
 -- ---- the search from here on is the whole search
 
@@ -100,37 +100,37 @@ module _ {K : Type 0} (same : K → K → Bool) (f : K → ℕ → K) (count : K
 
   module _ (says : (x y : K) → Says (same x y) (x ≡ y)) where
     -- everything that a step leads to is there once the steps have been taken
-    grown-there : (xs : List K) (s : K) (b : ℕ) → b < count s → is_in same (f s b) (grown_over same f (below (count s)) xs s) ≡ true
+    grown_there : (xs : List K) (s : K) (b : ℕ) → b < count s → is_in same (f s b) (grown_over same f (below (count s)) xs s) ≡ true
     unfolding grown_over
-    grown-there xs s b h =
-        (is_in-says same says (f s b) _).1
+    grown_there xs s b h =
+        (is_in_says same says (f s b) _).1
         ((added_all same says (steps_over f (below (count s)) s) xs).has (f s b) (Memᴰ.map (f s) ((in_below (count s) b).1 h)))
 
-    grown-tail : (xs : List K) (s : K) → (ys : List K) × (grown_over same f (below (count s)) xs s ≡ xs ++ ys)
+    grown_tail : (xs : List K) (s : K) → (ys : List K) × (grown_over same f (below (count s)) xs s ≡ xs ++ ys)
     unfolding grown_over
-    grown-tail xs s = let r = added_all same says (steps_over f (below (count s)) s) xs in (r.tail, r.extends)
+    grown_tail xs s = let r = added_all same says (steps_over f (below (count s)) s) xs in (r.tail, r.extends)
 
     pub grown_length : (xs : List K) (s : K) → length xs ≤ length (grown_over same f (below (count s)) xs s)
-    grown_length xs s = let t = grown-tail xs s in omega (arith, ap length t.1 ∙ length-append xs t.0)
+    grown_length xs s = let t = grown_tail xs s in omega (arith, ap length t.1 ∙ length-append xs t.0)
 
     -- one more row, written at the front of a part of k entries
     module _ (xs zs : List K) (i k : ℕ) (s : K) (rows new : List ℕ) (h : i < length xs) (at-s : get_or xs i none ≡ s)
-        (is-zs : zs ≡ grown_over same f (below (count s)) xs s) (is-new : new ≡ written (row zs s) (take k (drop (i * width) rows)))
+        (is-zs : zs ≡ grown_over same f (below (count s)) xs s) (is_new : new ≡ written (row zs s) (take k (drop (i * width) rows)))
         (few : count s ≤ k) (narrow : k ≤ width) (room : i * width + k ≤ length rows) (r : Rows xs i rows) where
       tail : (ys : List K) × (zs ≡ xs ++ ys)
-      tail = let t = grown-tail xs s in (t.0, is-zs ∙ t.1)
+      tail = let t = grown_tail xs s in (t.0, is-zs ∙ t.1)
 
       entry : (j : ℕ) → j < length xs → get_or zs j none ≡ get_or xs j none
       entry j l = ap (λ t. get_or t j none) tail.1 ∙ get_or-append xs tail.0 none j l
 
-      entry-s : (j : ℕ) → j ≡ i → get_or zs j none ≡ s
-      entry-s j e = entry j (omega arith) ∙ ap (λ n. get_or xs n none) e ∙ at-s
+      entry_s : (j : ℕ) → j ≡ i → get_or zs j none ≡ s
+      entry_s j e = entry j (omega arith) ∙ ap (λ n. get_or xs n none) e ∙ at-s
 
-      part-long : length (take k (drop (i * width) rows)) ≡ k
-      part-long = length-take-le k (drop (i * width) rows) (omega (arith, length-drop (i * width) rows))
+      part_long : length (take k (drop (i * width) rows)) ≡ k
+      part_long = length-take-le k (drop (i * width) rows) (omega (arith, length-drop (i * width) rows))
 
       long : length new ≡ k
-      long = ap length is-new ∙ written_length (row zs s) (take k (drop (i * width) rows)) (omega (arith, length_row zs s, part-long)) ∙ part-long
+      long = ap length is_new ∙ written_length (row zs s) (take k (drop (i * width) rows)) (omega (arith, length_row zs s, part_long)) ∙ part_long
 
       abbrev rows' : List ℕ
       rows' = put_mid (i * width) k rows new
@@ -138,14 +138,14 @@ module _ {K : Type 0} (same : K → K → Bool) (f : K → ℕ → K) (count : K
       -- its entries, and those of the part behind them
       here : (b : ℕ) → b < count s → get_or rows' (i * width + b) 0 ≡ index_in same (f s b) zs
       here b l =
-          mid_in rows (i * width) k new room long b (omega arith) ∙ ap (λ t. get_or t b 0) is-new
+          mid_in rows (i * width) k new room long b (omega arith) ∙ ap (λ t. get_or t b 0) is_new
           ∙ get_or-append (row zs s) _ 0 b (subst (λ n. b < n) (sym (length_row zs s)) l) ∙ get_d_row zs s b l
 
       after : (b : ℕ) → count s ≤ b → b < width → get_or rows' (i * width + b) 0 ≡ 0
       after b l m =
           elim (dec_lt b k) [
             | yes q ↦
-                mid_in rows (i * width) k new room long b q ∙ ap (λ t. get_or t b 0) is-new
+                mid_in rows (i * width) k new room long b q ∙ ap (λ t. get_or t b 0) is_new
                 ∙ written_behind (row zs s) (take k (drop (i * width) rows)) b (omega (arith, length_row zs s))
                 ∙ get_or-take k (drop (i * width) rows) b 0 q ∙ get_or-drop (i * width) rows b 0 ∙ r.behind i b (omega arith) m
             | no q ↦ mid_after rows (i * width) k new room long (i * width + b) (omega arith) ∙ r.behind i b (omega arith) m
@@ -171,22 +171,22 @@ module _ {K : Type 0} (same : K → K → Bool) (f : K → ℕ → K) (count : K
 
           there : (j b : ℕ) → b < count (get_or zs j none) → (j ≡ i) ⊎ (j < i) → is_in same (f (get_or zs j none) b) zs ≡ true
           there j b m (inl e) =
-              ap₂ (λ t u. is_in same (f t b) u) (entry-s j e) is-zs ∙ grown-there xs s b (subst (λ t. b < count t) (entry-s j e) m)
+              ap₂ (λ t u. is_in same (f t b) u) (entry_s j e) is-zs ∙ grown_there xs s b (subst (λ t. b < count t) (entry_s j e) m)
           there j b m (inr l) =
               ap₂ (λ t u. is_in same (f t b) u) (entry j (omega arith)) tail.1
               ∙ (index_kept same (f (get_or xs j none) b) xs tail.0 (r.there j b l (old j b l m))).1
 
           number : (j b : ℕ) → b < count (get_or zs j none) → (j ≡ i) ⊎ (j < i) → get_or rows' (j * width + b) 0 ≡ index_in same (f (get_or zs j none) b) zs
           number j b m (inl e) =
-              ap (λ n. get_or rows' (n * width + b) 0) e ∙ here b (subst (λ t. b < count t) (entry-s j e) m)
-              ∙ ap (λ t. index_in same (f t b) zs) (sym (entry-s j e))
+              ap (λ n. get_or rows' (n * width + b) 0) e ∙ here b (subst (λ t. b < count t) (entry_s j e) m)
+              ∙ ap (λ t. index_in same (f t b) zs) (sym (entry_s j e))
           number j b m (inr l) =
               earlier j b l (lt_of_lt_of_le m (wide (get_or zs j none))) ∙ r.number j b l (old j b l m)
               ∙ sym (ap₂ (λ t u. index_in same (f t b) u) (entry j (omega arith)) tail.1
               ∙ (index_kept same (f (get_or xs j none) b) xs tail.0 (r.there j b l (old j b l m))).0)
 
           rest : (j b : ℕ) → count (get_or zs j none) ≤ b → b < width → (j ≡ i) ⊎ (j < i) → get_or rows' (j * width + b) 0 ≡ 0
-          rest j b m n (inl e) = ap (λ n. get_or rows' (n * width + b) 0) e ∙ after b (subst (λ t. count t ≤ b) (entry-s j e) m) n
+          rest j b m n (inl e) = ap (λ n. get_or rows' (n * width + b) 0) e ∙ after b (subst (λ t. count t ≤ b) (entry_s j e) m) n
           rest j b m n (inr l) = earlier j b l n ∙ r.rest j b l (subst (λ t. count t ≤ b) (entry j (omega arith)) m) n
 
   -- all rows

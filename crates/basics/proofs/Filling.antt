@@ -24,14 +24,14 @@ table_more n f d w v l e q =
     ∙ ap (λ t. t ++ drop (n + 1) d) (sym (tabulate_suc n f) ∙ ap (λ m. tabulate m f) (sym (add-one n)))
 
 -- all is written
-pub table-all : (n m : ℕ) (f : ℕ → ℕ) (d w : List ℕ) → n ≡ m → length d ≡ m → w ≡ tabulate n f ++ drop n d → w ≡ tabulate m f
-table-all n m f d w q l e =
+pub table_all : (n m : ℕ) (f : ℕ → ℕ) (d w : List ℕ) → n ≡ m → length d ≡ m → w ≡ tabulate n f ++ drop n d → w ≡ tabulate m f
+table_all n m f d w q l e =
     e ∙ ap (λ k. tabulate k f ++ drop k d) (q ∙ sym l) ∙ ap (λ r. tabulate (length d) f ++ r) (drop-length d)
     ∙ append-nil (tabulate (length d) f) ∙ ap (λ k. tabulate k f) l
 
 -- the entries behind stay
-pub front-behind : (p d w : List ℕ) (n i : ℕ) → length p ≡ n → n ≤ i → w ≡ p ++ drop n d → get_or w i 0 ≡ get_or d i 0
-front-behind p d w n i e h q =
+pub front_behind : (p d w : List ℕ) (n i : ℕ) → length p ≡ n → n ≤ i → w ≡ p ++ drop n d → get_or w i 0 ≡ get_or d i 0
+front_behind p d w n i e h q =
     let here : i ≡ length p + (i - n) = omega arith in
     let back : n + (i - n) ≡ i = omega arith in
     ap₂ (λ l j. get_or l j 0) q here ∙ get_or-append-add p (drop n d) (i - n) 0 ∙ get_or-drop n d (i - n) 0 ∙ ap (λ j. get_or d j 0) back

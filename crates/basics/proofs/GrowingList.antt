@@ -100,9 +100,9 @@ module _ {A : Type 0} (same : A → A → Bool) where
         ∙ foldl-append (add_new same) xs (map f (below a)) (f a ∷ [])
 
     -- a list never gets shorter
-    pub all-longer : (k n : ℕ) → k ≤ n → length (add_all same xs (map f (below k))) ≤ length (add_all same xs (map f (below n)))
-    all-longer k zero h = let e : k ≡ 0 = omega arith in rw e (omega arith)
-    all-longer k (suc n) h = at (λ l. all-longer k n l) (eq-or-lt_of_le h)
+    pub all_longer : (k n : ℕ) → k ≤ n → length (add_all same xs (map f (below k))) ≤ length (add_all same xs (map f (below n)))
+    all_longer k zero h = let e : k ≡ 0 = omega arith in rw e (omega arith)
+    all_longer k (suc n) h = at (λ l. all_longer k n l) (eq-or-lt_of_le h)
       where
         at : (k ≤ n → length (add_all same xs (map f (below k))) ≤ length (add_all same xs (map f (below n)))) → (k ≡ suc n) ⊎ (k < suc n)
             → length (add_all same xs (map f (below k))) ≤ length (add_all same xs (map f (below (suc n))))

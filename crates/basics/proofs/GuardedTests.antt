@@ -8,7 +8,7 @@ use lib.Dec.{leb, ltb}
 use borrow.Author.Tests.{leb-true, leb-false, lt-ltb, le-ltb, not-true, not-false}
 use Rattle.basics.specs.Bounded.{all}
 use Rattle.basics.proofs.Booleans.{or_left, or_right}
-use Rattle.basics.proofs.BoundedLaws.{all-fails, all_more, all_done}
+use Rattle.basics.proofs.BoundedLaws.{all_fails, all_more, all_done}
 
 -- ---- two tests in front of a third: a holds, and k is below n
 
@@ -27,8 +27,8 @@ guarded s a k n e f = (sym e ∙ not-false a (or_left (not a) (leb n k) f), leb-
 -- ---- a test in front of another
 
 module _ (whole x y a : Bool) (is : whole ≡ (x && y)) (e : a ≡ x) where
-  pub first-fails : not a ≡ true → false ≡ whole
-  first-fails f = sym (is ∙ ap (λ b. b && y) (sym e ∙ not-true a f))
+  pub first_fails : not a ≡ true → false ≡ whole
+  first_fails f = sym (is ∙ ap (λ b. b && y) (sym e ∙ not-true a f))
 
   pub then_second : not a ≡ false → (b : Bool) → b ≡ y → b ≡ whole
   then_second f b q = q ∙ sym (is ∙ ap (λ c. c && y) (sym e ∙ not-false a f))
@@ -39,11 +39,11 @@ module _ (whole x a : Bool) (count : ℕ) (each : ℕ → Bool) (is : whole ≡ 
   whole_is : whole ≡ all n each
   whole_is = sym (then_second whole x (all count each) a is e f (all n each) (ap (λ k. all k each) m))
 
-  pub each-fails : (s : ℕ) → s < n → (b : Bool) → b ≡ each s → not b ≡ true → false ≡ whole
-  each-fails s h b q g = sym (whole_is ∙ all-fails n each s h (sym q ∙ not-true b g))
+  pub each_fails : (s : ℕ) → s < n → (b : Bool) → b ≡ each s → not b ≡ true → false ≡ whole
+  each_fails s h b q g = sym (whole_is ∙ all_fails n each s h (sym q ∙ not-true b g))
 
-  pub each-passes : (s : ℕ) → s ≤ n → n ≤ s → all s each ≡ true → true ≡ whole
-  each-passes s h g l = sym (whole_is ∙ all_done s n each (omega arith) l)
+  pub each_passes : (s : ℕ) → s ≤ n → n ≤ s → all s each ≡ true → true ≡ whole
+  each_passes s h g l = sym (whole_is ∙ all_done s n each (omega arith) l)
 
 pub each_more : (each : ℕ → Bool) (s : ℕ) (b : Bool) → b ≡ each s → not b ≡ false → all s each ≡ true → all (s + 1) each ≡ true
 each_more each s b q f l = all_more s each l (sym q ∙ not-false b f)

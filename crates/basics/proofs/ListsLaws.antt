@@ -42,18 +42,18 @@ tabulate_append (suc m) n f g e =
     ap (λ l. f 0 ∷ l) (tabulate_append m n (λ k. f (suc k)) g (λ k h. e k h ∙ ap f (omega arith))) ∙ ap (λ x. tabulate x f) more
 
 -- a table written over the front of another
-pub table-over : (n m : ℕ) (f g h : ℕ → ℕ) → n ≤ m → ((i : ℕ) → i < n → f i ≡ h i) → ((i : ℕ) → n ≤ i → g i ≡ h i)
+pub table_over : (n m : ℕ) (f g h : ℕ → ℕ) → n ≤ m → ((i : ℕ) → i < n → f i ≡ h i) → ((i : ℕ) → n ≤ i → g i ≡ h i)
     → tabulate n f ++ drop n (tabulate m g) ≡ tabulate m h
-table-over zero m f g h l e d = tabulate_ext m g h (λ i b. d i (omega arith))
-table-over (suc n) zero f g h l e d = absurd (omega arith)
-table-over (suc n) (suc m) f g h l e d =
+table_over zero m f g h l e d = tabulate_ext m g h (λ i b. d i (omega arith))
+table_over (suc n) zero f g h l e d = absurd (omega arith)
+table_over (suc n) (suc m) f g h l e d =
     ap₂ (λ x xs. x ∷ xs) (e 0 (omega arith))
-    (table-over n m (λ k. f (suc k)) (λ k. g (suc k)) (λ k. h (suc k)) (omega arith) (λ i b. e (suc i) (omega arith)) (λ i b. d (suc i) (omega arith)))
+    (table_over n m (λ k. f (suc k)) (λ k. g (suc k)) (λ k. h (suc k)) (omega arith) (λ i b. e (suc i) (omega arith)) (λ i b. d (suc i) (omega arith)))
 
 -- a table of zeros
-pub table-zeros : (n : ℕ) → tabulate {A = ℕ} n (λ i. 0) ≡ replicate n 0
-table-zeros zero = refl
-table-zeros (suc n) = ap (λ l. 0 ∷ l) (table-zeros n)
+pub table_zeros : (n : ℕ) → tabulate {A = ℕ} n (λ i. 0) ≡ replicate n 0
+table_zeros zero = refl
+table_zeros (suc n) = ap (λ l. 0 ∷ l) (table_zeros n)
 
 -- a table with other entries behind it
 pub get_d_table : (f : ℕ → ℕ) (n i : ℕ) (r : List ℕ) → i < n → get_or (tabulate n f ++ r) i 0 ≡ f i
@@ -130,20 +130,20 @@ written_length front l h =
     length-append front (drop (length front) l) ∙ ap (λ m. length front + m) (length-drop (length front) l) ∙ omega arith
 
 -- and is all of it, if it is as long
-pub written-whole : {A : Type 0} (front l : List A) → length front ≡ length l → written front l ≡ front
-written-whole front l e = ap (λ t. front ++ t) (drop_of_length-le l {i = length front} (omega arith)) ∙ append-nil front
+pub written_whole : {A : Type 0} (front l : List A) → length front ≡ length l → written front l ≡ front
+written_whole front l e = ap (λ t. front ++ t) (drop_of_length-le l {i = length front} (omega arith)) ∙ append-nil front
 
 -- behind what is written all is as it was
-pub written-rest : {A : Type 0} (front l : List A) (n : ℕ) → length front ≡ n → drop n (written front l) ≡ drop n l
-written-rest front l n e = subst (λ k. drop k (written front l) ≡ drop k l) e (drop-append_seam front (drop (length front) l))
+pub written_rest : {A : Type 0} (front l : List A) (n : ℕ) → length front ≡ n → drop n (written front l) ≡ drop n l
+written_rest front l n e = subst (λ k. drop k (written front l) ≡ drop k l) e (drop-append_seam front (drop (length front) l))
 
 -- and what is written stands at the front
 module _ (front l after : List ℕ) (n : ℕ) (long : n ≡ length front) (is : after ≡ written front l) where
   pub front_in : n ≤ length after
   front_in = omega (arith, ap length is, length-append front (drop (length front) l))
 
-  pub front-taken : take n after ≡ front
-  front-taken = ap₂ take long is ∙ take_at front (drop (length front) l) (length front) refl
+  pub front_taken : take n after ≡ front
+  front_taken = ap₂ take long is ∙ take_at front (drop (length front) l) (length front) refl
 
   pub taken_length : n ≡ length (take n after)
-  taken_length = long ∙ sym (ap length front-taken)
+  taken_length = long ∙ sym (ap length front_taken)

@@ -84,18 +84,18 @@ module _ {A : Type 0} where
   distinct_take (suc n) (distinct_cons {xs = ys} fresh d) = distinct_cons (λ m. fresh (in_take n ys m)) (distinct_take n d)
 
   -- its entries differ ..
-  pub distinct-at : {xs : List A} → Distinct xs → (i j : ℕ) (e : A) → i < j → j < length xs → get_or xs i e ≡ get_or xs j e → ⊥
-  distinct-at distinct_nil i j e h l p = absurd (omega arith)
-  distinct-at (distinct_cons fresh d) zero zero e h l p = absurd (omega arith)
-  distinct-at (distinct_cons {xs = xs} fresh d) zero (suc j) e h l p = fresh (Memᴰ.cast p (get_d_in xs j e (le_of_suc-le-suc l)))
-  distinct-at (distinct_cons fresh d) (suc i) zero e h l p = absurd (omega arith)
-  distinct-at (distinct_cons fresh d) (suc i) (suc j) e h l p = distinct-at d i j e (le_of_suc-le-suc h) (le_of_suc-le-suc l) p
+  pub distinct_at : {xs : List A} → Distinct xs → (i j : ℕ) (e : A) → i < j → j < length xs → get_or xs i e ≡ get_or xs j e → ⊥
+  distinct_at distinct_nil i j e h l p = absurd (omega arith)
+  distinct_at (distinct_cons fresh d) zero zero e h l p = absurd (omega arith)
+  distinct_at (distinct_cons {xs = xs} fresh d) zero (suc j) e h l p = fresh (Memᴰ.cast p (get_d_in xs j e (le_of_suc-le-suc l)))
+  distinct_at (distinct_cons fresh d) (suc i) zero e h l p = absurd (omega arith)
+  distinct_at (distinct_cons fresh d) (suc i) (suc j) e h l p = distinct_at d i j e (le_of_suc-le-suc h) (le_of_suc-le-suc l) p
 
   pub distinct_index : {xs : List A} → Distinct xs → (i j : ℕ) (e : A) → i < length xs → j < length xs → get_or xs i e ≡ get_or xs j e → i ≡ j
   distinct_index d i j e ib jb p =
       elim (dec_lt i j) [
-        | yes l ↦ absurd (distinct-at d i j e l jb p)
-        | no k ↦ elim (dec_lt j i) [ yes l ↦ absurd (distinct-at d j i e l ib (sym p)) | no m ↦ omega arith ]
+        | yes l ↦ absurd (distinct_at d i j e l jb p)
+        | no k ↦ elim (dec_lt j i) [ yes l ↦ absurd (distinct_at d j i e l ib (sym p)) | no m ↦ omega arith ]
       ]
 
   -- .. and a list of different entries is one

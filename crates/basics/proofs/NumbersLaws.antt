@@ -20,9 +20,9 @@ use Rattle.basics.proofs.Booleans.{cond_elim}
 -- a byte behind a number
 
 module _ (n b : ℕ) where
-  pub digit-more : 48 ≤ b → b < 58 → n * 10 + (b - 48) < number_limit → Value (n * 10 + (b - 48)) ≡ with_digit (Value n) b
+  pub digit_more : 48 ≤ b → b < 58 → n * 10 + (b - 48) < number_limit → Value (n * 10 + (b - 48)) ≡ with_digit (Value n) b
   unfolding with_digit is_digit
-  digit-more h k m = rw (le-leb 48 b h, lt-ltb b 58 k, lt-ltb (n * 10 + (b - 48)) number_limit m) refl
+  digit_more h k m = rw (le-leb 48 b h, lt-ltb b 58 k, lt-ltb (n * 10 + (b - 48)) number_limit m) refl
 
   pub digit_large : number_limit ≤ n * 10 + (b - 48) → Bad ≡ with_digit (Value n) b
   unfolding with_digit
@@ -36,39 +36,39 @@ module _ (n b : ℕ) where
   unfolding with_digit is_digit
   digit_low h = rw (lt-leb 48 b h) refl
 
-  pub digit-high : 58 ≤ b → Bad ≡ with_digit (Value n) b
+  pub digit_high : 58 ≤ b → Bad ≡ with_digit (Value n) b
   unfolding with_digit is_digit
-  digit-high h =
+  digit_high h =
       let l : 48 ≤ b = omega arith in
       rw (le-leb 48 b l, le-ltb b 58 h) refl
 
 -- the digits from a place on
 
-pub number-none : (s : List ℕ) → length s ≡ 0 → Bad ≡ number_in s
+pub number_none : (s : List ℕ) → length s ≡ 0 → Bad ≡ number_in s
 unfolding number_in
-number-none [] e = refl
-number-none (b ∷ s) e = absurd (omega (arith, e))
+number_none [] e = refl
+number_none (b ∷ s) e = absurd (omega (arith, e))
 
-pub number-some : (s : List ℕ) → (length s ≡ 0 → ⊥) → number_in s ≡ foldl with_digit (Value 0) s
+pub number_some : (s : List ℕ) → (length s ≡ 0 → ⊥) → number_in s ≡ foldl with_digit (Value 0) s
 unfolding number_in
-number-some [] n = absurd (n refl)
-number-some (b ∷ s) n = refl
+number_some [] n = absurd (n refl)
+number_some (b ∷ s) n = refl
 
-stays-bad : (s : List ℕ) → foldl with_digit Bad s ≡ Bad
+stays_bad : (s : List ℕ) → foldl with_digit Bad s ≡ Bad
 unfolding with_digit
-stays-bad [] = refl
-stays-bad (b ∷ s) = stays-bad s
+stays_bad [] = refl
+stays_bad (b ∷ s) = stays_bad s
 
 module _ (s : List ℕ) (i : ℕ) (x : Number) where
   pub number_more : (y : Number) → i < length s → y ≡ with_digit x (get_or s i 0)
       → foldl with_digit x (drop i s) ≡ foldl with_digit y (drop (i + 1) s)
   number_more y h e = rw (drop-cons s i 0 h, e, add-one) refl
 
-  pub number-bad : i < length s → Bad ≡ with_digit x (get_or s i 0) → Bad ≡ foldl with_digit x (drop i s)
-  number-bad h e = sym (number_more Bad h e ∙ stays-bad (drop (i + 1) s))
+  pub number_bad : i < length s → Bad ≡ with_digit x (get_or s i 0) → Bad ≡ foldl with_digit x (drop i s)
+  number_bad h e = sym (number_more Bad h e ∙ stays_bad (drop (i + 1) s))
 
-  pub number-end : length s ≤ i → x ≡ foldl with_digit x (drop i s)
-  number-end h = rw (drop_of_length-le s h) refl
+  pub number_end : length s ≤ i → x ≡ foldl with_digit x (drop i s)
+  number_end h = rw (drop_of_length-le s h) refl
 
 -- a number is below the limit
 
@@ -76,27 +76,27 @@ abbrev Below : Number → Type 0
 Below (Value n) = n < number_limit
 Below Bad = Unit
 
-step-below : (x : Number) (b : ℕ) → Below (with_digit x b)
+step_below : (x : Number) (b : ℕ) → Below (with_digit x b)
 unfolding with_digit
-step-below Bad b = tt
-step-below (Value n) b = by-test (is_digit b) (ltb (n * 10 + (b - 48)) number_limit) refl
+step_below Bad b = tt
+step_below (Value n) b = by_test (is_digit b) (ltb (n * 10 + (b - 48)) number_limit) refl
   where
-    by-test : (t u : Bool) → ltb (n * 10 + (b - 48)) number_limit ≡ u → Below (cond (t && u) (Value (n * 10 + (b - 48))) Bad)
-    by-test true true e = ltb-true (n * 10 + (b - 48)) number_limit e
-    by-test true false e = tt
-    by-test false u e = tt
+    by_test : (t u : Bool) → ltb (n * 10 + (b - 48)) number_limit ≡ u → Below (cond (t && u) (Value (n * 10 + (b - 48))) Bad)
+    by_test true true e = ltb-true (n * 10 + (b - 48)) number_limit e
+    by_test true false e = tt
+    by_test false u e = tt
 
 fold_below : (s : List ℕ) (x : Number) → Below x → Below (foldl with_digit x s)
 fold_below [] x h = h
-fold_below (b ∷ s) x h = fold_below s (with_digit x b) (step-below x b)
+fold_below (b ∷ s) x h = fold_below s (with_digit x b) (step_below x b)
 
-pub number-below : (s : List ℕ) (n : ℕ) → Value n ≡ number_in s → n < number_limit
+pub number_below_lem : (s : List ℕ) (n : ℕ) → Value n ≡ number_in s → n < number_limit
 unfolding number_in
-number-below s n e = subst Below (sym e) (in_below s)
+number_below_lem s n e = subst Below (sym e) (in_below s)
   where
     in_below : (s : List ℕ) → Below (number_in s)
     in_below [] = tt
-    in_below (b ∷ s) = fold_below s (with_digit (Value 0) b) (step-below (Value 0) b)
+    in_below (b ∷ s) = fold_below s (with_digit (Value 0) b) (step_below (Value 0) b)
 
 -- ---- a decimal is read back
 
@@ -108,45 +108,45 @@ fold_digits : (k n : ℕ) → n ≤ k → n < number_limit → foldl with_digit 
 unfolding digits
 fold_digits zero n h l =
     let e : 0 * 10 + (48 + n - 48) ≡ n = omega arith in
-    sym (digit-more 0 (48 + n) (omega arith) (omega arith) (omega arith)) ∙ ap Value e
+    sym (digit_more 0 (48 + n) (omega arith) (omega arith) (omega arith)) ∙ ap Value e
 fold_digits (suc k) n h l =
     elim (dec_lt n 10) [
       | yes s ↦
           let e : 0 * 10 + (48 + n - 48) ≡ n = omega arith in
-          rw (lt-ltb n 10 s) (sym (digit-more 0 (48 + n) (omega arith) (omega arith) (omega arith)) ∙ ap Value e)
+          rw (lt-ltb n 10 s) (sym (digit_more 0 (48 + n) (omega arith) (omega arith) (omega arith)) ∙ ap Value e)
       | no m ↦
           let e : n / 10 * 10 + (48 + n % 10 - 48) ≡ n = omega arith in
           rw (le-ltb n 10 (omega arith))
           (fold_append (Value 0) (digits k (n / 10)) ((48 + n % 10) ∷ [])
           ∙ ap (λ x. with_digit x (48 + n % 10)) (fold_digits k (n / 10) (omega arith) (omega arith))
-          ∙ sym (digit-more (n / 10) (48 + n % 10) (omega arith) (omega arith) (omega arith)) ∙ ap Value e)
+          ∙ sym (digit_more (n / 10) (48 + n % 10) (omega arith) (omega arith) (omega arith)) ∙ ap Value e)
     ]
 
-some-digit : (k n : ℕ) → length (digits k n) ≡ 0 → ⊥
+some_digit : (k n : ℕ) → length (digits k n) ≡ 0 → ⊥
 unfolding digits
-some-digit zero n e = omega (arith, e)
-some-digit (suc k) n e =
+some_digit zero n e = omega (arith, e)
+some_digit (suc k) n e =
     elim (dec_lt n 10) [
       | yes s ↦ absurd (omega (arith, rw (lt-ltb n 10 s) at e))
       | no m ↦ absurd (omega (arith, length-append (digits k (n / 10)) ((48 + n % 10) ∷ []), rw (le-ltb n 10 (omega arith)) at e))
     ]
 
-pub decimal-some : (n : ℕ) → length (decimal n) ≡ 0 → ⊥
-decimal-some n = some-digit n n
+pub decimal_some : (n : ℕ) → length (decimal n) ≡ 0 → ⊥
+decimal_some n = some_digit n n
 
-pub number-decimal : (n : ℕ) → n < number_limit → number_in (decimal n) ≡ Value n
-number-decimal n h = number-some (decimal n) (decimal-some n) ∙ fold_digits n n (omega arith) h
+pub number_decimal : (n : ℕ) → n < number_limit → number_in (decimal n) ≡ Value n
+number_decimal n h = number_some (decimal n) (decimal_some n) ∙ fold_digits n n (omega arith) h
 
 -- ---- numbers below a limit
 
-pub below-is : (limit : ℕ) (s : List ℕ) (n : ℕ) → Value n ≡ number_in s → n < limit → n ≡ number_below limit s
-below-is limit s n e h = rw (sym e, lt-ltb n limit h) refl
+pub below_is : (limit : ℕ) (s : List ℕ) (n : ℕ) → Value n ≡ number_in s → n < limit → n ≡ number_below limit s
+below_is limit s n e h = rw (sym e, lt-ltb n limit h) refl
 
 pub below_not : (limit : ℕ) (s : List ℕ) (n : ℕ) → Value n ≡ number_in s → limit ≤ n → 0 ≡ number_below limit s
 below_not limit s n e h = rw (sym e, le-ltb n limit h) refl
 
-pub below-bad : (limit : ℕ) (s : List ℕ) → Bad ≡ number_in s → 0 ≡ number_below limit s
-below-bad limit s e = rw (sym e) refl
+pub below_bad : (limit : ℕ) (s : List ℕ) → Bad ≡ number_in s → 0 ≡ number_below limit s
+below_bad limit s e = rw (sym e) refl
 
 pub below_lt : (limit : ℕ) (s : List ℕ) → 0 < limit → number_below limit s < limit
 below_lt limit s h = of (number_in s)
@@ -164,5 +164,5 @@ below_le zero s = of (number_in s)
     of Bad = omega arith
 below_le (suc limit) s = omega (arith, below_lt (suc limit) s (omega arith))
 
-pub below-decimal : (limit n : ℕ) → n < limit → n < number_limit → number_below limit (decimal n) ≡ n
-below-decimal limit n h l = sym (below-is limit (decimal n) n (sym (number-decimal n l)) h)
+pub below_decimal : (limit n : ℕ) → n < limit → n < number_limit → number_below limit (decimal n) ≡ n
+below_decimal limit n h l = sym (below_is limit (decimal n) n (sym (number_decimal n l)) h)

@@ -25,17 +25,17 @@ module _ (p : ℕ → Bool) where
     piece_is = let e : at + run p (drop at text) - at ≡ run p (drop at text) = omega arith in rw e refl
 
     -- a byte that parts ends it
-    pub behind-byte : drop (past p text at + 1) text ≡ behind p (drop at text)
+    pub behind_byte : drop (past p text at + 1) text ≡ behind p (drop at text)
     unfolding past behind
-    behind-byte =
+    behind_byte =
         let r = run p (drop at text) in
         let e : at + r + 1 ≡ at + (r + 1) = omega arith in
         ap (λ (k : ℕ). drop k text) e ∙ sym (drop-drop (r + 1) at text)
 
     -- the text's end does
-    pub behind-end : length text ≤ past p text at → drop (past p text at) text ≡ behind p (drop at text)
+    pub behind_end : length text ≤ past p text at → drop (past p text at) text ≡ behind p (drop at text)
     unfolding past behind
-    behind-end h =
+    behind_end h =
         let r = run p (drop at text) in
         let g : length text ≤ at + (r + 1) = omega (arith, h) in
         drop_of_length-le text h ∙ sym (drop-drop (r + 1) at text ∙ drop_of_length-le text g)
@@ -54,36 +54,36 @@ module _ (p : ℕ → Bool) where
   unparted_append [] b u v = v
   unparted_append (x ∷ a) b (e, u) v = (e, unparted_append a b u v)
 
-  run-all : (b : List ℕ) → Unparted p b → run p b ≡ length b
+  run_all : (b : List ℕ) → Unparted p b → run p b ≡ length b
   unfolding run
-  run-all [] u = refl
-  run-all (x ∷ b) (e, u) = run_true p x b e ∙ ap suc (run-all b u)
+  run_all [] u = refl
+  run_all (x ∷ b) (e, u) = run_true p x b e ∙ ap suc (run_all b u)
 
   module _ (x : ℕ) (parts : p x ≡ false) (rest : List ℕ) where
-    run-to : (b : List ℕ) → Unparted p b → run p (b ++ (x ∷ rest)) ≡ length b
-    run-to [] u = run_false p x rest parts
-    run-to (y ∷ b) (e, u) = run_true p y (b ++ (x ∷ rest)) e ∙ ap suc (run-to b u)
+    run_to : (b : List ℕ) → Unparted p b → run p (b ++ (x ∷ rest)) ≡ length b
+    run_to [] u = run_false p x rest parts
+    run_to (y ∷ b) (e, u) = run_true p y (b ++ (x ∷ rest)) e ∙ ap suc (run_to b u)
 
-    pub piece-first : (b : List ℕ) → Unparted p b → piece p (b ++ (x ∷ rest)) ≡ b
+    pub piece_first : (b : List ℕ) → Unparted p b → piece p (b ++ (x ∷ rest)) ≡ b
     unfolding piece
-    piece-first b u = ap (λ n. take n (b ++ (x ∷ rest))) (run-to b u) ∙ take-append_seam b (x ∷ rest)
+    piece_first b u = ap (λ n. take n (b ++ (x ∷ rest))) (run_to b u) ∙ take-append_seam b (x ∷ rest)
 
-    pub behind-first : (b : List ℕ) → Unparted p b → behind p (b ++ (x ∷ rest)) ≡ rest
+    pub behind_first : (b : List ℕ) → Unparted p b → behind p (b ++ (x ∷ rest)) ≡ rest
     unfolding behind
-    behind-first b u = ap (λ n. drop (n + 1) (b ++ (x ∷ rest))) (run-to b u) ∙ drop-append-add b (x ∷ rest) 1
+    behind_first b u = ap (λ n. drop (n + 1) (b ++ (x ∷ rest))) (run_to b u) ∙ drop-append-add b (x ∷ rest) 1
 
   -- the last piece is not ended
-  pub piece-last : (b : List ℕ) → Unparted p b → piece p b ≡ b
+  pub piece_last : (b : List ℕ) → Unparted p b → piece p b ≡ b
   unfolding piece
-  piece-last b u = ap (λ n. take n b) (run-all b u) ∙ take-length b
+  piece_last b u = ap (λ n. take n b) (run_all b u) ∙ take-length b
 
-  pub behind-last : (b : List ℕ) → Unparted p b → behind p b ≡ []
+  pub behind_last : (b : List ℕ) → Unparted p b → behind p b ≡ []
   unfolding behind
-  behind-last b u = drop_of_length-le b {i = run p b + 1} (omega (arith, run-all b u))
+  behind_last b u = drop_of_length-le b {i = run p b + 1} (omega (arith, run_all b u))
 
-  pub behind-none : (k : ℕ) → behind_all p k [] ≡ []
-  behind-none zero = refl
-  behind-none (suc k) = ap (behind_all p k) (behind-last [] tt) ∙ behind-none k
+  pub behind_none : (k : ℕ) → behind_all p k [] ≡ []
+  behind_none zero = refl
+  behind_none (suc k) = ap (behind_all p k) (behind_last [] tt) ∙ behind_none k
 
   -- ---- numbers and fields
 
@@ -123,13 +123,13 @@ module _ (p : ℕ → Bool) where
 pub field_of : (word : List ℕ) (fs : List (List ℕ)) → Unparted not_tab word → AllUnparted not_tab fs → (k : ℕ)
     → field_at k (word ++ flat_map field fs) ≡ get_or (word ∷ fs) k []
 unfolding flat_map
-field_of word [] u us zero = ap (piece not_tab) (append-nil word) ∙ piece-last not_tab word u
+field_of word [] u us zero = ap (piece not_tab) (append-nil word) ∙ piece_last not_tab word u
 field_of word [] u us (suc k) =
     ap (λ s. piece not_tab (behind_all not_tab k (behind not_tab s))) (append-nil word)
-    ∙ ap (λ s. piece not_tab (behind_all not_tab k s)) (behind-last not_tab word u)
-    ∙ ap (piece not_tab) (behind-none not_tab k)
-    ∙ piece-last not_tab [] tt
-field_of word (f ∷ fs) u (v, us) zero = piece-first not_tab 9 refl (f ++ flat_map field fs) word u
+    ∙ ap (λ s. piece not_tab (behind_all not_tab k s)) (behind_last not_tab word u)
+    ∙ ap (piece not_tab) (behind_none not_tab k)
+    ∙ piece_last not_tab [] tt
+field_of word (f ∷ fs) u (v, us) zero = piece_first not_tab 9 refl (f ++ flat_map field fs) word u
 field_of word (f ∷ fs) u (v, us) (suc k) =
-    ap (λ s. piece not_tab (behind_all not_tab k s)) (behind-first not_tab 9 refl (f ++ flat_map field fs) word u)
+    ap (λ s. piece not_tab (behind_all not_tab k s)) (behind_first not_tab 9 refl (f ++ flat_map field fs) word u)
     ∙ field_of f fs v us k

@@ -14,15 +14,15 @@ use lib.Seq.{length-take-le}
 use borrow.Author.Tests.{ltb-true, ltb-false, le-ltb, eqb-true, eqb-false, eq-eqb, ne_eqb}
 use Rattle.basics.specs.Says.{Says}
 use Rattle.basics.specs.Member.{◌∈◌, Distinct, distinct_nil, distinct_cons}
-use Rattle.basics.specs.Reach.{Listing, closed, over, is_in, add_new, add_all, explore, reachable, Reached, reached-first, reached-step, Enumerates, AtLeast, Spelled, index_in}
+use Rattle.basics.specs.Reach.{Listing, closed, over, is_in, add_new, add_all, explore, reachable, Reached, reached_first, reached_step, Enumerates, AtLeast, Spelled, index_in}
 use Rattle.basics.proofs.Booleans.{cond_elim}
 use Rattle.basics.proofs.MemberLaws.{index_of_lem, get_d_in, distinct_snoc, in_take, distinct_take, distinct_length_le}
 
-module _ {A : Type 0} (same : A → A → Bool) (same-says : (x y : A) → Says (same x y) (x ≡ y)) where
-  pub is_in-says : (x : A) (xs : List A) → Says (is_in same x xs) (x ∈ xs)
+module _ {A : Type 0} (same : A → A → Bool) (same_says : (x y : A) → Says (same x y) (x ≡ y)) where
+  pub is_in_says : (x : A) (xs : List A) → Says (is_in same x xs) (x ∈ xs)
   unfolding is_in
-  is_in-says x [] = (λ e. absurd (false≢true e), λ m. absurd (Memᴰ.not-nil m))
-  is_in-says x (y ∷ ys) = at (same x y) (same-says x y) (is_in same x ys) (is_in-says x ys)
+  is_in_says x [] = (λ e. absurd (false≢true e), λ m. absurd (Memᴰ.not-nil m))
+  is_in_says x (y ∷ ys) = at (same x y) (same_says x y) (is_in same x ys) (is_in_says x ys)
     where
       at : (b : Bool) → Says b (x ≡ y) → (c : Bool) → Says c (x ∈ ys) → Says (b || c) (x ∈ y ∷ ys)
       at true e c f = (λ t. Memᴰ.head (e.0 refl), λ m. refl)
@@ -49,7 +49,7 @@ module _ {A : Type 0} (same : A → A → Bool) (same-says : (x y : A) → Says 
       record {
         tail = [];
         extends = sym (append-nil xs);
-        has = λ y m. Memᴰ.cast (Memᴰ.eq_of_singleton m) ((is_in-says x xs).0 e);
+        has = λ y m. Memᴰ.cast (Memᴰ.eq_of_singleton m) ((is_in_says x xs).0 e);
         from = λ z m. inl m;
         distinct = λ d. d;
       })
@@ -59,7 +59,7 @@ module _ {A : Type 0} (same : A → A → Bool) (same-says : (x y : A) → Says 
         extends = refl;
         has = λ y m. Memᴰ.append_right xs m;
         from = λ z m. Memᴰ.append_cases xs m;
-        distinct = λ d. distinct_snoc x d (λ m. true≢false (sym ((is_in-says x xs).1 m) ∙ e));
+        distinct = λ d. distinct_snoc x d (λ m. true≢false (sym ((is_in_says x xs).1 m) ∙ e));
       })
 
   pub added_all : (ys xs : List A) → Added xs ys (add_all same xs ys)
@@ -104,7 +104,7 @@ module _ {A : Type 0} (same : A → A → Bool) (same-says : (x y : A) → Says 
     progress_first =
         record {
           distinct = distinct_cons (λ m. Memᴰ.not-nil m) distinct_nil;
-          sound = λ x m. subst (Reached steps first) (sym (Memᴰ.eq_of_singleton m)) reached-first;
+          sound = λ x m. subst (Reached steps first) (sym (Memᴰ.eq_of_singleton m)) reached_first;
           begun = Memᴰ.head refl;
           expanded = λ j h. absurd (omega arith);
           within = omega arith;
@@ -119,7 +119,7 @@ module _ {A : Type 0} (same : A → A → Bool) (same-says : (x y : A) → Says 
               distinct = q.distinct g.distinct;
               sound = λ x m. sound x (q.from x m);
               begun = kept first g.begun;
-              expanded = λ j l y m. expanded j (eq-or-lt_of_le (le_of_suc-le-suc l)) y (rw (same-entry j (omega arith)) at m);
+              expanded = λ j l y m. expanded j (eq-or-lt_of_le (le_of_suc-le-suc l)) y (rw (same_entry j (omega arith)) at m);
               within = subst (λ n. suc i ≤ n) (sym (ap length q.extends ∙ length-append seen q.tail)) (omega arith);
             }
           where
@@ -128,10 +128,10 @@ module _ {A : Type 0} (same : A → A → Bool) (same-says : (x y : A) → Says 
 
             sound : (x : A) → (x ∈ seen) ⊎ (x ∈ steps (get_or seen i first)) → Reached steps first x
             sound x (inl m) = g.sound x m
-            sound x (inr m) = reached-step (g.sound (get_or seen i first) (get_d_in seen i first h)) m
+            sound x (inr m) = reached_step (g.sound (get_or seen i first) (get_d_in seen i first h)) m
 
-            same-entry : (j : ℕ) → j < length seen → get_or zs j first ≡ get_or seen j first
-            same-entry j l = ap (λ z. get_or z j first) q.extends ∙ get_or-append seen q.tail first j l
+            same_entry : (j : ℕ) → j < length seen → get_or zs j first ≡ get_or seen j first
+            same_entry j l = ap (λ z. get_or z j first) q.extends ∙ get_or-append seen q.tail first j l
 
             expanded : (j : ℕ) → (j ≡ i) ⊎ (j < i) → (y : A) → y ∈ steps (get_or seen j first) → y ∈ zs
             expanded j (inl e) y m = q.has y (rw e at m)
@@ -142,8 +142,8 @@ module _ {A : Type 0} (same : A → A → Bool) (same-says : (x y : A) → Says 
     progress_end seen g = record { distinct = g.distinct; exact = λ x. (g.sound x, complete) }
       where
         complete : {x : A} → Reached steps first x → x ∈ seen
-        complete reached-first = g.begun
-        complete (reached-step {x = x} {y = y} r m) = next (index_of_lem first (complete r))
+        complete reached_first = g.begun
+        complete (reached_step {x = x} {y = y} r m) = next (index_of_lem first (complete r))
           where
             next : (j : ℕ) × (j < length seen) × (get_or seen j first ≡ x) → y ∈ seen
             next p = g.expanded p.0 p.1 y (rw p.2 m)
@@ -164,54 +164,54 @@ module _ {A : Type 0} (same : A → A → Bool) (same-says : (x y : A) → Says 
       Right (closed xs) = Enumerates steps first xs × (length xs ≤ limit)
       Right over = AtLeast steps first (suc limit)
 
-      explore-right : (fuel : ℕ) (seen : List A) (i : ℕ) → fuel + i ≡ suc limit → Progress seen i → Right (explore same steps first limit fuel seen i)
+      explore_right : (fuel : ℕ) (seen : List A) (i : ℕ) → fuel + i ≡ suc limit → Progress seen i → Right (explore same steps first limit fuel seen i)
       unfolding explore Right
-      explore-right zero seen i e g = progress_over seen i limit (omega (arith, g.within)) g
-      explore-right (suc fuel) seen i e g =
+      explore_right zero seen i e g = progress_over seen i limit (omega (arith, g.within)) g
+      explore_right (suc fuel) seen i e g =
           let zs : List A = add_all same seen (steps (get_or seen i first)) in
-          let go : Progress zs (suc i) → Right (explore same steps first limit fuel zs (suc i)) = explore-right fuel zs (suc i) (omega arith) in
+          let go : Progress zs (suc i) → Right (explore same steps first limit fuel zs (suc i)) = explore_right fuel zs (suc i) (omega arith) in
           cond_elim Right (ltb limit (length seen)) over _ (λ t. progress_over seen i limit (ltb-true limit (length seen) t) g)
           (λ f.
           cond_elim Right (eqb i (length seen)) (closed seen) _
           (λ t. (progress_end seen (subst (Progress seen) (eqb-true i (length seen) t) g), ltb-false limit (length seen) f))
           (λ n. go (progress_step seen i (omega (arith, g.within, eqb-false i (length seen) n)) g)))
 
-      reachable-right : Right (reachable same steps first limit)
+      reachable_right : Right (reachable same steps first limit)
       unfolding reachable
-      reachable-right = explore-right (suc limit) (first ∷ []) 0 (omega arith) progress_first
+      reachable_right = explore_right (suc limit) (first ∷ []) 0 (omega arith) progress_first
 
       -- a closed list has, without repeats, exactly what can be reached, and that is within the limit
-      pub closed-lists : (xs : List A) → reachable same steps first limit ≡ closed xs → Enumerates steps first xs × (length xs ≤ limit)
+      pub closed_lists : (xs : List A) → reachable same steps first limit ≡ closed xs → Enumerates steps first xs × (length xs ≤ limit)
       unfolding Right
-      closed-lists xs e = rw e at reachable-right
+      closed_lists xs e = rw e at reachable_right
 
       -- `over` means that more than the limit can be reached
       pub over_iff : (reachable same steps first limit ≡ over) ↔ AtLeast steps first (suc limit)
       unfolding Right
-      over_iff = (λ e. rw e at reachable-right, λ many. is-over many (reachable same steps first limit) refl)
+      over_iff = (λ e. rw e at reachable_right, λ many. is_over many (reachable same steps first limit) refl)
         where
-          is-over : AtLeast steps first (suc limit) → (r : Listing A) → reachable same steps first limit ≡ r → r ≡ over
-          is-over many over e = refl
-          is-over many (closed xs) e =
-              let l : Enumerates steps first xs × (length xs ≤ limit) = closed-lists xs e in
+          is_over : AtLeast steps first (suc limit) → (r : Listing A) → reachable same steps first limit ≡ r → r ≡ over
+          is_over many over e = refl
+          is_over many (closed xs) e =
+              let l : Enumerates steps first xs × (length xs ≤ limit) = closed_lists xs e in
               absurd (omega (arith, distinct_length_le many.distinct xs (λ x m. (l.0.exact x).1 (many.sound x m)), many.count, l.1))
 
 -- ---- steps by letters
 
 module _ {A L : Type 0} (move : A → L → A) (letters : List L) (first : A) where
-  by-letters : A → List A
-  by-letters s = map (move s) letters
+  by_letters : A → List A
+  by_letters s = map (move s) letters
 
-  reached-word : (word : List L) → ((a : L) → a ∈ word → a ∈ letters) → (s : A) → Reached by-letters first s → Reached by-letters first (foldl move s word)
-  unfolding by-letters
-  reached-word [] h s r = r
-  reached-word (a ∷ w) h s r =
-      reached-word w (λ b m. h b (Memᴰ.tail m)) (move s a) (reached-step r (Memᴰ.map (move s) (h a (Memᴰ.head refl))))
+  reached_word : (word : List L) → ((a : L) → a ∈ word → a ∈ letters) → (s : A) → Reached by_letters first s → Reached by_letters first (foldl move s word)
+  unfolding by_letters
+  reached_word [] h s r = r
+  reached_word (a ∷ w) h s r =
+      reached_word w (λ b m. h b (Memᴰ.tail m)) (move s a) (reached_step r (Memᴰ.map (move s) (h a (Memᴰ.head refl))))
 
-  spelled-word : {x : A} → Reached by-letters first x → Spelled move letters first x
-  unfolding by-letters
-  spelled-word reached-first = record { word = []; spelled = λ a m. absurd (Memᴰ.not-nil m); leads = refl }
-  spelled-word (reached-step {x = x} {y = y} r m) = more (spelled-word r) (Memᴰ.of_map (move x) letters m)
+  spelled_word : {x : A} → Reached by_letters first x → Spelled move letters first x
+  unfolding by_letters
+  spelled_word reached_first = record { word = []; spelled = λ a m. absurd (Memᴰ.not-nil m); leads = refl }
+  spelled_word (reached_step {x = x} {y = y} r m) = more (spelled_word r) (Memᴰ.of_map (move x) letters m)
     where
       more : Spelled move letters first x → (a : L) × (a ∈ letters) × (move x a ≡ y) → Spelled move letters first y
       more w (a, k, e) =
@@ -227,8 +227,8 @@ module _ {A L : Type 0} (move : A → L → A) (letters : List L) (first : A) wh
 
   -- what can be reached is what letters lead to
   pub reached_iff_spelled : (x : A) → Reached (λ s. map (move s) letters) first x ↔ Spelled move letters first x
-  unfolding by-letters
-  reached_iff_spelled x = (spelled-word, λ w. rw w.leads at (reached-word w.word w.spelled first reached-first))
+  unfolding by_letters
+  reached_iff_spelled x = (spelled_word, λ w. rw w.leads at (reached_word w.word w.spelled first reached_first))
 
 -- what is in a list stands at its number
 index_at : {A : Type 0} (same : A → A → Bool) → ((x y : A) → Says (same x y) (x ≡ y)) → (x : A) (xs : List A) (e : A) → is_in same x xs ≡ true
@@ -246,7 +246,7 @@ index_at same says x (y ∷ ys) e t = at (same x y) refl (is_in same x ys) refl 
 module _ {A : Type 0} (same : A → A → Bool) (says : (x y : A) → Says (same x y) (x ≡ y)) where
   -- what is in a list stands at its number
   pub index_right : (x : A) (xs : List A) (e : A) → x ∈ xs → (index_in same x xs < length xs) × (get_or xs (index_in same x xs) e ≡ x)
-  index_right x xs e m = index_at same says x xs e ((is_in-says same says x xs).1 m)
+  index_right x xs e m = index_at same says x xs e ((is_in_says same says x xs).1 m)
 
   -- what is in a list is told apart by its number
   pub index_one : (x y : A) (xs : List A) → x ∈ xs → y ∈ xs → eqb (index_in same x xs) (index_in same y xs) ≡ same x y
@@ -271,26 +271,26 @@ module _ {A : Type 0} (same : A → A → Bool) (says : (x y : A) → Says (same
     later seen zs (closed xs) (ys, e) (ws, f) = (ys ++ ws, f ∙ ap (λ t. t ++ ws) e ∙ append_assoc seen ys ws)
     later seen zs over p q = tt
 
-    explore-begins : (fuel : ℕ) (seen : List A) (i : ℕ) → Begins seen (explore same steps first limit fuel seen i)
+    explore_begins : (fuel : ℕ) (seen : List A) (i : ℕ) → Begins seen (explore same steps first limit fuel seen i)
     unfolding Begins explore
-    explore-begins zero seen i = tt
-    explore-begins (suc fuel) seen i =
+    explore_begins zero seen i = tt
+    explore_begins (suc fuel) seen i =
         let a = added_all same says (steps (get_or seen i first)) seen in
         let zs = add_all same seen (steps (get_or seen i first)) in
         cond_begins seen (ltb limit (length seen)) over _ tt
         (cond_begins seen (eqb i (length seen)) (closed seen) _ ([], sym (append-nil seen))
-        (later seen zs (explore same steps first limit fuel zs (suc i)) (a.tail, a.extends) (explore-begins fuel zs (suc i))))
+        (later seen zs (explore same steps first limit fuel zs (suc i)) (a.tail, a.extends) (explore_begins fuel zs (suc i))))
 
     -- a closed list begins with what was met before
-    pub explore-tail : (fuel : ℕ) (seen : List A) (i : ℕ) (xs : List A) → explore same steps first limit fuel seen i ≡ closed xs → (ys : List A)
+    pub explore_tail : (fuel : ℕ) (seen : List A) (i : ℕ) (xs : List A) → explore same steps first limit fuel seen i ≡ closed xs → (ys : List A)
         × (xs ≡ seen ++ ys)
     unfolding Begins
-    explore-tail fuel seen i xs e = rw e at (explore-begins fuel seen i)
+    explore_tail fuel seen i xs e = rw e at (explore_begins fuel seen i)
 
     -- a closed list begins with the first thing
-    pub closed-begins : (xs : List A) → reachable same steps first limit ≡ closed xs → (ys : List A) × (xs ≡ first ∷ ys)
+    pub closed_begins : (xs : List A) → reachable same steps first limit ≡ closed xs → (ys : List A) × (xs ≡ first ∷ ys)
     unfolding reachable
-    closed-begins xs e = explore-tail (suc limit) (first ∷ []) 0 xs e
+    closed_begins xs e = explore_tail (suc limit) (first ∷ []) 0 xs e
 
 -- ---- a listing that closes does not depend on its limit
 

@@ -24,9 +24,9 @@ says_or {b = false} {c} {P} {Q} e f = (λ h. inr (f.0 h), back)
     back (inl p) = absurd (false≢true (e.1 p))
     back (inr q) = f.1 q
 
-pub says-implies : {b c : Bool} {P Q : Type 0} → Says b P → Says c Q → Says (not b || c) (P → Q)
-says-implies {b = true} e f = (λ h p. f.0 h, λ k. f.1 (k (e.0 refl)))
-says-implies {b = false} e f = (λ h p. absurd (false≢true (e.1 p)), λ k. refl)
+pub says_implies : {b c : Bool} {P Q : Type 0} → Says b P → Says c Q → Says (not b || c) (P → Q)
+says_implies {b = true} e f = (λ h p. f.0 h, λ k. f.1 (k (e.0 refl)))
+says_implies {b = false} e f = (λ h p. absurd (false≢true (e.1 p)), λ k. refl)
 
 -- what a Boolean stands for is decided, so a double negation can be dropped
 pub says_stable : {b : Bool} {P : Type 0} → Says b P → ¬ (¬ P) → P

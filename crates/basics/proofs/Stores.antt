@@ -47,8 +47,8 @@ module _ {A : Type 0} where
 abbrev pub Put : ℕ → List ℕ → List ℕ → ℕ → List ℕ → Type 0
 Put at bytes x end y = (end ≡ at + length bytes) × (y ≡ sets x at bytes)
 
-pub put-none : (at : ℕ) (x : List ℕ) → Put at [] x at x
-put-none at x = (omega arith, refl)
+pub put_none : (at : ℕ) (x : List ℕ) → Put at [] x at x
+put_none at x = (omega arith, refl)
 
 pub put_same : (at : ℕ) (a whole x : List ℕ) → whole ≡ a → (end : ℕ) (y : List ℕ) → Put at a x end y → Put at whole x end y
 put_same at a whole x e end y p = (p.0 ∙ ap (λ l. at + length l) (sym e), p.1 ∙ ap (sets x at) (sym e))
@@ -56,8 +56,8 @@ put_same at a whole x e end y p = (p.0 ∙ ap (λ l. at + length l) (sym e), p.1
 -- bytes put in two parts
 module _ (at : ℕ) (a b x : List ℕ) (room : at + length (a ++ b) ≤ length x) where
   -- there is room for the first ..
-  room-first : at + length a ≤ length x
-  room-first = omega (arith, length-append a b)
+  room_first : at + length a ≤ length x
+  room_first = omega (arith, length-append a b)
 
   module _ (last : ℕ) (y : List ℕ) (p : Put at a x last y) where
     -- .. and then for the second
@@ -80,11 +80,11 @@ rest_all at whole x room parts e =
     record { room = subst (λ l. at + length l ≤ length x) e room; puts = λ end z p. put_same at parts whole x e end z p }
 
 module _ {at : ℕ} {whole x : List ℕ} {last : ℕ} {y : List ℕ} (a b : List ℕ) (r : Rest at whole x last (a ++ b) y) where
-  pub rest-room : last + length a ≤ length y
-  rest-room = room-first last a b y r.room
+  pub rest_room : last + length a ≤ length y
+  rest_room = room_first last a b y r.room
 
-  pub rest-next : {end : ℕ} {z : List ℕ} → Put last a y end z → Rest at whole x end b z
-  rest-next {end} {z} p =
+  pub rest_next : {end : ℕ} {z : List ℕ} → Put last a y end z → Rest at whole x end b z
+  rest_next {end} {z} p =
       record { room = room_next last a b y r.room end z p; puts = λ e w q. r.puts e w (put_next last a b y r.room end z p e w q) }
 
 -- a whole of four parts, put one after another: there is room for each, and at the end the whole is put
@@ -97,25 +97,25 @@ module _ {at : ℕ} {whole x a b c d : List ℕ} (parts : Parts at whole x a b c
   rest₀ = rest_all at whole x parts.room _ parts.are
 
   pub room_1 : at + length a ≤ length x
-  room_1 = rest-room a _ rest₀
+  room_1 = rest_room a _ rest₀
 
   module _ {l₁ : ℕ} {y₁ : List ℕ} (p₁ : Put at a x l₁ y₁) where
     rest₁ : Rest at whole x l₁ (b ++ (c ++ d)) y₁
-    rest₁ = rest-next a _ rest₀ p₁
+    rest₁ = rest_next a _ rest₀ p₁
 
     pub room_2 : l₁ + length b ≤ length y₁
-    room_2 = rest-room b _ rest₁
+    room_2 = rest_room b _ rest₁
 
     module _ {l₂ : ℕ} {y₂ : List ℕ} (p₂ : Put l₁ b y₁ l₂ y₂) where
       rest₂ : Rest at whole x l₂ (c ++ d) y₂
-      rest₂ = rest-next b _ rest₁ p₂
+      rest₂ = rest_next b _ rest₁ p₂
 
       pub room_3 : l₂ + length c ≤ length y₂
-      room_3 = rest-room c d rest₂
+      room_3 = rest_room c d rest₂
 
       module _ {l₃ : ℕ} {y₃ : List ℕ} (p₃ : Put l₂ c y₂ l₃ y₃) where
         rest₃ : Rest at whole x l₃ d y₃
-        rest₃ = rest-next c d rest₂ p₃
+        rest₃ = rest_next c d rest₂ p₃
 
         pub room_4 : l₃ + length d ≤ length y₃
         room_4 = rest₃.room

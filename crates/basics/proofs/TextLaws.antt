@@ -11,40 +11,40 @@ use borrow.Author.Tests.{lt-ltb, le-ltb}
 use Rattle.basics.specs.Text.{digits, decimal, field, line}
 use native.Mathlib.Numerals.{add-one}
 use Rattle.basics.specs.Lists.{tabulate}
-use Rattle.basics.proofs.Stores.{Put, Rest, Parts, rest_all, rest-next}
+use Rattle.basics.proofs.Stores.{Put, Rest, Parts, rest_all, rest_next}
 
 -- more digits may be split off than there are
-digits-enough : (m n k : ℕ) → k ≤ m → k ≤ n → digits m k ≡ digits n k
+digits_enough : (m n k : ℕ) → k ≤ m → k ≤ n → digits m k ≡ digits n k
 unfolding digits
-digits-enough zero zero k a b = refl
-digits-enough zero (suc n) k a b = rw (lt-ltb k 10 (omega arith)) refl
-digits-enough (suc m) zero k a b = rw (lt-ltb k 10 (omega arith)) refl
-digits-enough (suc m) (suc n) k a b = rw (digits-enough m n (k / 10) (omega arith) (omega arith)) refl
+digits_enough zero zero k a b = refl
+digits_enough zero (suc n) k a b = rw (lt-ltb k 10 (omega arith)) refl
+digits_enough (suc m) zero k a b = rw (lt-ltb k 10 (omega arith)) refl
+digits_enough (suc m) (suc n) k a b = rw (digits_enough m n (k / 10) (omega arith) (omega arith)) refl
 
 -- a number below ten is one digit
-pub decimal-small : (n : ℕ) → n < 10 → decimal n ≡ (48 + n) ∷ []
+pub decimal_small : (n : ℕ) → n < 10 → decimal n ≡ (48 + n) ∷ []
 unfolding digits
-decimal-small zero h = refl
-decimal-small (suc n) h = rw (lt-ltb (suc n) 10 h) refl
+decimal_small zero h = refl
+decimal_small (suc n) h = rw (lt-ltb (suc n) 10 h) refl
 
 abbrev pub last_digit : ℕ → List ℕ
 last_digit n = (48 + n % 10) ∷ []
 
 -- any other is the digits of its tenth, and its last digit
-pub decimal-more : (n : ℕ) → 10 ≤ n → decimal n ≡ decimal (n / 10) ++ last_digit n
+pub decimal_more : (n : ℕ) → 10 ≤ n → decimal n ≡ decimal (n / 10) ++ last_digit n
 unfolding digits
-decimal-more zero h = absurd (not-suc-le-zero h)
-decimal-more (suc n) h = rw (le-ltb (suc n) 10 h) (ap (λ l. l ++ last_digit (suc n)) (digits-enough n (suc n / 10) (suc n / 10) (omega arith) (omega arith)))
+decimal_more zero h = absurd (not-suc-le-zero h)
+decimal_more (suc n) h = rw (le-ltb (suc n) 10 h) (ap (λ l. l ++ last_digit (suc n)) (digits_enough n (suc n / 10) (suc n / 10) (omega arith) (omega arith)))
 
 -- how many digits there are
 pub decimal_length : (d n : ℕ) → n < 10 ^ suc d → length (decimal n) ≤ suc d
-decimal_length zero n h = rw (decimal-small n h) (omega arith)
+decimal_length zero n h = rw (decimal_small n h) (omega arith)
 decimal_length (suc d) n h =
     elim (dec_lt n 10) [
-      | yes l ↦ rw (decimal-small n l) (omega arith)
+      | yes l ↦ rw (decimal_small n l) (omega arith)
       | no m ↦
           let tenth : n / 10 < 10 ^ suc d = omega (arith, pow-suc 10 (suc d)) in
-          rw (decimal-more n (omega arith), length-append) (omega (arith, decimal_length d (n / 10) tenth))
+          rw (decimal_more n (omega arith), length-append) (omega (arith, decimal_length d (n / 10) tenth))
     ]
 
 -- ---- things of any length one after another
@@ -72,7 +72,7 @@ module _ {A : Type 0} (g : A → List ℕ) where
   pub turn : (f : ℕ → A) (at n : ℕ) (x : List ℕ) → at + length (flat_map g (tabulate n f)) ≤ length x → (i : ℕ) → i < n
       → {last : ℕ} {y : List ℕ} → Put at (flat_map g (tabulate i f)) x last y → Rest at (flat_map g (tabulate (i + 1) f)) x last (g (f i)) y
   turn f at n x room i h p =
-      rest-next (flat_map g (tabulate i f)) (g (f i)) (rest_all at _ x (omega (arith, flat_within n f i h)) _ (flat_more i f)) p
+      rest_next (flat_map g (tabulate i f)) (g (f i)) (rest_all at _ x (omega (arith, flat_within n f i h)) _ (flat_more i f)) p
 
   -- how long they are
   pub flat_length : (n w : ℕ) (f : ℕ → A) → ((i : ℕ) → i < n → length (g (f i)) ≤ w) → length (flat_map g (tabulate n f)) ≤ n * w
@@ -95,19 +95,19 @@ unfolding flat_map
 flat_ext g h zero f e = refl
 flat_ext g h (suc n) f e = ap₂ (λ a b. a ++ b) (e 0 (omega arith)) (flat_ext g h n (λ i. f (suc i)) (λ i l. e (suc i) (omega arith)))
 
-pub line-parts : (word d : List ℕ) (fs : List (List ℕ)) → line word (d ∷ fs) ≡ word ++ (field d ++ (flat_map field fs ++ (10 ∷ [])))
+pub line_parts : (word d : List ℕ) (fs : List (List ℕ)) → line word (d ∷ fs) ≡ word ++ (field d ++ (flat_map field fs ++ (10 ∷ [])))
 unfolding flat_map
-line-parts word d fs =
+line_parts word d fs =
     append_assoc word (field d ++ flat_map field fs) (10 ∷ []) ∙ ap (λ l. word ++ l) (append_assoc (field d) (flat_map field fs) (10 ∷ []))
 
-pub two-parts : (word : List ℕ) (a b : ℕ) → line word (decimal a ∷ decimal b ∷ []) ≡ word ++ (field (decimal a) ++ (field (decimal b) ++ (10 ∷ [])))
+pub two_parts : (word : List ℕ) (a b : ℕ) → line word (decimal a ∷ decimal b ∷ []) ≡ word ++ (field (decimal a) ++ (field (decimal b) ++ (10 ∷ [])))
 unfolding flat_map
-two-parts word a b =
-    line-parts word (decimal a) (decimal b ∷ []) ∙ ap (λ l. word ++ (field (decimal a) ++ (l ++ (10 ∷ [])))) (append-nil (field (decimal b)))
+two_parts word a b =
+    line_parts word (decimal a) (decimal b ∷ []) ∙ ap (λ l. word ++ (field (decimal a) ++ (l ++ (10 ∷ [])))) (append-nil (field (decimal b)))
 
-pub two-puts : (word : List ℕ) (a b : ℕ) (x : List ℕ) → length (line word (decimal a ∷ decimal b ∷ [])) ≤ length x
+pub two_puts : (word : List ℕ) (a b : ℕ) (x : List ℕ) → length (line word (decimal a ∷ decimal b ∷ [])) ≤ length x
     → Parts 0 (line word (decimal a ∷ decimal b ∷ [])) x word (field (decimal a)) (field (decimal b)) (10 ∷ [])
-two-puts word a b x h = record { room = omega arith; are = two-parts word a b }
+two_puts word a b x h = record { room = omega arith; are = two_parts word a b }
 
 -- ---- how long they can be
 
@@ -119,7 +119,7 @@ pub two_length : (word : List ℕ) (d a b : ℕ) → a < 10 ^ suc d → b < 10 ^
 two_length word d a b ha hb =
     omega (
       arith,
-      ap length (two-parts word a b),
+      ap length (two_parts word a b),
       length-append word (field (decimal a) ++ (field (decimal b) ++ (10 ∷ []))),
       length-append (field (decimal a)) (field (decimal b) ++ (10 ∷ [])),
       length-append (field (decimal b)) (10 ∷ []),

@@ -45,8 +45,8 @@ module _ {A : Type 0} (same : A → A → Bool) where
 module _ {A : Type 0} (steps : A → List A) (first : A) where
   -- some steps lead from the first thing to this one
   pub data Reached : A → Type 0 where
-    reached-first : Reached first
-    reached-step : {x y : A} → Reached x → y ∈ steps x → Reached y
+    reached_first : Reached first
+    reached_step : {x y : A} → Reached x → y ∈ steps x → Reached y
 
   -- the list holds, without repeats, exactly what can be reached
   pub record Enumerates (xs : List A) : Type 0 where

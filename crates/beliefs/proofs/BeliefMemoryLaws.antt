@@ -22,10 +22,10 @@ use Rattle.search.specs.Limits.{state_limit, letter_limit}
 use Rattle.basics.specs.Reach.{reachable}
 use Rattle.search.specs.ReachableSets.{same_set}
 use Rattle.basics.specs.Successors.{own_steps}
-use Rattle.basics.proofs.BitsLaws.{bit-low, bit_high, bit_zero, bits_ext}
+use Rattle.basics.proofs.BitsLaws.{bit_low, bit_high, bit_zero, bits_ext}
 use Rattle.obligations.proofs.WordsLaws.{bit_bit_or}
-use Rattle.search.proofs.SlotBytes.{bytes_length, byte-at, byte_lt, bit-bytes}
-use Rattle.search.proofs.SlotsLaws.{Packing, packing-bits}
+use Rattle.search.proofs.SlotBytes.{bytes_length, byte_at_lem, byte_lt, bit_bytes_lem}
+use Rattle.search.proofs.SlotsLaws.{Packing, packing_bits}
 use Rattle.basics.specs.Bounded.{any}
 use Rattle.play.specs.Belief.{Belief, has, alone}
 use Rattle.beliefs.specs.BeliefMemory.{belief_size, pack_belief, is_final, pairs_from, belief_after, counted_beliefs}
@@ -42,7 +42,7 @@ bit_pow zero (suc j) = bit_high 1 j ∙ bit_zero j ∙ sym (eqb-zero-suc j)
 bit_pow (suc k) zero =
     let e : 2 ^ suc k ≡ 2 ^ k * 2 = pow-suc 2 k in
     let m : 2 ^ suc k % 2 ≡ 0 = omega arith in
-    bit-low (2 ^ suc k) ∙ ap (λ x. eqb x 1) m ∙ sym (eqb-suc-zero k)
+    bit_low (2 ^ suc k) ∙ ap (λ x. eqb x 1) m ∙ sym (eqb-suc-zero k)
 bit_pow (suc k) (suc j) =
     let e : 2 ^ suc k ≡ 2 ^ k * 2 = pow-suc 2 k in
     let m : 2 ^ suc k / 2 ≡ 2 ^ k = omega arith in
@@ -55,8 +55,8 @@ pub record Bits (bytes : List ℕ) (f : ℕ → Bool) : Type 0 where
   pub answers : (p : ℕ) → p < belief_size * 8 → bit (get_or bytes (p / 8) 0) (p % 8) ≡ f p
 
 -- the same test, said otherwise
-pub bits-same : {bytes : List ℕ} {f : ℕ → Bool} (g : ℕ → Bool) → Bits bytes f → ((p : ℕ) → p < belief_size * 8 → f p ≡ g p) → Bits bytes g
-bits-same g a e = record { long = a.long; small = a.small; answers = λ p h. a.answers p h ∙ e p h }
+pub bits_same : {bytes : List ℕ} {f : ℕ → Bool} (g : ℕ → Bool) → Bits bytes f → ((p : ℕ) → p < belief_size * 8 → f p ≡ g p) → Bits bytes g
+bits_same g a e = record { long = a.long; small = a.small; answers = λ p h. a.answers p h ∙ e p h }
 
 bits_at : {bytes : List ℕ} {f : ℕ → Bool} → Bits bytes f → (i j : ℕ) → i < belief_size → j < 8 → bit (get_or bytes i 0) j ≡ f (i * 8 + j)
 bits_at {bytes} {f} a i j h l =
@@ -83,28 +83,28 @@ pack_belief_length b = bytes_length belief_size (has b)
 -- bit p tells whether state p is in the belief
 pub bit-pack_belief : (b : Belief) (p : ℕ) → p < belief_size * 8 → bit (get_or (pack_belief b) (p / 8) 0) (p % 8) ≡ has b p
 unfolding pack_belief
-bit-pack_belief b p h = bit-bytes belief_size (has b) p h
+bit-pack_belief b p h = bit_bytes_lem belief_size (has b) p h
 
 pub belief_bits : (b : Belief) → Bits (pack_belief b) (has b)
 unfolding pack_belief
 belief_bits b =
     record {
       long = bytes_length belief_size (has b);
-      small = λ i h. subst (λ x. x < 2 ^ 8) (sym (byte-at belief_size (has b) i h)) (byte_lt (has b) i);
-      answers = bit-bytes belief_size (has b);
+      small = λ i h. subst (λ x. x < 2 ^ 8) (sym (byte_at_lem belief_size (has b) i h)) (byte_lt (has b) i);
+      answers = bit_bytes_lem belief_size (has b);
     }
 
 -- a belief of n states has no others
-has-out : (n : ℕ) (f : ℕ → Bool) (p : ℕ) → n ≤ p → has (tabulate n f) p ≡ false
-has-out n f p h = get_or-eq_default (tabulate n f) false (subst (λ m. m ≤ p) (sym (length_tabulate n f)) h)
+has_out : (n : ℕ) (f : ℕ → Bool) (p : ℕ) → n ≤ p → has (tabulate n f) p ≡ false
+has_out n f p h = get_or-eq_default (tabulate n f) false (subst (λ m. m ≤ p) (sym (length_tabulate n f)) h)
 
 -- so a belief that is a table has what the table's test says, if the test fails from n on
-pub has-table : (n : ℕ) (f : ℕ → Bool) (p : ℕ) → (n ≤ p → f p ≡ false) → has (tabulate n f) p ≡ f p
-has-table n f p out = go (dec_lt p n)
+pub has_table : (n : ℕ) (f : ℕ → Bool) (p : ℕ) → (n ≤ p → f p ≡ false) → has (tabulate n f) p ≡ f p
+has_table n f p out = go (dec_lt p n)
   where
     go : Dec (p < n) → has (tabulate n f) p ≡ f p
     go (yes h) = get_d_tabulate n f p false h
-    go (no g) = let h : n ≤ p = omega arith in has-out n f p h ∙ sym (out h)
+    go (no g) = let h : n ≤ p = omega arith in has_out n f p h ∙ sym (out h)
 
 -- ---- bytes that states are added to
 
@@ -164,27 +164,27 @@ bits_state {bytes} {f} a t h = record {
 unfoldable pub leads_to : List ℕ → ℕ → ℕ → ℕ → ℕ → ℕ → Bool
 leads_to successors q pairs h s p = any h (λ k. eqb (successor_in successors s (q + k * pairs)) p)
 
-leads-none : (successors : List ℕ) (q pairs s p : ℕ) → leads_to successors q pairs 0 s p ≡ false
+leads_none : (successors : List ℕ) (q pairs s p : ℕ) → leads_to successors q pairs 0 s p ≡ false
 unfolding leads_to
-leads-none successors q pairs s p = refl
+leads_none successors q pairs s p = refl
 
-leads-more : (successors : List ℕ) (q pairs h s p : ℕ)
+leads_more : (successors : List ℕ) (q pairs h s p : ℕ)
     → leads_to successors q pairs (suc h) s p ≡ (eqb (successor_in successors s (q + h * pairs)) p || leads_to successors q pairs h s p)
 unfolding leads_to
-leads-more successors q pairs h s p = any_suc h (λ k. eqb (successor_in successors s (q + k * pairs)) p)
+leads_more successors q pairs h s p = any_suc h (λ k. eqb (successor_in successors s (q + k * pairs)) p)
 
 -- the states that the first h hidden values lead to
-pub bits-hidden : {bytes : List ℕ} {f : ℕ → Bool} → Bits bytes f → (successors : List ℕ) (s q pairs h : ℕ)
+pub bits_hidden : {bytes : List ℕ} {f : ℕ → Bool} → Bits bytes f → (successors : List ℕ) (s q pairs h : ℕ)
     → ((k : ℕ) → k < h → successor_in successors s (q + k * pairs) < belief_size * 8)
     → Bits (with_hidden successors s q pairs h bytes) (λ p. f p || leads_to successors q pairs h s p)
 unfolding with_hidden
-bits-hidden {f = f} a successors s q pairs zero small =
-    bits-same _ a (λ p l. sym (ap (λ c. f p || c) (leads-none successors q pairs s p) ∙ or-false (f p)))
-bits-hidden {f = f} a successors s q pairs (suc h) small =
-    bits-same _ (bits_state (bits-hidden a successors s q pairs h (λ k l. small k (omega arith))) (successor_in successors s (q + h * pairs))
+bits_hidden {f = f} a successors s q pairs zero small =
+    bits_same _ a (λ p l. sym (ap (λ c. f p || c) (leads_none successors q pairs s p) ∙ or-false (f p)))
+bits_hidden {f = f} a successors s q pairs (suc h) small =
+    bits_same _ (bits_state (bits_hidden a successors s q pairs h (λ k l. small k (omega arith))) (successor_in successors s (q + h * pairs))
     (small h (omega arith)))
     (λ p l. turn (f p) (leads_to successors q pairs h s p) (eqb (successor_in successors s (q + h * pairs)) p)
-    ∙ ap (λ c. f p || c) (sym (leads-more successors q pairs h s p)))
+    ∙ ap (λ c. f p || c) (sym (leads_more successors q pairs h s p)))
   where
     turn : (x y z : Bool) → (x || y || z) ≡ (x || (z || y))
     turn x y z = or_assoc x y z ∙ ap (λ c. x || c) (or_comm y z)
@@ -196,7 +196,7 @@ letter_lt q pairs h hiddens l k = let m : suc h * pairs ≤ hiddens * pairs = mu
 -- beliefs over n states fill their places, and are read back from them
 pub belief_packing : (n : ℕ) → n ≤ state_limit → Packing belief_size n pack_belief
 belief_packing n h =
-    packing-bits belief_size n pack_belief (omega (arith, state_bits)) pack_belief_length (λ x e p l. bit-pack_belief x p (omega (arith, state_bits)))
+    packing_bits belief_size n pack_belief (omega (arith, state_bits)) pack_belief_length (λ x e p l. bit-pack_belief x p (omega (arith, state_bits)))
 
 -- ---- all beliefs
 
@@ -207,10 +207,10 @@ pub length_after : (successors : List ℕ) (n pairs hiddens : ℕ) (b : Belief) 
 unfolding belief_after
 length_after successors n pairs hiddens b q = length_tabulate n _
 
-pub beliefs-reachable : (sets successors : List ℕ) (n pairs hiddens limit : ℕ) → counted_beliefs sets successors n pairs hiddens limit
+pub beliefs_reachable : (sets successors : List ℕ) (n pairs hiddens limit : ℕ) → counted_beliefs sets successors n pairs hiddens limit
     ≡ reachable same_set (own_steps (belief_after successors n pairs hiddens) (λ b. below (pairs_from sets n pairs b))) (alone n 0) limit
 unfolding counted_beliefs
-beliefs-reachable sets successors n pairs hiddens limit = refl
+beliefs_reachable sets successors n pairs hiddens limit = refl
 
 -- no more pairs are tried than there are
 pub pairs_le : (sets : List ℕ) (n pairs : ℕ) (b : Belief) → pairs_from sets n pairs b ≤ pairs
@@ -223,19 +223,19 @@ pairs_le sets n pairs b = at (is_final sets n b)
 -- ---- what the functions do
 
 -- memory that is all zero, with a 1 in front, begins with the belief that has state 0 alone
-first-has : (n p : ℕ) → 0 < n → has (alone n 0) p ≡ eqb 0 p
-first-has n zero h = has-table n (λ s. eqb s 0) 0 (λ l. absurd (omega arith))
-first-has n (suc p) h = has-table n (λ s. eqb s 0) (suc p) (λ l. eqb-suc-zero p) ∙ eqb-suc-zero p ∙ sym (eqb-zero-suc p)
+first_has : (n p : ℕ) → 0 < n → has (alone n 0) p ≡ eqb 0 p
+first_has n zero h = has_table n (λ s. eqb s 0) 0 (λ l. absurd (omega arith))
+first_has n (suc p) h = has_table n (λ s. eqb s 0) (suc p) (λ l. eqb-suc-zero p) ∙ eqb-suc-zero p ∙ sym (eqb-zero-suc p)
 
-first-bytes : (n : ℕ) → 0 < n → set (replicate belief_size 0) 0 1 ≡ pack_belief (alone n 0)
+first_bytes : (n : ℕ) → 0 < n → set (replicate belief_size 0) 0 1 ≡ pack_belief (alone n 0)
 unfolding with_state
-first-bytes n h = bits_unique (bits_state bits_none 0 (omega arith)) (belief_bits (alone n 0)) (λ p l. sym (first-has n p h))
+first_bytes n h = bits_unique (bits_state bits_none 0 (omega arith)) (belief_bits (alone n 0)) (λ p l. sym (first_has n p h))
 
 pub first_memory : (n m : ℕ) → 0 < n → belief_size ≤ m → set (replicate m 0) 0 1 ≡ put_mid 0 belief_size (replicate m 0) (pack_belief (alone n 0))
 first_memory n m h l =
     let front = take_zeros belief_size m l in
     sym (set_mid_at 0 belief_size 0 (replicate m 0) 1 (omega (arith, ap length front ∙ length-replicate {A = ℕ} belief_size 0)))
-    ∙ ap (put_mid 0 belief_size (replicate m 0)) (ap (λ t. set t 0 1) front ∙ first-bytes n h)
+    ∙ ap (put_mid 0 belief_size (replicate m 0)) (ap (λ t. set t 0 1) front ∙ first_bytes n h)
 
 -- `add_state`
 pub state_set : (bytes : List ℕ) (t : ℕ) → set bytes (t / 8) (bit_or (get_or bytes (t / 8) 0) (1 * 2 ^ (t % 8) % 2 ^ 8)) ≡ with_state bytes t
@@ -244,9 +244,9 @@ state_set bytes t =
     ap (λ x. set bytes (t / 8) (bit_or (get_or bytes (t / 8) 0) x)) (shl_exact {a = 1} 1 (t % 8) 8 (omega arith) (omega arith) ∙ one-mul (2 ^ (t % 8)))
 
 -- `add_hidden`
-pub hidden-place : (s q pairs h hiddens : ℕ) → s < state_limit → q < pairs → hiddens * pairs ≤ letter_limit → h < hiddens
+pub hidden_place : (s q pairs h hiddens : ℕ) → s < state_limit → q < pairs → hiddens * pairs ≤ letter_limit → h < hiddens
     → s * letter_limit + q + h * pairs < state_limit * letter_limit
-hidden-place s q pairs h hiddens a l m k = omega (arith, letter_lt q pairs h hiddens l k)
+hidden_place s q pairs h hiddens a l m k = omega (arith, letter_lt q pairs h hiddens l k)
 
 pub hidden_state : (successors : List ℕ) (s q pairs h hiddens : ℕ) → ((a : ℕ) → a < hiddens * pairs → successor_in successors s a < state_limit)
     → q < pairs → h < hiddens → get_or successors (s * letter_limit + q + h * pairs) 0 < state_limit
@@ -254,17 +254,17 @@ hidden_state successors s q pairs h hiddens inside l k =
     subst (λ i. get_or successors i 0 < state_limit) (sym (add_assoc (s * letter_limit) q (h * pairs)))
     (inside (q + h * pairs) (letter_lt q pairs h hiddens l k))
 
-pub hidden-none : (successors : List ℕ) (s q pairs : ℕ) (bytes : List ℕ) → bytes ≡ with_hidden successors s q pairs 0 bytes
+pub hidden_none : (successors : List ℕ) (s q pairs : ℕ) (bytes : List ℕ) → bytes ≡ with_hidden successors s q pairs 0 bytes
 unfolding with_hidden
-hidden-none successors s q pairs bytes = refl
+hidden_none successors s q pairs bytes = refl
 
-pub hidden-more : (successors : List ℕ) (s q pairs h : ℕ) (bytes w v : List ℕ) → w ≡ with_hidden successors s q pairs h bytes
+pub hidden_more : (successors : List ℕ) (s q pairs h : ℕ) (bytes w v : List ℕ) → w ≡ with_hidden successors s q pairs h bytes
     → v ≡ with_state w (get_or successors (s * letter_limit + q + h * pairs) 0) → v ≡ with_hidden successors s q pairs (h + 1) bytes
 unfolding with_hidden
-hidden-more successors s q pairs h bytes w v e r =
+hidden_more successors s q pairs h bytes w v e r =
     r ∙ ap₂ (λ l k. with_state l (get_or successors k 0)) e (add_assoc (s * letter_limit) q (h * pairs))
     ∙ sym (ap (λ k. with_hidden successors s q pairs k bytes) (add-one h))
 
-pub hidden-done : (successors : List ℕ) (s q pairs h hiddens : ℕ) (bytes w : List ℕ) → h ≡ hiddens → w ≡ with_hidden successors s q pairs h bytes
+pub hidden_done : (successors : List ℕ) (s q pairs h hiddens : ℕ) (bytes w : List ℕ) → h ≡ hiddens → w ≡ with_hidden successors s q pairs h bytes
     → w ≡ with_hidden successors s q pairs hiddens bytes
-hidden-done successors s q pairs h hiddens bytes w e r = r ∙ ap (λ k. with_hidden successors s q pairs k bytes) e
+hidden_done successors s q pairs h hiddens bytes w e r = r ∙ ap (λ k. with_hidden successors s q pairs k bytes) e

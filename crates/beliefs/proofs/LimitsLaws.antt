@@ -12,8 +12,8 @@ state_bits = omega arith
 pub state_byte : state_limit ≤ 2 ^ 8
 state_byte = omega arith
 
-pub pair-byte : pair_limit ≤ 2 ^ 8
-pair-byte = omega arith
+pub pair_byte : pair_limit ≤ 2 ^ 8
+pair_byte = omega arith
 
 pub belief_byte : belief_limit ≤ 2 ^ 8
 belief_byte = omega arith

@@ -14,7 +14,7 @@ use Rattle.basics.specs.Lists.{tabulate}
 use Rattle.basics.proofs.ListsLaws.{length_tabulate, get_d_tabulate}
 use Rattle.search.specs.Limits.{letter_limit}
 use Rattle.basics.specs.Bounded.{first_that, all}
-use Rattle.basics.proofs.BoundedLaws.{agree-none, agree-more, agree-fails, agree_at, agree-all, first_le, first_passes, all_suc, all-at, all_of, all-fails, any_ext}
+use Rattle.basics.proofs.BoundedLaws.{agree_none, agree_more, agree_fails, agree_at, agree_all, first_le, first_passes, all_suc, all_at, all_of, all_fails, any_ext}
 use Rattle.play.specs.Belief.{Belief, has}
 use Rattle.beliefs.specs.BeliefMemory.{successor_in, belief_after}
 use Rattle.beliefs.specs.Twins.{same_from, same_pairs, first_twin, Twins}
@@ -23,34 +23,34 @@ module _ (successors : List ℕ) (pairs a b s : ℕ) where
   abbrev pub entry : ℕ → ℕ → ℕ
   entry q h = get_or successors (s * letter_limit + q + h * pairs) 0
 
-  entry-is : (q h : ℕ) → entry q h ≡ successor_in successors s (q + h * pairs)
-  entry-is q h = ap (λ k. get_or successors k 0) (add_assoc (s * letter_limit) q (h * pairs))
+  entry_is : (q h : ℕ) → entry q h ≡ successor_in successors s (q + h * pairs)
+  entry_is q h = ap (λ k. get_or successors k 0) (add_assoc (s * letter_limit) q (h * pairs))
 
-  pub from-none : same_from successors pairs 0 a b s ≡ true
+  pub from_none : same_from successors pairs 0 a b s ≡ true
   unfolding same_from
-  from-none = agree-none _ _
+  from_none = agree_none _ _
 
   pub from_more : (h : ℕ) → same_from successors pairs h a b s ≡ true → entry a h ≡ entry b h → same_from successors pairs (h + 1) a b s ≡ true
   unfolding same_from
-  from_more h t e = agree-more _ _ h t (sym (entry-is a h) ∙ e ∙ entry-is b h)
+  from_more h t e = agree_more _ _ h t (sym (entry_is a h) ∙ e ∙ entry_is b h)
 
-  pub from-fails : (hiddens h : ℕ) → h < hiddens → (entry a h ≡ entry b h → ⊥) → same_from successors pairs hiddens a b s ≡ false
+  pub from_fails : (hiddens h : ℕ) → h < hiddens → (entry a h ≡ entry b h → ⊥) → same_from successors pairs hiddens a b s ≡ false
   unfolding same_from
-  from-fails hiddens h l ne = agree-fails _ _ hiddens h l (λ e. ne (entry-is a h ∙ e ∙ sym (entry-is b h)))
+  from_fails hiddens h l ne = agree_fails _ _ hiddens h l (λ e. ne (entry_is a h ∙ e ∙ sym (entry_is b h)))
 
 module _ (successors : List ℕ) (pairs hiddens a b : ℕ) where
-  pub pairs-none : same_pairs successors 0 pairs hiddens a b ≡ true
+  pub pairs_none : same_pairs successors 0 pairs hiddens a b ≡ true
   unfolding same_pairs
-  pairs-none = refl
+  pairs_none = refl
 
-  pub pairs-more : (s : ℕ) → same_pairs successors s pairs hiddens a b ≡ true → same_from successors pairs hiddens a b s ≡ true
+  pub pairs_more : (s : ℕ) → same_pairs successors s pairs hiddens a b ≡ true → same_from successors pairs hiddens a b s ≡ true
       → same_pairs successors (s + 1) pairs hiddens a b ≡ true
   unfolding same_pairs
-  pairs-more s t e = ap (λ k. all k (same_from successors pairs hiddens a b)) (add-one s) ∙ all_suc s (same_from successors pairs hiddens a b) ∙ ap₂ ◌&&◌ e t
+  pairs_more s t e = ap (λ k. all k (same_from successors pairs hiddens a b)) (add-one s) ∙ all_suc s (same_from successors pairs hiddens a b) ∙ ap₂ ◌&&◌ e t
 
-  pub pairs-fails : (n s : ℕ) → s < n → same_from successors pairs hiddens a b s ≡ false → same_pairs successors n pairs hiddens a b ≡ false
+  pub pairs_fails : (n s : ℕ) → s < n → same_from successors pairs hiddens a b s ≡ false → same_pairs successors n pairs hiddens a b ≡ false
   unfolding same_pairs
-  pairs-fails n s l f = all-fails n (same_from successors pairs hiddens a b) s l f
+  pairs_fails n s l f = all_fails n (same_from successors pairs hiddens a b) s l f
 
 -- the belief after one is the belief after the other
 pub twin_after : (successors : List ℕ) (n pairs hiddens a b : ℕ) (x : Belief) → same_pairs successors n pairs hiddens a b ≡ true
@@ -58,12 +58,12 @@ pub twin_after : (successors : List ℕ) (n pairs hiddens a b : ℕ) (x : Belief
 unfolding belief_after same_pairs same_from
 twin_after successors n pairs hiddens a b x e =
     ap (tabulate n) (fun_ext (λ t. any_ext n _ _ (λ s l. ap (λ c. has x s && c)
-    (any_ext hiddens _ _ (λ h k. ap (λ y. eqb y t) (sym (agree_at _ _ hiddens h (all-at n _ e s l) k)))))))
+    (any_ext hiddens _ _ (λ h k. ap (λ y. eqb y t) (sym (agree_at _ _ hiddens h (all_at n _ e s l) k)))))))
 
 -- a pair leads where it leads
 self_twin : (successors : List ℕ) (n pairs hiddens a : ℕ) → same_pairs successors n pairs hiddens a a ≡ true
 unfolding same_pairs same_from
-self_twin successors n pairs hiddens a = all_of n _ (λ s l. agree-all _ _ hiddens (λ h k. refl))
+self_twin successors n pairs hiddens a = all_of n _ (λ s l. agree_all _ _ hiddens (λ h k. refl))
 
 -- what `put_twins` writes
 pub twins_are : (successors : List ℕ) (n pairs hiddens : ℕ) (rest twins : List ℕ) → twins ≡ tabulate pairs (first_twin successors n pairs hiddens) ++ rest

@@ -42,13 +42,13 @@ pub responding : (work table text : ℕ) (source : List ℕ) (a : Told) (bytes :
 responding = ResponseLaws.respond_iff
 
 -- a refusal leaves the text as it was, and an answer all behind it
-pub text-kept : (work table : ℕ) (source x : List ℕ) (number place : ℕ)
+pub text_kept : (work table : ℕ) (source x : List ℕ) (number place : ℕ)
     → told_printed (responded_by work table (length x) source) ≡ refused number place → response_after work table source x ≡ x
-text-kept = ResponseLaws.text-kept
+text_kept = ResponseLaws.text_kept
 
-pub text-rest : (work table : ℕ) (source x : List ℕ) (n : ℕ)
+pub text_rest : (work table : ℕ) (source x : List ℕ) (n : ℕ)
     → told_printed (responded_by work table (length x) source) ≡ values (n ∷ []) → drop n (response_after work table source x) ≡ drop n x
-text-rest = ResponseLaws.text-rest
+text_rest = ResponseLaws.text_rest
 
 -- where any memory is too short, the table and the work memory are as they were; otherwise the table is as `solve` leaves it, and the work
 -- memory all zero
@@ -65,13 +65,13 @@ pub printing : (t : List ℕ) (shape : Shape) (worst room : ℕ) (a : Told) (byt
     → ((told_printed (printed_by t shape worst room) ≡ a) × (bytes_by t shape worst room ≡ bytes)) ↔ PrintedAs t shape worst room a bytes
 printing = PrintedIffDue.print_iff
 
-pub print-kept : (t : List ℕ) (shape : Shape) (worst : ℕ) (x : List ℕ) (number place : ℕ)
+pub print_kept : (t : List ℕ) (shape : Shape) (worst : ℕ) (x : List ℕ) (number place : ℕ)
     → told_printed (printed_by t shape worst (length x)) ≡ refused number place → text_after t shape worst x ≡ x
-print-kept = PrintedIffDue.text-kept
+print_kept = PrintedIffDue.text_kept
 
-pub print-rest : (t : List ℕ) (shape : Shape) (worst : ℕ) (x : List ℕ) (n : ℕ)
+pub print_rest : (t : List ℕ) (shape : Shape) (worst : ℕ) (x : List ℕ) (n : ℕ)
     → told_printed (printed_by t shape worst (length x)) ≡ values (n ∷ []) → drop n (text_after t shape worst x) ≡ drop n x
-print-rest = PrintedIffDue.text-rest
+print_rest = PrintedIffDue.text_rest
 
 -- the start: 13, or row 0, under `Set` with its choice
 pub starting : (t : List ℕ) (shape : Shape) (old : Position) (a : Told) (p : Position)
@@ -86,8 +86,8 @@ pub stepping : (t : List ℕ) (shape : Shape) (observation : ℕ) (old : Positio
 stepping = AnswersDue.step_iff
 
 -- the steps left: 13, or the rank of the row
-pub steps-left : (t : List ℕ) (shape : Shape) (p : Position) (a : Told) → (told_left (left_of t shape p) ≡ a) ↔ LeftAs t shape p a
-steps-left = AnswersDue.left_iff
+pub steps_left : (t : List ℕ) (shape : Shape) (p : Position) (a : Told) → (told_left (left_of t shape p) ≡ a) ↔ LeftAs t shape p a
+steps_left = AnswersDue.left_iff
 
 -- the position is told to be stopped exactly where a step is refused with 14, whatever the observation
 pub stopped : (t : List ℕ) (shape : Shape) (observation : ℕ) (p : Position)
@@ -101,15 +101,15 @@ pub accepted : (s : List ℕ) (cells : ℕ) → table_size ≤ cells → ((shape
 accepted = CarriedTable.accepted_iff
 
 -- printing what was loaded gives the text again
-pub print-loaded : (s t : List ℕ) (shape : Shape) (worst : ℕ) → loaded_by (length t) s ≡ Table shape worst → (room : ℕ) → text_size ≤ room
+pub print_loaded : (s t : List ℕ) (shape : Shape) (worst : ℕ) → loaded_by (length t) s ≡ Table shape worst → (room : ℕ) → text_size ≤ room
     → (printed_by (loadedTable s t) shape worst room ≡ Text (length s)) × (bytes_by (loadedTable s t) shape worst room ≡ s)
-print-loaded = CarriedTable.print-loaded
+print_loaded = CarriedTable.print_loaded
 
 -- a cabinet that runs what was loaded never meets number 13: started at any old position and stepped with any observations, it stands on a row,
 -- so that the next step is 14, 15 or a move (`stepping`)
-pub loaded-holds : (s t : List ℕ) (shape : Shape) (worst : ℕ) → loaded_by (length t) s ≡ Table shape worst → (old : Position) (h : List ℕ)
+pub loaded_holds : (s t : List ℕ) (shape : Shape) (worst : ℕ) → loaded_by (length t) s ≡ Table shape worst → (old : Position) (h : List ℕ)
     → Holds (loadedTable s t) shape (step_all (loadedTable s t) shape (start_of (loadedTable s t) shape old) h).position
-loaded-holds = CarriedTable.loaded-holds
+loaded_holds = CarriedTable.loaded_holds
 
 -- loading what was printed gives the used rows again, and their shape: a table whose rows all stop does not show how many signals are observed,
 -- and is loaded with none
@@ -121,24 +121,24 @@ load_printed = CarriedTable.load_printed
 -- ---- a table stops within the number shown, solved or not, under either order
 
 -- a step that is answered leads to a lower rank, whatever the table
-pub step-lowers : (t : List ℕ) (shape : Shape) (observation c : ℕ) (p : Position)
+pub step_lowers : (t : List ℕ) (shape : Shape) (observation c : ℕ) (p : Position)
     → told_answer (step_of t shape observation p).answer ≡ values (c ∷ [])
     → rank_cell shape.order t (step_of t shape observation p).position.row < rank_cell shape.order t p.row
-step-lowers = StopsInTime.step-lowers
+step_lowers = StopsInTime.step_lowers
 
 -- any table that is loaded, stepped with any possible observations
 module _ (s t : List ℕ) (shape : Shape) (worst : ℕ) (loads : loaded_by (length t) s ≡ Table shape worst)
     (observation : ℕ → ℕ) (possible : AllPossible shape observation) where
   -- started at any old position it is answered; it is refused nothing before it stops, and stops within the worst case that the text tells
-  pub loaded-stops : (old : Position)
+  pub loaded_stops : (old : Position)
       → (c : ℕ) × (told_answer (start_of (loadedTable s t) shape old).answer ≡ values (c ∷ []))
       × StopsWithin (loadedTable s t) shape observation (start_of (loadedTable s t) shape old).position worst
-  loaded-stops = CarriedTable.loaded-stops s t shape worst loads observation possible
+  loaded_stops = CarriedTable.loaded_stops s t shape worst loads observation possible
 
   -- so it does from each row, within the row's rank
-  pub stops-from : (p : Position) → p.row < shape.rows → Held shape.order (loadedTable s t) p
+  pub stops_from : (p : Position) → p.row < shape.rows → Held shape.order (loadedTable s t) p
       → StopsWithin (loadedTable s t) shape observation p (rank_cell shape.order (loadedTable s t) p.row)
-  stops-from = CarriedTable.stops-from s t shape worst loads observation possible
+  stops_from = CarriedTable.stops_from s t shape worst loads observation possible
 
 -- ---- DEMAND 3 carried to the desk
 
@@ -168,6 +168,6 @@ module _ (work room : ℕ) (source : List ℕ) (shape : Shape) (r : ℕ) (table 
     pub carried : loaded_by (length t) (table_text table shape r) ≡ Table shape r
     carried = CarriedTable.carried work room source shape r table due p denotes t enough
 
-    pub carried-running : (old : Position) (play : Play (game_of p))
+    pub carried_running : (old : Position) (play : Play (game_of p))
         → Runs (game_of p) strategy r (answer_to (loadedTable (table_text table shape r) t) shape old) play
-    carried-running = CarriedTable.carried-running work room source shape r table due p denotes t enough
+    carried_running = CarriedTable.carried_running work room source shape r table due p denotes t enough

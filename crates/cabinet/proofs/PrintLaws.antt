@@ -18,9 +18,9 @@ use Rattle.printer.specs.Limits.{text_size}
 use Rattle.wellformed.specs.WellFormed.{is_printable}
 use Rattle.printer.specs.Text.{table_text}
 use Rattle.cabinet.specs.Print.{printed_by, bytes_by, text_after, told_printed, used_text, PrintedAs}
-use Rattle.cabinet.proofs.PrintedIffDue.{print-told}
-use Rattle.wellformed.proofs.TestsSay.{printable-says}
-use Rattle.printer.proofs.TextLaws.{text-fits}
+use Rattle.cabinet.proofs.PrintedIffDue.{print_told}
+use Rattle.wellformed.proofs.TestsSay.{printable_says}
+use Rattle.printer.proofs.TextLaws.{text_fits}
 
 module _ (t : List ℕ) (shape : Shape) (worst : ℕ) (text : List ℕ) where
   -- the answer r, with the text left as `after`, is what the call promises
@@ -30,16 +30,16 @@ module _ (t : List ℕ) (shape : Shape) (worst : ℕ) (text : List ℕ) where
       × ((after ≡ text_after t shape worst text) × PrintedAs t shape worst (length text) (told_printed r) (used_text r after))
 
   prints : (r : Printed) (after : List ℕ) → r ≡ printed_by t shape worst (length text) → after ≡ text_after t shape worst text → Prints r after
-  prints r after p q = (p, (q, print-told t shape worst text r after (p, q)))
+  prints r after p q = (p, (q, print_told t shape worst text r after (p, q)))
 
-  pub print-short : length text < text_size → Prints (Refused ShortMemory) text
+  pub print_short : length text < text_size → Prints (Refused ShortMemory) text
   unfolding printed_by bytes_by
-  print-short h = let short = lt-ltb (length text) text_size h in prints (Refused ShortMemory) text (rw short refl) (rw short refl)
+  print_short h = let short = lt-ltb (length text) text_size h in prints (Refused ShortMemory) text (rw short refl) (rw short refl)
 
   module _ (h : text_size ≤ length text) (a : Bool) (e : a ≡ is_printable t shape worst) where
-    pub print-refused : not a ≡ true → Prints (Refused BadTable) text
+    pub print_refused : not a ≡ true → Prints (Refused BadTable) text
     unfolding printed_by bytes_by
-    print-refused f =
+    print_refused f =
         let room = le-ltb (length text) text_size h in
         let fails : is_printable t shape worst ≡ false = sym e ∙ not-true a f in
         prints (Refused BadTable) text (rw (room, fails) refl) (rw (room, fails) refl)
@@ -49,14 +49,14 @@ module _ (t : List ℕ) (shape : Shape) (worst : ℕ) (text : List ℕ) where
       passes = sym e ∙ not-false a f
 
       -- what the writing of the table asks
-      pub print-asks : (shape.observed ≤ kind_limit) × ((shape.rows * row_size shape.order ≤ length t) × (length (table_text t shape worst) ≤ length text))
-      print-asks =
-          let p = ((printable-says t shape worst).0 passes).shaped in
-          (p.sized.seen, (p.sized.room, le_trans (text-fits t shape worst p) h))
+      pub print_asks : (shape.observed ≤ kind_limit) × ((shape.rows * row_size shape.order ≤ length t) × (length (table_text t shape worst) ≤ length text))
+      print_asks =
+          let p = ((printable_says t shape worst).0 passes).shaped in
+          (p.sized.seen, (p.sized.room, le_trans (text_fits t shape worst p) h))
 
-      pub print-done : (n : ℕ) (after : List ℕ) → n ≡ length (table_text t shape worst) → after ≡ written (table_text t shape worst) text
+      pub print_done : (n : ℕ) (after : List ℕ) → n ≡ length (table_text t shape worst) → after ≡ written (table_text t shape worst) text
           → Prints (Text n) after
       unfolding printed_by bytes_by
-      print-done n after p q =
+      print_done n after p q =
           let room = le-ltb (length text) text_size h in
           prints (Text n) after (rw (room, passes) (ap Text p)) (rw (room, passes) q)

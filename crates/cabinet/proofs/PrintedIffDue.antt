@@ -11,15 +11,15 @@ use borrow.Author.Tests.{ltb-true, ltb-false, lt-ltb, le-ltb}
 use Rattle.basics.proofs.Booleans.{test, clash}
 use Rattle.basics.proofs.SaysLaws.{says_false}
 use Rattle.basics.specs.Lists.{written}
-use Rattle.basics.proofs.ListsLaws.{written-rest}
+use Rattle.basics.proofs.ListsLaws.{written_rest}
 use Rattle.lines.specs.Refusal.{Told, values, refused}
 use Rattle.tables.specs.declared.shape.Shape.{Shape}
 use Rattle.printer.specs.Limits.{text_size}
 use Rattle.wellformed.specs.WellFormed.{is_printable}
 use Rattle.printer.specs.Text.{table_text}
 use Rattle.cabinet.specs.declared.printing.Printed.{Printed}
-use Rattle.wellformed.proofs.TestsSay.{printable-says}
-use Rattle.cabinet.specs.Print.{printed_by, bytes_by, text_after, told_printed, used_text, PrintedAs, short_memory, bad-table, text}
+use Rattle.wellformed.proofs.TestsSay.{printable_says}
+use Rattle.cabinet.specs.Print.{printed_by, bytes_by, text_after, told_printed, used_text, PrintedAs, short_memory, bad_table, text}
 
 -- bytes that are an answer's own
 abbrev pub OwnBytes : Told → List ℕ → Type 0
@@ -28,22 +28,22 @@ OwnBytes (values (n ∷ l)) bytes = length bytes ≡ n
 OwnBytes (refused number place) bytes = bytes ≡ []
 
 module _ (t : List ℕ) (shape : Shape) (worst : ℕ) where
-  print-due : (room : ℕ) → PrintedAs t shape worst room (told_printed (printed_by t shape worst room)) (bytes_by t shape worst room)
+  print_due : (room : ℕ) → PrintedAs t shape worst room (told_printed (printed_by t shape worst room)) (bytes_by t shape worst room)
   unfolding printed_by bytes_by
-  print-due room =
+  print_due room =
       elim (test (ltb room text_size)) [
         | inl s ↦ rw s (short_memory (ltb-true room text_size s))
         | inr l ↦
             elim (test (is_printable t shape worst)) [
-              | inr f ↦ rw (l, f) (bad-table (ltb-false room text_size l) (λ p. clash ((printable-says t shape worst).1 p) f))
-              | inl e ↦ rw (l, e) (text (ltb-false room text_size l) ((printable-says t shape worst).0 e))
+              | inr f ↦ rw (l, f) (bad_table (ltb-false room text_size l) (λ p. clash ((printable_says t shape worst).1 p) f))
+              | inl e ↦ rw (l, e) (text (ltb-false room text_size l) ((printable_says t shape worst).0 e))
             ]
       ]
 
   -- what stands at the front of the text
-  print-used : (room : List ℕ) → used_text (printed_by t shape worst (length room)) (text_after t shape worst room) ≡ bytes_by t shape worst (length room)
+  print_used : (room : List ℕ) → used_text (printed_by t shape worst (length room)) (text_after t shape worst room) ≡ bytes_by t shape worst (length room)
   unfolding printed_by bytes_by
-  print-used room =
+  print_used room =
       elim (test (ltb (length room) text_size)) [
         | inl s ↦ rw s refl
         | inr l ↦
@@ -55,40 +55,40 @@ module _ (t : List ℕ) (shape : Shape) (worst : ℕ) where
             ]
       ]
 
-  pub print-told : (room : List ℕ) (r : Printed) (after : List ℕ)
+  pub print_told : (room : List ℕ) (r : Printed) (after : List ℕ)
       → (r ≡ printed_by t shape worst (length room)) × (after ≡ text_after t shape worst room)
       → PrintedAs t shape worst (length room) (told_printed r) (used_text r after)
-  print-told room r after e = rw (e.0, e.1, print-used room) (print-due (length room))
+  print_told room r after e = rw (e.0, e.1, print_used room) (print_due (length room))
 
-  print-answered : (room : ℕ) (a : Told) (bytes : List ℕ) → PrintedAs t shape worst room a bytes
+  print_answered : (room : ℕ) (a : Told) (bytes : List ℕ) → PrintedAs t shape worst room a bytes
       → (told_printed (printed_by t shape worst room) ≡ a) × (bytes_by t shape worst room ≡ bytes)
   unfolding printed_by bytes_by
-  print-answered room a bytes (short_memory s) = rw (lt-ltb room text_size s) (refl, refl)
-  print-answered room a bytes (bad-table l n) = rw (le-ltb room text_size l, says_false (printable-says t shape worst) n) (refl, refl)
-  print-answered room a bytes (text l p) = rw (le-ltb room text_size l, (printable-says t shape worst).1 p) (refl, refl)
+  print_answered room a bytes (short_memory s) = rw (lt-ltb room text_size s) (refl, refl)
+  print_answered room a bytes (bad_table l n) = rw (le-ltb room text_size l, says_false (printable_says t shape worst) n) (refl, refl)
+  print_answered room a bytes (text l p) = rw (le-ltb room text_size l, (printable_says t shape worst).1 p) (refl, refl)
 
   pub print_iff : (room : ℕ) (a : Told) (bytes : List ℕ)
       → ((told_printed (printed_by t shape worst room) ≡ a) × (bytes_by t shape worst room ≡ bytes)) ↔ PrintedAs t shape worst room a bytes
   print_iff room a bytes = (
     λ e. subst (PrintedAs t shape worst room a) e.1
-        (subst (λ b. PrintedAs t shape worst room b (bytes_by t shape worst room)) e.0 (print-due room)),
-    print-answered room a bytes,
+        (subst (λ b. PrintedAs t shape worst room b (bytes_by t shape worst room)) e.0 (print_due room)),
+    print_answered room a bytes,
   )
 
   -- a refusal writes nothing, and a text as many bytes as it tells
-  print-counted : (room : ℕ) → OwnBytes (told_printed (printed_by t shape worst room)) (bytes_by t shape worst room)
-  print-counted room = counted (told_printed (printed_by t shape worst room)) (bytes_by t shape worst room) (print-due room)
+  print_counted : (room : ℕ) → OwnBytes (told_printed (printed_by t shape worst room)) (bytes_by t shape worst room)
+  print_counted room = counted (told_printed (printed_by t shape worst room)) (bytes_by t shape worst room) (print_due room)
     where
       counted : (a : Told) (bytes : List ℕ) → PrintedAs t shape worst room a bytes → OwnBytes a bytes
       counted a bytes (short_memory s) = refl
-      counted a bytes (bad-table l f) = refl
+      counted a bytes (bad_table l f) = refl
       counted a bytes (text l e) = refl
 
-  pub text-kept : (x : List ℕ) (number place : ℕ) → told_printed (printed_by t shape worst (length x)) ≡ refused number place → text_after t shape worst x ≡ x
-  text-kept x number place e =
-      ap (λ b. written b x) (subst (λ a. OwnBytes a (bytes_by t shape worst (length x))) e (print-counted (length x)))
+  pub text_kept : (x : List ℕ) (number place : ℕ) → told_printed (printed_by t shape worst (length x)) ≡ refused number place → text_after t shape worst x ≡ x
+  text_kept x number place e =
+      ap (λ b. written b x) (subst (λ a. OwnBytes a (bytes_by t shape worst (length x))) e (print_counted (length x)))
 
-  pub text-rest : (x : List ℕ) (n : ℕ) → told_printed (printed_by t shape worst (length x)) ≡ values (n ∷ []) → drop n (text_after t shape worst x) ≡ drop n x
-  text-rest x n e =
-      written-rest (bytes_by t shape worst (length x)) x n
-      (subst (λ a. OwnBytes a (bytes_by t shape worst (length x))) e (print-counted (length x)))
+  pub text_rest : (x : List ℕ) (n : ℕ) → told_printed (printed_by t shape worst (length x)) ≡ values (n ∷ []) → drop n (text_after t shape worst x) ≡ drop n x
+  text_rest x n e =
+      written_rest (bytes_by t shape worst (length x)) x n
+      (subst (λ a. OwnBytes a (bytes_by t shape worst (length x))) e (print_counted (length x)))

@@ -23,14 +23,14 @@ use Rattle.play.specs.Cells.{row_size, table_size}
 use Rattle.rules.specs.Limits.{work_size}
 use Rattle.tables.specs.declared.shape.Shape.{Shape}
 use Rattle.basics.specs.Lists.{written}
-use Rattle.basics.proofs.ListsLaws.{written-rest}
+use Rattle.basics.proofs.ListsLaws.{written_rest}
 use Rattle.basics.specs.Says.{Says}
 use Rattle.basics.proofs.SaysLaws.{says_or, says_false, lt_says}
 use Rattle.game.specs.SolvedAs.{is_short, solved_from, solved_by, told_solved, cells_from, cells_by, table_after, work_after, used_rows}
 use Rattle.game.specs.SolvedAs.{Controller, Short, SolvedAs}
-use Rattle.game.proofs.SolvedAsLaws.{short-says, not_short, due-read, answered_iff, RowCells, due-cells, same-solved}
+use Rattle.game.proofs.SolvedAsLaws.{short_says, not_short, due_read, answered_iff, RowCells, due_cells, same_solved}
 use Rattle.game.proofs.LentMemory.{work_kept, work_cleared}
-use Rattle.game.proofs.SolvedAsCases.{due-table}
+use Rattle.game.proofs.SolvedAsCases.{due_table}
 use Rattle.cabinet.specs.declared.printing.Printed.{Printed}
 use Rattle.cabinet.specs.declared.printing.Printed.TheVariants.{Text, Refused}
 use Rattle.printer.specs.Limits.{text_size}
@@ -40,8 +40,8 @@ use Rattle.cabinet.specs.Print.{printed_by, bytes_by, text_after, told_printed, 
 use Rattle.cabinet.specs.Response.{solved_text, response, is_tight, responded_by, bytes_for, response_after, responded_table}
 use Rattle.cabinet.specs.Response.{responded_work, RespondedAs, short_memory, answered}
 use Rattle.cabinet.proofs.PrintedIffDue.{OwnBytes}
-use Rattle.wellformed.proofs.TestsSay.{printable-says}
-use Rattle.cabinet.proofs.SolvedTable.{can-print}
+use Rattle.wellformed.proofs.TestsSay.{printable_says}
+use Rattle.cabinet.proofs.SolvedTable.{can_print}
 
 -- the whole call: its answer, and what it leaves in text, table and work memory
 abbrev Responded : (source work table text : List ℕ) → Printed → (text' table' work' : List ℕ) → Type 0
@@ -51,7 +51,7 @@ Responded source work table text r text' table' work' =
     × RespondedAs (length work) (length table) (length text) source (told_printed r) (used_text r text')
 
 tight_says : (work table text : ℕ) → Says (is_tight work table text) (Short work table ⊎ (text < text_size))
-tight_says work table text = says_or (short-says work table) (lt_says text text_size)
+tight_says work table text = says_or (short_says work table) (lt_says text text_size)
 
 -- memory that is too short
 pub tight_right : (source work table text : List ℕ) → is_tight (length work) (length table) (length text) ≡ true
@@ -70,26 +70,26 @@ tight_right source work table text e =
 
 -- what is written, by cases
 module _ (source : List ℕ) where
-  response-refused : (x : Refusal) → solved_from (read_problem source) ≡ solved.Refused x → response source ≡ refusal_text x
+  response_refused : (x : Refusal) → solved_from (read_problem source) ≡ solved.Refused x → response source ≡ refusal_text x
   unfolding response
-  response-refused x h = rw h
+  response_refused x h = rw h
 
-  response-table : (shape : Shape) (r : ℕ) → solved_from (read_problem source) ≡ solved.Table shape r
+  response_table : (shape : Shape) (r : ℕ) → solved_from (read_problem source) ≡ solved.Table shape r
       → response source ≡ table_text (cells_from (read_problem source)) shape r
   unfolding response
-  response-table shape r h = rw h
+  response_table shape r h = rw h
 
 -- the cells of a table that is answered are those of its rows
 cells_count : (source : List ℕ) (shape : Shape) (r : ℕ) → solved_from (read_problem source) ≡ solved.Table shape r
     → length (cells_from (read_problem source)) ≡ shape.rows * row_size shape.order
 cells_count source shape r e =
     subst (λ z. RowCells (told_solved z) (cells_from (read_problem source))) e
-    (due-cells work_size table_size source _ _ (due-read source work_size table_size (not_short work_size table_size refl)))
+    (due_cells work_size table_size source _ _ (due_read source work_size table_size (not_short work_size table_size refl)))
     shape.rows shape.observed r shape.order refl
 
 -- memory that is long enough
-pub text-long : (work table text : ℕ) → is_tight work table text ≡ false → text_size ≤ text
-text-long work table text e = ltb-false text text_size (or_right (is_short work table) (ltb text text_size) e)
+pub text_long : (work table text : ℕ) → is_tight work table text ≡ false → text_size ≤ text
+text_long work table text e = ltb-false text text_size (or_right (is_short work table) (ltb text text_size) e)
 
 module _ (source work table text : List ℕ) (e : is_tight (length work) (length table) (length text) ≡ false)
     (s : Solved) (table' work' : List ℕ) (answer : s ≡ solved_by (length work) (length table) source)
@@ -100,34 +100,34 @@ module _ (source work table text : List ℕ) (e : is_tight (length work) (length
   long : ltb (length text) text_size ≡ false
   long = or_right (is_short (length work) (length table)) (ltb (length text) text_size) e
 
-  is-solved : s ≡ solved_from (read_problem source)
+  is_solved : s ≡ solved_from (read_problem source)
   unfolding solved_by
-  is-solved = answer ∙ rw enough
+  is_solved = answer ∙ rw enough
 
-  is-written : table' ≡ written (cells_from (read_problem source)) table
+  is_written : table' ≡ written (cells_from (read_problem source)) table
   unfolding cells_by
-  is-written = rows ∙ rw enough
+  is_written = rows ∙ rw enough
 
   -- what is written is the text of the answer that is due
-  response-due : RespondedAs (length work) (length table) (length text) source (values (length (response source) ∷ [])) (response source)
+  response_due : RespondedAs (length work) (length table) (length text) source (values (length (response source) ∷ [])) (response source)
   unfolding response
-  response-due =
+  response_due =
       answered (λ t. clash ((tight_says (length work) (length table) (length text)).1 t) e) (solved_from (read_problem source)) (cells_from (read_problem source))
-      (due-read source (length work) (length table) (not_short (length work) (length table) enough))
+      (due_read source (length work) (length table) (not_short (length work) (length table) enough))
 
   responded : (r : Printed) (text' : List ℕ) → r ≡ Text (length (response source)) → text' ≡ written (response source) text
       → Responded source work table text r text' table' work'
   unfolding responded_by bytes_for response_after responded_table responded_work
   responded r text' p q =
       let own = take_at (response source) (drop (length (response source)) text) (length (response source)) refl in
-      rw (e, long) (p, q, rows, cleared, rw (p, q, own) response-due)
+      rw (e, long) (p, q, rows, cleared, rw (p, q, own) response_due)
 
   -- the text of a refusal
   pub refusal_right : (x : Refusal) → s ≡ solved.Refused x → (r : Printed) (text' : List ℕ) → r ≡ Text (length (refusal_text x)) → text' ≡ written
       (refusal_text x) text
       → Responded source work table text r text' table' work'
   refusal_right x h r text' p q =
-      let is : response source ≡ refusal_text x = response-refused source x (sym is-solved ∙ h) in
+      let is : response source ≡ refusal_text x = response_refused source x (sym is_solved ∙ h) in
       responded r text' (p ∙ ap (λ l. Text (length l)) (sym is)) (q ∙ ap (λ l. written l text) (sym is))
 
   -- the text of a table: it is one that can be printed
@@ -137,55 +137,55 @@ module _ (source work table text : List ℕ) (e : is_tight (length work) (length
     abbrev size : ℕ
     size = shape.rows * row_size shape.order
 
-    is-table : solved_from (read_problem source) ≡ solved.Table shape r
-    is-table = sym is-solved ∙ h
+    is_table_lem : solved_from (read_problem source) ≡ solved.Table shape r
+    is_table_lem = sym is_solved ∙ h
 
-    table-due : SolvedAs (length work) (length table) source (told_solved (solved.Table shape r)) (take size table')
-    table-due = subst (λ z. SolvedAs (length work) (length table) source (told_solved z) (used_rows z table')) h due
+    table_due : SolvedAs (length work) (length table) source (told_solved (solved.Table shape r)) (take size table')
+    table_due = subst (λ z. SolvedAs (length work) (length table) source (told_solved z) (used_rows z table')) h due
 
     controller : (p : Problem) × Denotes source p × (shape.observed ≡ p.signals.observed) × (shape.order ≡ p.order)
         × Controller p shape.rows r (take size table')
-    controller = due-table (length work) (length table) source shape.rows shape.observed r shape.order (take size table') table-due
+    controller = due_table (length work) (length table) source shape.rows shape.observed r shape.order (take size table') table_due
 
     front : take size table' ≡ cells_from (read_problem source)
-    front = ap (take size) is-written ∙ take_at (cells_from (read_problem source)) _ size (cells_count source shape r is-table)
+    front = ap (take size) is_written ∙ take_at (cells_from (read_problem source)) _ size (cells_count source shape r is_table_lem)
 
-    front-due : SolvedAs (length work) (length table) source (told_solved (solved.Table shape r)) (take size (take size table'))
-    front-due =
+    front_due : SolvedAs (length work) (length table) source (told_solved (solved.Table shape r)) (take size (take size table'))
+    front_due =
         subst (SolvedAs (length work) (length table) source (told_solved (solved.Table shape r))) (sym (take-take size size table' (omega arith)))
-        table-due
+        table_due
 
     -- its rows are few
-    pub few-rows : shape.rows ≤ belief_limit
-    few-rows = let (p, d, k, o, c) = controller in c.solves.within
+    pub few_rows : shape.rows ≤ belief_limit
+    few_rows = let (p, d, k, o, c) = controller in c.solves.within
 
     prints : is_printable (take size table') shape r ≡ true
     prints =
         let (p, d, k, o, c) = controller in
-        (printable-says (take size table') shape r).1
-        (can-print (length work) (length table) source shape r (take size table') front-due p d)
+        (printable_says (take size table') shape r).1
+        (can_print (length work) (length table) source shape r (take size table') front_due p d)
 
     -- they end where the code says
     module _ (end : ℕ) (ends : end ≡ size) where
-      pub rows-within : end ≤ length table'
-      rows-within =
+      pub rows_within : end ≤ length table'
+      rows_within =
           let (p, d, k, o, c) = controller in
           let long : length (take size table') ≡ size = c.is_table.long ∙ ap (λ q. shape.rows * row_size q) (sym o) in
           omega (arith, ends, sym (length-take size table') ∙ long)
 
-      pub table-right : (q : Printed) (text' : List ℕ) → q ≡ printed_by (take end table') shape r (length text)
+      pub table_right : (q : Printed) (text' : List ℕ) → q ≡ printed_by (take end table') shape r (length text)
           → text' ≡ text_after (take end table') shape r text → Responded source work table text q text' table' work'
       unfolding printed_by bytes_by
-      table-right q text' p t =
+      table_right q text' p t =
           let is : table_text (take size table') shape r ≡ response source =
-          ap (λ cells. table_text cells shape r) front ∙ sym (response-table source shape r is-table) in
+          ap (λ cells. table_text cells shape r) front ∙ sym (response_table source shape r is_table_lem) in
           responded q text' (p ∙ rw (ends, long, prints) (ap (λ l. Text (length l)) is)) (t ∙ rw (ends, long, prints) (ap (λ l. written l text) is))
 
 -- what is written stands in the text
-pub text-within : (source : List ℕ) (work table : ℕ) (text : List ℕ) (r : Printed) (text' : List ℕ) → r ≡ responded_by work table (length text) source
+pub text_within : (source : List ℕ) (work table : ℕ) (text : List ℕ) (r : Printed) (text' : List ℕ) → r ≡ responded_by work table (length text) source
     → text' ≡ response_after work table source text → (n : ℕ) → r ≡ Text n → n ≤ length text'
 unfolding responded_by bytes_for response_after
-text-within source work table text r text' p q n h =
+text_within source work table text r text' p q n h =
     elim (test (is_tight work table (length text))) [
       | inl t ↦ let e = rw t at p in absurd (no_text ShortMemory n (sym e ∙ h))
       | inr f ↦
@@ -206,45 +206,45 @@ text-within source work table text r text' p q n h =
 -- ---- what is answered and written is what is due, and what is due is answered and written
 
 module _ (work table text : ℕ) (source : List ℕ) where
-  respond-due : RespondedAs work table text source (told_printed (responded_by work table text source)) (bytes_for work table text source)
+  respond_due : RespondedAs work table text source (told_printed (responded_by work table text source)) (bytes_for work table text source)
   unfolding responded_by bytes_for response
-  respond-due =
+  respond_due =
       elim (test (is_tight work table text)) [
         | inl t ↦ rw t (short_memory ((tight_says work table text).0 t))
         | inr f ↦
             rw f (answered (λ t. clash ((tight_says work table text).1 t) f) (solved_from (read_problem source)) (cells_from (read_problem source))
-            (due-read source work table (not_short work table (or_left (is_short work table) (ltb text text_size) f))))
+            (due_read source work table (not_short work table (or_left (is_short work table) (ltb text text_size) f))))
       ]
 
-  response-is : (s : Solved) (cells : List ℕ) → SolvedAs work table source (told_solved s) cells → is_short work table ≡ false
+  response_is : (s : Solved) (cells : List ℕ) → SolvedAs work table source (told_solved s) cells → is_short work table ≡ false
       → response source ≡ solved_text cells s
   unfolding response solved_by cells_by
-  response-is s cells d f =
+  response_is s cells d f =
       let (a, c) = (answered_iff source work table (told_solved s) cells).1 d in
-      let same : solved_from (read_problem source) ≡ s = same-solved (solved_from (read_problem source)) s (rw f at a) in
+      let same : solved_from (read_problem source) ≡ s = same_solved (solved_from (read_problem source)) s (rw f at a) in
       let front : cells_from (read_problem source) ≡ cells = rw f at c in
       rw (same, front) refl
 
-  respond-answered : (a : Told) (bytes : List ℕ) → RespondedAs work table text source a bytes
+  respond_answered : (a : Told) (bytes : List ℕ) → RespondedAs work table text source a bytes
       → (told_printed (responded_by work table text source) ≡ a) × (bytes_for work table text source ≡ bytes)
   unfolding responded_by bytes_for
-  respond-answered a bytes (short_memory t) = rw ((tight_says work table text).1 t) (refl, refl)
-  respond-answered a bytes (answered n s cells d) =
+  respond_answered a bytes (short_memory t) = rw ((tight_says work table text).1 t) (refl, refl)
+  respond_answered a bytes (answered n s cells d) =
       let loose : is_tight work table text ≡ false = says_false (tight_says work table text) n in
-      let is : response source ≡ solved_text cells s = response-is s cells d (or_left (is_short work table) (ltb text text_size) loose) in
+      let is : response source ≡ solved_text cells s = response_is s cells d (or_left (is_short work table) (ltb text text_size) loose) in
       rw (loose, is) (refl, refl)
 
   pub respond_iff : (a : Told) (bytes : List ℕ)
       → ((told_printed (responded_by work table text source) ≡ a) × (bytes_for work table text source ≡ bytes)) ↔ RespondedAs work table text source a bytes
   respond_iff a bytes = (
     λ e. subst (RespondedAs work table text source a) e.1
-        (subst (λ b. RespondedAs work table text source b (bytes_for work table text source)) e.0 respond-due),
-    respond-answered a bytes,
+        (subst (λ b. RespondedAs work table text source b (bytes_for work table text source)) e.0 respond_due),
+    respond_answered a bytes,
   )
 
   -- a refusal writes nothing, and a text as many bytes as it tells
-  respond-counted : OwnBytes (told_printed (responded_by work table text source)) (bytes_for work table text source)
-  respond-counted = counted (told_printed (responded_by work table text source)) (bytes_for work table text source) respond-due
+  respond_counted : OwnBytes (told_printed (responded_by work table text source)) (bytes_for work table text source)
+  respond_counted = counted (told_printed (responded_by work table text source)) (bytes_for work table text source) respond_due
     where
       counted : (a : Told) (bytes : List ℕ) → RespondedAs work table text source a bytes → OwnBytes a bytes
       counted a bytes (short_memory t) = refl
@@ -253,16 +253,16 @@ module _ (work table text : ℕ) (source : List ℕ) where
 -- ---- what is left in lent memory
 
 module _ (work table : ℕ) (source x : List ℕ) where
-  pub text-kept : (number place : ℕ) → told_printed (responded_by work table (length x) source) ≡ refused number place → response_after work table source x ≡ x
+  pub text_kept : (number place : ℕ) → told_printed (responded_by work table (length x) source) ≡ refused number place → response_after work table source x ≡ x
   unfolding response_after
-  text-kept number place e =
-      ap (λ b. written b x) (subst (λ a. OwnBytes a (bytes_for work table (length x) source)) e (respond-counted work table (length x) source))
+  text_kept number place e =
+      ap (λ b. written b x) (subst (λ a. OwnBytes a (bytes_for work table (length x) source)) e (respond_counted work table (length x) source))
 
-  pub text-rest : (n : ℕ) → told_printed (responded_by work table (length x) source) ≡ values (n ∷ []) → drop n (response_after work table source x) ≡ drop n x
+  pub text_rest : (n : ℕ) → told_printed (responded_by work table (length x) source) ≡ values (n ∷ []) → drop n (response_after work table source x) ≡ drop n x
   unfolding response_after
-  text-rest n e =
-      written-rest (bytes_for work table (length x) source) x n
-      (subst (λ a. OwnBytes a (bytes_for work table (length x) source)) e (respond-counted work table (length x) source))
+  text_rest n e =
+      written_rest (bytes_for work table (length x) source) x n
+      (subst (λ a. OwnBytes a (bytes_for work table (length x) source)) e (respond_counted work table (length x) source))
 
 module _ (text : ℕ) (source t w : List ℕ) where
   -- where any memory is too short, table and work memory are as they were
@@ -273,7 +273,7 @@ module _ (text : ℕ) (source t w : List ℕ) where
   memory_kept (inl s) =
       elim (test (ltb text text_size)) [
         | inl h ↦ rw h (refl, refl)
-        | inr h ↦ rw (h, (short-says (length w) (length t)).1 s) (refl, work_kept (length t) w s)
+        | inr h ↦ rw (h, (short_says (length w) (length t)).1 s) (refl, work_kept (length t) w s)
       ]
 
   -- otherwise the table is as `solve` leaves it, and the work memory all zero

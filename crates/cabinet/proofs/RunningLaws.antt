@@ -15,7 +15,7 @@ use Rattle.basics.proofs.ListsLaws.{tabulate_suc}
 use Rattle.lines.specs.declared.refusal.Refusal.TheVariants.{Stopped}
 use Rattle.play.specs.Limits.{belief_limit, side_limit}
 use Rattle.play.specs.Cells.{row_size, stop_cell, first_cell, is_stop, choice_cell, next_cell}
-use Rattle.play.proofs.CellsLaws.{choice-taken, next-taken, stop-taken}
+use Rattle.play.proofs.CellsLaws.{choice_taken, next_taken, stop_taken}
 use Rattle.tables.specs.declared.shape.Shape.{Shape}
 use Rattle.play.specs.Game.{Game, Play, seen, Answer as StrategyAnswer, chosen, Strategy, Decision, choose, stop, GoesOn, choice_of, Optimal}
 use Rattle.play.specs.Rank.{answer_of}
@@ -28,14 +28,14 @@ use Rattle.stepping.specs.declared.position.Answer.TheVariants.{Choice, Refused}
 use Rattle.stepping.specs.declared.position.Moved.{Moved}
 use Rattle.stepping.specs.Position.{move_to, start_at, move_from, is_standing, is_held, is_holding, start_of, step_of, Standing}
 use Rattle.cabinet.specs.Running.{step_all, answer_to, told_after, Opens, Closes, Runs}
-use Rattle.stepping.proofs.PositionLaws.{standing-says}
+use Rattle.stepping.proofs.PositionLaws.{standing_says}
 use Rattle.cabinet.proofs.LaidRows.{standing}
 
 -- one observation more
-steps-more : (t : List ℕ) (shape : Shape) (h : List ℕ) (m : Moved) (s : ℕ)
+steps_more : (t : List ℕ) (shape : Shape) (h : List ℕ) (m : Moved) (s : ℕ)
     → step_all t shape m (h ++ (s ∷ [])) ≡ step_of t shape s (step_all t shape m h).position
-steps-more t shape [] m s = refl
-steps-more t shape (k ∷ h) m s = steps-more t shape h (step_of t shape k m.position) s
+steps_more t shape [] m s = refl
+steps_more t shape (k ∷ h) m s = steps_more t shape h (step_of t shape k m.position) s
 
 -- ---- a row, read as a decision
 
@@ -48,8 +48,8 @@ module _ (o : Order) (t : List ℕ) (row : ℕ) where
       at true e = let z : ◌≡◌ {A = ℕ} 0 1 = cc in absurd (omega arith)
       at false e = (refl, cc)
 
-  row-stops : read_from o t row [] ≡ stop → is_stop o t row ≡ true
-  row-stops = at (is_stop o t row)
+  row_stops : read_from o t row [] ≡ stop → is_stop o t row ≡ true
+  row_stops = at (is_stop o t row)
     where
       at : (b : Bool) → ◌≡◌ {A = Decision o} (elim b [ true ↦ stop | false ↦ choose (answer_of o (choice_cell o t row)) ]) stop → b ≡ true
       at true e = refl
@@ -71,9 +71,9 @@ At Set t row m = m ≡ move_to t row
 At Read t row m = m.position.row ≡ row
 
 module _ (t : List ℕ) where
-  at-start : (o : Order) → At o t 0 (start_at o t)
-  at-start Set = refl
-  at-start Read = refl
+  at_start : (o : Order) → At o t 0 (start_at o t)
+  at_start Set = refl
+  at_start Read = refl
 
   at_next : (o : Order) (row s : ℕ) → At o t (next_cell o t row s) (move_from o t row s)
   at_next Set row s = refl
@@ -94,17 +94,17 @@ module _ (t : List ℕ) where
   at_goes Read row s f after k a e = ap (λ (m : Moved). m.answer) e
 
   -- where it stops
-  at-stop : (o : Order) (row : ℕ) → is_stop o t row ≡ true → (answers : List ℕ → Answer) (h : List ℕ) (m : Moved) → answers h ≡ m.answer
+  at_stop : (o : Order) (row : ℕ) → is_stop o t row ≡ true → (answers : List ℕ → Answer) (h : List ℕ) (m : Moved) → answers h ≡ m.answer
       → At o t row m → Closes o answers h
-  at-stop Set row e answers h m q a = q ∙ rw (a, e) refl
-  at-stop Read row e answers h m q a = tt
+  at_stop Set row e answers h m q a = q ∙ rw (a, e) refl
+  at_stop Read row e answers h m q a = tt
 
   -- at the start, where row 0 goes on
   at_first : (o : Order) → is_stop o t 0 ≡ false → (answers : List ℕ → Answer) → answers [] ≡ (start_at o t).answer → Opens o answers
   at_first Set f answers q = tt
   at_first Read f answers q = q ∙ rw f refl
 
-module _ (G : Game) (shape : Shape) (t : List ℕ) (few-choices : G.choices ≤ side_limit) (few-observed : shape.observed ≤ kind_limit)
+module _ (G : Game) (shape : Shape) (t : List ℕ) (few_choices : G.choices ≤ side_limit) (few_observed : shape.observed ≤ kind_limit)
     (declared : G.observations ≡ 2 ^ shape.observed) (some : 0 < shape.rows) (within : shape.rows ≤ belief_limit)
     (laid : Laid shape.order G.choices G.observations shape.rows (take (shape.rows * row_size shape.order) t)) where
   abbrev o : Order
@@ -119,22 +119,22 @@ module _ (G : Game) (shape : Shape) (t : List ℕ) (few-choices : G.choices ≤ 
 
   stands : (i : ℕ) → i < n → Standing t shape i
   stands =
-      standing G.choices shape t few-choices few-observed some within (subst (λ (k : ℕ). Laid o G.choices k n T) declared laid)
+      standing G.choices shape t few_choices few_observed some within (subst (λ (k : ℕ). Laid o G.choices k n T) declared laid)
 
   seen_below : (play : Play G) (k : ℕ) → (play k).observation < 2 ^ shape.observed
-  seen_below play k = subst (λ m. (play k).observation < m) declared (play k).observation-below
+  seen_below play k = subst (λ m. (play k).observation < m) declared (play k).observation_below
 
-  few-seen : (play : Play G) (k : ℕ) → (play k).observation < side_limit
-  few-seen play k = omega (arith, side_le shape.observed few-observed, seen_below play k)
+  few_seen : (play : Play G) (k : ℕ) → (play k).observation < side_limit
+  few_seen play k = omega (arith, side_le shape.observed few_observed, seen_below play k)
 
   starts : (old : Position) → start_of t shape old ≡ start_at o t
   unfolding start_of
-  starts old = rw ((standing-says t shape 0).1 (stands 0 some))
+  starts old = rw ((standing_says t shape 0).1 (stands 0 some))
 
   module _ (i : ℕ) (h : i < n) (m : Moved) (a : At o t i m) where
     holding : is_holding t shape m.position ≡ true
     holding =
-        and_true (subst (λ row. is_standing t shape row ≡ true) (sym (at_row t o i m a)) ((standing-says t shape i).1 (stands i h)))
+        and_true (subst (λ row. is_standing t shape row ≡ true) (sym (at_row t o i m a)) ((standing_says t shape i).1 (stands i h)))
         (at_held t o i m a)
 
     -- on to the next row, or stopped
@@ -154,10 +154,10 @@ module _ (G : Game) (shape : Shape) (t : List ℕ) (few-choices : G.choices ≤ 
       let s = (play 0).observation in
       let (c, q) = g 0 (suc-le-suc zero-le) in
       let f = (row_goes o T i c q).0 in
-      let goes = sym (stop-taken o n t i h) ∙ f in
+      let goes = sym (stop_taken o n t i h) ∙ f in
       let next = ((stands i h).good.formed.goes s (eqb-false (first_cell o t i) stop_cell goes, seen_below play 0)).next in
       let on : (k : List ℕ) → read_from o T i (s ∷ k) ≡ read_from o T (next_cell o t i s) k = λ k.
-      row_next o T i f s k ∙ ap (λ (row : ℕ). read_from o T row k) (next-taken o n t i h s (few-seen play 0)) in
+      row_next o T i f s k ∙ ap (λ (row : ℕ). read_from o T row k) (next_taken o n t i h s (few_seen play 0)) in
       let there = subst (At o t (next_cell o t i s)) (sym (goes_on_lem i h d a goes s (seen_below play 0))) (at_next t o i s) in
       let (j, l, at, same) = leads m (rest play) (next_cell o t i s) next (step_of t shape s d.position) there
       (λ k b. let (c, q) = g (suc k) (suc-le-suc b) in (c, sym (on (seen (rest play) k)) ∙ q)) in
@@ -178,10 +178,10 @@ module _ (G : Game) (shape : Shape) (t : List ℕ) (few-choices : G.choices ≤ 
     after_more : (k : ℕ) → after (suc k) ≡ step_of t shape (observed k) (after k).position
     after_more k =
         ap (step_all t shape (start_of t shape old)) (tabulate_suc k observed)
-        ∙ steps-more t shape (seen play k) (start_of t shape old) (observed k)
+        ∙ steps_more t shape (seen play k) (start_of t shape old) (observed k)
 
     from_start : (m : ℕ) → GoesOn σ play m → (j : ℕ) × (j < n) × At o t j (after m) × (σ (seen play m) ≡ read_from o T j [])
-    from_start m = leads m play 0 some (start_of t shape old) (subst (At o t 0) (sym (starts old)) (at-start t o))
+    from_start m = leads m play 0 some (start_of t shape old) (subst (At o t 0) (sym (starts old)) (at_start t o))
 
     -- at a step that it takes, it tells the strategy's choice
     tells : (k : ℕ) → GoesOn σ play k → (a : StrategyAnswer o) → σ (seen play k) ≡ choose a
@@ -190,9 +190,9 @@ module _ (G : Game) (shape : Shape) (t : List ℕ) (few-choices : G.choices ≤ 
         let s = observed k in
         let (j, l, at, same) = from_start k g in
         let (f, is) = row_goes o T j a (sym same ∙ q) in
-        let goes = sym (stop-taken o n t j l) ∙ f in
+        let goes = sym (stop_taken o n t j l) ∙ f in
         let cells : choice_cell o t j s ≡ chosen o a s =
-        sym (choice-taken o n t j l s (few-seen play k)) ∙ sym (chosen_at o T j s) ∙ ap (λ (a : StrategyAnswer o). chosen o a s) is in
+        sym (choice_taken o n t j l s (few_seen play k)) ∙ sym (chosen_at o T j s) ∙ ap (λ (a : StrategyAnswer o). chosen o a s) is in
         at_goes t o j s goes after k at (after_more k ∙ goes_on_lem j l (after k) at goes s (seen_below play k)) ∙ ap Choice cells
 
   pub runs : (r : ℕ) → Optimal G σ r → (old : Position) (play : Play G) → Runs G σ r (answer_to t shape old) play
@@ -200,21 +200,21 @@ module _ (G : Game) (shape : Shape) (t : List ℕ) (few-choices : G.choices ≤ 
       let (m, (e, g), true-trace) = best.wins play in
       let (a, first) = best.is_strategy.opens in
       let (j, l, at, same) = from_start old play m g in
-      let last = sym (stop-taken o n t j l) ∙ row-stops o T j (sym same ∙ e) in
+      let last = sym (stop_taken o n t j l) ∙ row_stops o T j (sym same ∙ e) in
       record {
         steps = m;
         choices = λ k. choice_of (σ (seen play k)) (play k).observation;
-        opens = at_first t o (sym (stop-taken o n t 0 some) ∙ (row_goes o T 0 a first).0) (answer_to t shape old)
+        opens = at_first t o (sym (stop_taken o n t 0 some) ∙ (row_goes o T 0 a first).0) (answer_to t shape old)
             (ap (λ (d : Moved). d.answer) (starts old));
         goes = λ k b.
             let (a, q) = g k b in
             let is : chosen o a (play k).observation ≡ choice_of (σ (seen play k)) (play k).observation =
             sym (ap (λ (d : Decision o). choice_of d (play k).observation) q) in
             (tells old play k (λ i h. g i (omega arith)) a q ∙ ap Choice is, (a, q, is));
-        closes = at-stop t o j last (answer_to t shape old) (seen play m) (after old play m) refl at;
+        closes = at_stop t o j last (answer_to t shape old) (seen play m) (after old play m) refl at;
         stops = e;
         ends = λ s.
-            ap (λ (d : Moved). d.answer) (steps-more t shape (seen play m) (start_of t shape old) s)
+            ap (λ (d : Moved). d.answer) (steps_more t shape (seen play m) (start_of t shape old) s)
             ∙ stays j l (after old play m) at last s;
         within = best.worst.at_most play m (e, g);
         holds = true-trace;

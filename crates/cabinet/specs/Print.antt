@@ -44,6 +44,6 @@ used_text (Refused r) text = []
 -- for a table to be printed into so much room: the answer, and the bytes that are written
 pub data PrintedAs (t : List ℕ) (shape : Shape) (worst room : ℕ) : Told → List ℕ → Type 0 where
   short_memory : room < text_size → PrintedAs t shape worst room (refused 12 0) []
-  bad-table : text_size ≤ room → (¬ Printable t shape worst) → PrintedAs t shape worst room (refused 13 0) []
+  bad_table : text_size ≤ room → (¬ Printable t shape worst) → PrintedAs t shape worst room (refused 13 0) []
   text : text_size ≤ room → Printable t shape worst
       → PrintedAs t shape worst room (values (length (table_text t shape worst) ∷ [])) (table_text t shape worst)

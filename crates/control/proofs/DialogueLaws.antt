@@ -16,10 +16,10 @@ use Rattle.basics.specs.Numbers.{number_below}
 use Rattle.basics.specs.Text.{decimal, field, line}
 use Rattle.basics.proofs.Booleans.{test}
 use Rattle.basics.proofs.BytesLaws.{same_bytes_lem, same_refl}
-use Rattle.basics.proofs.NumbersLaws.{below_lt, below-decimal}
-use Rattle.basics.proofs.Stores.{Put, Rest, rest_all, rest-room, rest-next, put_front}
-use Rattle.basics.proofs.TextLaws.{decimal_length, field_length, line-parts}
-use Rattle.stepping.specs.Position.{Holds, OnStop, SteppedAs, bad-observation}
+use Rattle.basics.proofs.NumbersLaws.{below_lt, below_decimal}
+use Rattle.basics.proofs.Stores.{Put, Rest, rest_all, rest_room, rest_next, put_front}
+use Rattle.basics.proofs.TextLaws.{decimal_length, field_length, line_parts}
+use Rattle.stepping.specs.Position.{Holds, OnStop, SteppedAs, bad_observation}
 use Rattle.stepping.specs.declared.position.Position.{Position}
 use Rattle.stepping.specs.declared.position.Answer.{Answer}
 use Rattle.lines.specs.Refusal.{refused}
@@ -35,8 +35,8 @@ use Rattle.control.specs.Dialogue.{word_room, answer_text, observation_in}
 abbrev Written : List ℕ → List ℕ → ℕ → List ℕ → Type 0
 Written l x end y = (end ≡ length l) × (y ≡ written l x)
 
-front-put : (l x : List ℕ) → length l ≤ length x → (end : ℕ) (y : List ℕ) → Put 0 l x end y → Written l x end y
-front-put l x room end y p = (p.0 ∙ zero-add (length l), p.1 ∙ put_front l x room)
+front_put : (l x : List ℕ) → length l ≤ length x → (end : ℕ) (y : List ℕ) → Put 0 l x end y → Written l x end y
+front_put l x room end y p = (p.0 ∙ zero-add (length l), p.1 ∙ put_front l x room)
 
 pub same_answer : {a b : Answer} → a ≡ b → (left : ℕ) (x : List ℕ) (end : ℕ) (y : List ℕ) → Written (answer_text b left) x end y
     → Written (answer_text a left) x end y
@@ -45,12 +45,12 @@ same_answer e left x end y p = subst (λ (a : Answer). Written (answer_text a le
 -- a line of a word and two numbers
 module _ (word : List ℕ) (short : length word ≤ 100) (c left : ℕ) (c-small : c < 65536) (left-small : left < 65536)
     (x : List ℕ) (room : text_size ≤ length x) where
-  pub two-room : length (line word (decimal c ∷ decimal left ∷ [])) ≤ length x
-  two-room = omega (arith, words_fit word c left short (omega arith) (omega arith))
+  pub two_room : length (line word (decimal c ∷ decimal left ∷ [])) ≤ length x
+  two_room = omega (arith, words_fit word c left short (omega arith) (omega arith))
 
-  pub two-written : {end : ℕ} {y : List ℕ} → (end ≡ length (line word (decimal c ∷ decimal left ∷ [])))
+  pub two_written : {end : ℕ} {y : List ℕ} → (end ≡ length (line word (decimal c ∷ decimal left ∷ [])))
       × (y ≡ sets x 0 (line word (decimal c ∷ decimal left ∷ []))) → Written (line word (decimal c ∷ decimal left ∷ [])) x end y
-  two-written p = (p.0, p.1 ∙ put_front (line word (decimal c ∷ decimal left ∷ [])) x two-room)
+  two_written p = (p.0, p.1 ∙ put_front (line word (decimal c ∷ decimal left ∷ [])) x two_room)
 
 -- a line of a word and one number: the word, the number and the end
 module _ (word : List ℕ) (short : length word ≤ word_room) (n : ℕ) (small : n < 65536) (x : List ℕ) (room : text_size ≤ length x) where
@@ -59,7 +59,7 @@ module _ (word : List ℕ) (short : length word ≤ word_room) (n : ℕ) (small 
 
   parts : whole ≡ word ++ (field (decimal n) ++ (10 ∷ []))
   unfolding flat_map
-  parts = line-parts word (decimal n) []
+  parts = line_parts word (decimal n) []
 
   fits : length whole ≤ length x
   fits =
@@ -75,24 +75,24 @@ module _ (word : List ℕ) (short : length word ≤ word_room) (n : ℕ) (small 
   rest₀ = rest_all 0 whole x (omega (arith, fits)) _ parts
 
   pub word_room_lem : 0 + length word ≤ length x
-  word_room_lem = rest-room word _ rest₀
+  word_room_lem = rest_room word _ rest₀
 
   module _ {w : ℕ} {y₁ : List ℕ} (p₁ : Put 0 word x w y₁) where
     rest₁ : Rest 0 whole x w (field (decimal n) ++ (10 ∷ [])) y₁
-    rest₁ = rest-next word _ rest₀ p₁
+    rest₁ = rest_next word _ rest₀ p₁
 
-    pub number-room : w + length (field (decimal n)) ≤ length y₁
-    number-room = rest-room (field (decimal n)) _ rest₁
+    pub number_room : w + length (field (decimal n)) ≤ length y₁
+    number_room = rest_room (field (decimal n)) _ rest₁
 
     module _ {e : ℕ} {y₂ : List ℕ} (p₂ : Put w (field (decimal n)) y₁ e y₂) where
       rest₂ : Rest 0 whole x e (10 ∷ []) y₂
-      rest₂ = rest-next (field (decimal n)) _ rest₁ p₂
+      rest₂ = rest_next (field (decimal n)) _ rest₁ p₂
 
-      pub end-room : e < length y₂
-      end-room = omega (arith, rest₂.room)
+      pub end_room : e < length y₂
+      end_room = omega (arith, rest₂.room)
 
-      pub word-put : {end : ℕ} {y : List ℕ} → Put e (10 ∷ []) y₂ end y → Written whole x end y
-      word-put p₃ = front-put whole x fits _ _ (rest₂.puts _ _ p₃)
+      pub word_put : {end : ℕ} {y : List ℕ} → Put e (10 ∷ []) y₂ end y → Written whole x end y
+      word_put p₃ = front_put whole x fits _ _ (rest₂.puts _ _ p₃)
 
 -- ---- an observation
 
@@ -101,28 +101,28 @@ module _ (l : List ℕ) (n : ℕ) (e : n ≡ number_below side_limit l) where
   unfolding observation_in
   number_same h = rw (sym e, h) refl
 
-  number-other : same_bytes l (decimal n) ≡ false → side_limit ≡ observation_in l
+  number_other : same_bytes l (decimal n) ≡ false → side_limit ≡ observation_in l
   unfolding observation_in
-  number-other h = rw (sym e, h) refl
+  number_other h = rw (sym e, h) refl
 
   -- its number has two digits at most, which are put and compared
   pub digits_fit : length (decimal n) ≤ 2
   digits_fit = decimal_length 1 n (omega (arith, below_lt side_limit l (omega arith)))
 
   module _ (end : ℕ) (y : List ℕ) (p : Put 0 (decimal n) (0 ∷ 0 ∷ []) end y) where
-    pub digits-within : end ≤ length y
-    digits-within = omega (arith, p.0, digits_fit, ap length p.1, length-sets (0 ∷ 0 ∷ []) 0 (decimal n))
+    pub digits_within : end ≤ length y
+    digits_within = omega (arith, p.0, digits_fit, ap length p.1, length-sets (0 ∷ 0 ∷ []) 0 (decimal n))
 
     digits_are : take end y ≡ decimal n
     digits_are =
-        let f = front-put (decimal n) (0 ∷ 0 ∷ []) digits_fit end y p in
+        let f = front_put (decimal n) (0 ∷ 0 ∷ []) digits_fit end y p in
         ap (take end) f.1 ∙ take_at (decimal n) _ end (sym f.0)
 
     pub same_digits : same_bytes l (take end y) ≡ true → n ≡ observation_in l
     same_digits h = number_same (ap (same_bytes l) (sym digits_are) ∙ h)
 
-    pub other-digits : same_bytes l (take end y) ≡ false → side_limit ≡ observation_in l
-    other-digits h = number-other (ap (same_bytes l) (sym digits_are) ∙ h)
+    pub other_digits : same_bytes l (take end y) ≡ false → side_limit ≡ observation_in l
+    other_digits h = number_other (ap (same_bytes l) (sym digits_are) ∙ h)
 
 pub observed_iff : (l : List ℕ) (n : ℕ) → n < side_limit → (observation_in l ≡ n) ↔ (l ≡ decimal n)
 observed_iff l n h = (to, from)
@@ -133,21 +133,21 @@ observed_iff l n h = (to, from)
     to : observation_in l ≡ n → l ≡ decimal n
     to e = elim (test (same_bytes l (decimal m))) [
       | inl s ↦ same_bytes_lem l (decimal m) s ∙ ap decimal (number_same l m refl s ∙ e)
-      | inr d ↦ absurd (omega (arith, number-other l m refl d, e))
+      | inr d ↦ absurd (omega (arith, number_other l m refl d, e))
     ]
 
     from : l ≡ decimal n → observation_in l ≡ n
     from e =
-        let same : number_below side_limit (decimal n) ≡ n = below-decimal side_limit n h (omega arith) in
+        let same : number_below side_limit (decimal n) ≡ n = below_decimal side_limit n h (omega arith) in
         rw e (sym (number_same (decimal n) n (sym same) (same_refl (decimal n))))
 
 -- any other line is no observation that the table takes
-pub other-refused : (t : List ℕ) (shape : Shape) (p : Position) → Holds t shape p → (¬ OnStop t shape p)
+pub other_refused : (t : List ℕ) (shape : Shape) (p : Position) → Holds t shape p → (¬ OnStop t shape p)
     → (l : List ℕ) → ((n : ℕ) → n < 2 ^ shape.observed → ¬ (l ≡ decimal n)) → SteppedAs t shape (observation_in l) p (refused 15 0) p
-other-refused t shape p h goes l other =
+other_refused t shape p h goes l other =
     elim (dec_lt (observation_in l) (2 ^ shape.observed)) [
       | yes b ↦
           let few = side_le shape.observed h.0.sized.seen in
           absurd (other (observation_in l) b ((observed_iff l (observation_in l) (omega arith)).0 refl))
-      | no b ↦ bad-observation h goes (omega arith)
+      | no b ↦ bad_observation h goes (omega arith)
     ]

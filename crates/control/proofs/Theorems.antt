@@ -19,4 +19,4 @@ observing = DialogueLaws.observed_iff
 -- where a cabinet stands on a row that does not stop, any line but the print of a possible observation is answered with 15, and the position stays
 pub refusing : (t : List ℕ) (shape : Shape) (p : Position) → Holds t shape p → (¬ OnStop t shape p)
     → (l : List ℕ) → ((n : ℕ) → n < 2 ^ shape.observed → ¬ (l ≡ decimal n)) → SteppedAs t shape (observation_in l) p (refused 15 0) p
-refusing = DialogueLaws.other-refused
+refusing = DialogueLaws.other_refused

@@ -12,8 +12,8 @@ use Rattle.examples.proofs.Computed.{computed}
 use Rattle.examples.proofs.SmallStateSpaces
 
 -- A to K and plan words, each from a problem's bytes to what is answered: one table
-pub examples-right : map answer examples ≡ map expected examples
-examples-right = computed
+pub examples_right : map answer examples ≡ map expected examples
+examples_right = computed
 
 -- how many states some small formulas have, over two output signals
 pub small_state_spaces : map (λ φ. count (states_of (parts_of φ) (letters_of (record { outputs = 2; observed = 0; hidden = 0 })) state_limit))

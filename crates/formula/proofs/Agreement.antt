@@ -12,7 +12,7 @@ use mathlib.Core.List.{[], ◌∷◌}
 use lib.ListN.{length, drop, drop_of_length-le}
 use lib.Seq.{drop-cons, get_or-drop}
 use Rattle.formula.specs.Formula.{Formula, signal, True, False, Not, And, Or, Implies, X, N, F, G, U, R}
-use Rattle.basics.proofs.SaysLaws.{says_true, says_not, says_and, says_or, says-implies, says_stable}
+use Rattle.basics.proofs.SaysLaws.{says_true, says_not, says_and, says_or, says_implies, says_stable}
 use Rattle.basics.specs.Says.{Says}
 use Rattle.formula.specs.Semantics.{Trace, Property, Until, Sat, at_next, eventually, always, until, release, holds}
 
@@ -38,24 +38,24 @@ not_or_and true true d = refl
 not_or_and true false d = refl
 not_or_and false c d = refl
 
-pub eventually-until : (f : Property) (σ : Trace) → eventually f σ ≡ until (λ τ. true) f σ
-eventually-until f [] = refl
-eventually-until f (a ∷ σ) = ap (λ x. f (a ∷ σ) || x) (eventually-until f σ)
+pub eventually_until : (f : Property) (σ : Trace) → eventually f σ ≡ until (λ τ. true) f σ
+eventually_until f [] = refl
+eventually_until f (a ∷ σ) = ap (λ x. f (a ∷ σ) || x) (eventually_until f σ)
 
-pub always-until : (f : Property) (σ : Trace) → always f σ ≡ not (until (λ τ. true) (λ τ. not (f τ)) σ)
-always-until f [] = refl
-always-until f (a ∷ σ) = ap (λ x. f (a ∷ σ) && x) (always-until f σ) ∙ not_or (f (a ∷ σ)) _
+pub always_until : (f : Property) (σ : Trace) → always f σ ≡ not (until (λ τ. true) (λ τ. not (f τ)) σ)
+always_until f [] = refl
+always_until f (a ∷ σ) = ap (λ x. f (a ∷ σ) && x) (always_until f σ) ∙ not_or (f (a ∷ σ)) _
 
-pub release-until : (f g : Property) (σ : Trace) → release f g σ ≡ not (until (λ τ. not (f τ)) (λ τ. not (g τ)) σ)
-release-until f g [] = refl
-release-until f g (a ∷ σ) = ap (λ x. g (a ∷ σ) && (f (a ∷ σ) || x)) (release-until f g σ) ∙ not_or_and (g (a ∷ σ)) (f (a ∷ σ)) _
+pub release_until : (f g : Property) (σ : Trace) → release f g σ ≡ not (until (λ τ. not (f τ)) (λ τ. not (g τ)) σ)
+release_until f g [] = refl
+release_until f g (a ∷ σ) = ap (λ x. g (a ∷ σ) && (f (a ∷ σ) || x)) (release_until f g σ) ∙ not_or_and (g (a ∷ σ)) (f (a ∷ σ)) _
 
 -- ---- `until` on what is left of a run, against `Until`
 
 module _ (π : Trace) (f g : Property) (P Q : ℕ → Type 0)
     (hf : (j : ℕ) → j < length π → Says (f (drop j π)) (P j)) (hg : (j : ℕ) → j < length π → Says (g (drop j π)) (Q j)) where
-  until-step : (i : ℕ) → i < length π → Says (until f g (drop i π)) (Q i ⊎ (P i × (until f g (drop (suc i) π) ≡ true)))
-  until-step i h = rw (drop-cons π i 0) (rw (← drop-cons π i 0 h) (says_or (hg i h) (says_and (hf i h) (λ e. e, λ e. e))))
+  until_step : (i : ℕ) → i < length π → Says (until f g (drop i π)) (Q i ⊎ (P i × (until f g (drop (suc i) π) ≡ true)))
+  until_step i h = rw (drop-cons π i 0) (rw (← drop-cons π i 0 h) (says_or (hg i h) (says_and (hf i h) (λ e. e, λ e. e))))
 
   Until-step : (i : ℕ) → i < length π → (Q i ⊎ (P i × Until π P Q (suc i))) ↔ Until π P Q i
   Until-step i h = (to, from)
@@ -75,26 +75,26 @@ module _ (π : Trace) (f g : Property) (P Q : ℕ → Type 0)
           split (inl e) = inl (subst Q (sym e) u.3)
           split (inr l) = inr (u.4 i (omega arith) l, (u.0, l, u.2, u.3, λ k a b. u.4 k (omega arith) b))
 
-  until-says : (n i : ℕ) → n + i ≡ length π → Says (until f g (drop i π)) (Until π P Q i)
-  until-says zero i e = rw (drop_of_length-le π {i = i} (omega arith)) (λ h. absurd (false≢true h), λ u. absurd (omega (arith, u.1, u.2)))
-  until-says (suc n) i e =
+  until_says : (n i : ℕ) → n + i ≡ length π → Says (until f g (drop i π)) (Until π P Q i)
+  until_says zero i e = rw (drop_of_length-le π {i = i} (omega arith)) (λ h. absurd (false≢true h), λ u. absurd (omega (arith, u.1, u.2)))
+  until_says (suc n) i e =
       let h : i < length π = omega arith in
-      Iff.trans (until-step i h) (Iff.trans (or_and_congr (until-says n (suc i) (omega arith))) (Until-step i h))
+      Iff.trans (until_step i h) (Iff.trans (or_and_congr (until_says n (suc i) (omega arith))) (Until-step i h))
 
-  pub until-agrees : (i : ℕ) → i < length π → Says (until f g (drop i π)) (Until π P Q i)
-  until-agrees i h = until-says (length π - i) i (omega arith)
+  pub until_agrees : (i : ℕ) → i < length π → Says (until f g (drop i π)) (Until π P Q i)
+  until_agrees i h = until_says (length π - i) i (omega arith)
 
 module _ (π : Trace) (f : Property) (P : ℕ → Type 0) (hf : (j : ℕ) → j < length π → Says (f (drop j π)) (P j)) where
-  pub eventually-agrees : (i : ℕ) → i < length π → Says (eventually f (drop i π)) ((j : ℕ) × (i ≤ j) × (j < length π) × P j)
-  eventually-agrees i h =
-      rw eventually-until
-      (Iff.trans (until-agrees π (λ τ. true) f (λ k. Unit {0}) P (λ j l. says_true) hf i h)
+  pub eventually_agrees : (i : ℕ) → i < length π → Says (eventually f (drop i π)) ((j : ℕ) × (i ≤ j) × (j < length π) × P j)
+  eventually_agrees i h =
+      rw eventually_until
+      (Iff.trans (until_agrees π (λ τ. true) f (λ k. Unit {0}) P (λ j l. says_true) hf i h)
       (λ u. (u.0, u.1, u.2, u.3), λ u. (u.0, u.1, u.2, u.3, λ k a b. tt)))
 
-  pub always-agrees : (i : ℕ) → i < length π → Says (always f (drop i π)) ((j : ℕ) → i ≤ j → j < length π → P j)
-  always-agrees i h =
-      rw always-until
-      (Iff.trans (says_not (until-agrees π (λ τ. true) (λ τ. not (f τ)) (λ k. Unit {0}) (λ j. ¬ P j) (λ j l. says_true) (λ j l. says_not (hf j l)) i h))
+  pub always_agrees : (i : ℕ) → i < length π → Says (always f (drop i π)) ((j : ℕ) → i ≤ j → j < length π → P j)
+  always_agrees i h =
+      rw always_until
+      (Iff.trans (says_not (until_agrees π (λ τ. true) (λ τ. not (f τ)) (λ k. Unit {0}) (λ j. ¬ P j) (λ j l. says_true) (λ j l. says_not (hf j l)) i h))
       (λ n j a b. says_stable (hf j b) (λ np. n (j, a, b, np, λ k c d. tt)), λ all u. u.3 (all u.0 u.1 u.2)))
 
 -- ---- the next step
@@ -103,22 +103,22 @@ module _ (π : Trace) (f : Property) (P : Type 0) (i : ℕ) (h : i < length π) 
   next_in : (d : Bool) → suc i < length π → at_next d f (drop i π) ≡ f (drop (suc i) π)
   next_in d l = rw (drop-cons π i 0, drop-cons π (suc i) 0)
 
-  next-out : (d : Bool) → ¬ (suc i < length π) → at_next d f (drop i π) ≡ d
-  next-out d l = rw (drop-cons π i 0) (rw (drop_of_length-le π {i = suc i} (omega arith)))
+  next_out : (d : Bool) → ¬ (suc i < length π) → at_next d f (drop i π) ≡ d
+  next_out d l = rw (drop-cons π i 0) (rw (drop_of_length-le π {i = suc i} (omega arith)))
 
-  pub next-agrees : Says (at_next false f (drop i π)) ((suc i < length π) × P)
-  next-agrees = split (dec_lt (suc i) (length π))
+  pub next_agrees : Says (at_next false f (drop i π)) ((suc i < length π) × P)
+  next_agrees = split (dec_lt (suc i) (length π))
     where
       split : Dec (suc i < length π) → Says (at_next false f (drop i π)) ((suc i < length π) × P)
       split (yes l) = rw (next_in false l) (λ e. (l, (hf l).0 e), λ p. (hf l).1 p.1)
-      split (no l) = rw (next-out false l) (λ e. absurd (false≢true e), λ p. absurd (l p.0))
+      split (no l) = rw (next_out false l) (λ e. absurd (false≢true e), λ p. absurd (l p.0))
 
   pub weak_next_agrees : Says (at_next true f (drop i π)) (suc i < length π → P)
   weak_next_agrees = split (dec_lt (suc i) (length π))
     where
       split : Dec (suc i < length π) → Says (at_next true f (drop i π)) (suc i < length π → P)
       split (yes l) = rw (next_in true l) (λ e k. (hf l).0 e, λ p. (hf l).1 (p l))
-      split (no l) = rw (next-out true l) (λ e k. absurd (l k), λ p. refl)
+      split (no l) = rw (next_out true l) (λ e k. absurd (l k), λ p. refl)
 
 -- ---- every formula, at every step
 
@@ -130,15 +130,15 @@ agrees False π i h = (λ e. absurd (false≢true e), λ p. absurd p)
 agrees (Not φ) π i h = says_not (agrees φ π i h)
 agrees (And φ ψ) π i h = says_and (agrees φ π i h) (agrees ψ π i h)
 agrees (Or φ ψ) π i h = says_or (agrees φ π i h) (agrees ψ π i h)
-agrees (Implies φ ψ) π i h = says-implies (agrees φ π i h) (agrees ψ π i h)
-agrees (X φ) π i h = next-agrees π (holds φ) (Sat π (suc i) φ) i h (agrees φ π (suc i))
+agrees (Implies φ ψ) π i h = says_implies (agrees φ π i h) (agrees ψ π i h)
+agrees (X φ) π i h = next_agrees π (holds φ) (Sat π (suc i) φ) i h (agrees φ π (suc i))
 agrees (N φ) π i h = weak_next_agrees π (holds φ) (Sat π (suc i) φ) i h (agrees φ π (suc i))
-agrees (F φ) π i h = eventually-agrees π (holds φ) (λ j. Sat π j φ) (agrees φ π) i h
-agrees (G φ) π i h = always-agrees π (holds φ) (λ j. Sat π j φ) (agrees φ π) i h
-agrees (U φ ψ) π i h = until-agrees π (holds φ) (holds ψ) (λ k. Sat π k φ) (λ j. Sat π j ψ) (agrees φ π) (agrees ψ π) i h
+agrees (F φ) π i h = eventually_agrees π (holds φ) (λ j. Sat π j φ) (agrees φ π) i h
+agrees (G φ) π i h = always_agrees π (holds φ) (λ j. Sat π j φ) (agrees φ π) i h
+agrees (U φ ψ) π i h = until_agrees π (holds φ) (holds ψ) (λ k. Sat π k φ) (λ j. Sat π j ψ) (agrees φ π) (agrees ψ π) i h
 agrees (R φ ψ) π i h =
-    rw release-until
-    (says_not (until-agrees π (λ τ. not (holds φ τ)) (λ τ. not (holds ψ τ)) (λ k. ¬ Sat π k φ) (λ j. ¬ Sat π j ψ)
+    rw release_until
+    (says_not (until_agrees π (λ τ. not (holds φ τ)) (λ τ. not (holds ψ τ)) (λ k. ¬ Sat π k φ) (λ j. ¬ Sat π j ψ)
     (λ k l. says_not (agrees φ π k l)) (λ j l. says_not (agrees ψ π j l)) i h))
 
 -- a run makes a formula true exactly where the published relation holds at its first step

@@ -30,8 +30,8 @@ part_in (n ∷ codes) (suc i) = part_in codes i
 
 -- the numbers of a part are bytes
 pub record Bytes (q : Part) : Type 0 where
-  pub left-byte : q.left < index_limit
-  pub right-byte : q.right < index_limit
+  pub left_byte : q.left < index_limit
+  pub right_byte : q.right < index_limit
 
 pub byte_small : (k : Op) → byte_of k < 256
 byte_small op.Signal = omega arith
@@ -56,8 +56,8 @@ module _ (k l r : ℕ) (hk : k < 256) (hl : l < 256) (hr : r < 256) where
   first_byte : made % 256 ≡ k
   first_byte = omega arith
 
-  second-byte : made / 256 % 256 ≡ l
-  second-byte =
+  second_byte : made / 256 % 256 ≡ l
+  second_byte =
       let n : made / 256 ≡ l + 256 * r = omega arith in
       let m : (l + 256 * r) % 256 ≡ l = omega arith in
       ap (λ x. x % 256) n ∙ m
@@ -69,13 +69,13 @@ module _ (k l r : ℕ) (hk : k < 256) (hl : l < 256) (hr : r < 256) where
       ap (λ x. x % 256) n ∙ m
 
 -- a number holds the part that it was made of
-pub part-coded : (q : Part) → Bytes q → part_of (code_of q) ≡ q
+pub part_coded : (q : Part) → Bytes q → part_of (code_of q) ≡ q
 unfolding part_of
-part-coded q h =
+part_coded q h =
     let b = byte_small q.kind in
-    let k = first_byte (byte_of q.kind) q.left q.right b h.left-byte h.right-byte in
-    let l = second-byte (byte_of q.kind) q.left q.right b h.left-byte h.right-byte in
-    let r = third_byte (byte_of q.kind) q.left q.right b h.left-byte h.right-byte in
+    let k = first_byte (byte_of q.kind) q.left q.right b h.left_byte h.right_byte in
+    let l = second_byte (byte_of q.kind) q.left q.right b h.left_byte h.right_byte in
+    let r = third_byte (byte_of q.kind) q.left q.right b h.left_byte h.right_byte in
     rw (k, l, r, op_of_byte_of q.kind) refl
 
 -- ---- parts that their numbers hold
@@ -89,18 +89,18 @@ held_append ps qs h i = ap parts_in (map-append code_of ps qs) ∙ map-append pa
 
 pub held_one : (k : Op) (l r : ℕ) → l < index_limit → r < index_limit → Held (one_part k l r)
 unfolding parts_in
-held_one k l r hl hr = ap (λ q. q ∷ []) (part-coded (record { kind = k; left = l; right = r }) (record { left-byte = hl; right-byte = hr }))
+held_one k l r hl hr = ap (λ q. q ∷ []) (part_coded (record { kind = k; left = l; right = r }) (record { left_byte = hl; right_byte = hr }))
 
 -- a formula's parts are held wherever they stand
 abbrev pub Coded : Formula → Type 0
 Coded φ = (n : ℕ) → n + size φ ≤ index_limit → Held (parts_from φ n)
 
-pub held-unary : (k : Op) (φ : Formula) → Coded φ → (n : ℕ) → n + (size φ + 1) ≤ index_limit → Held (unary_parts k φ n (parts_from φ n))
-held-unary k φ c n h = held_append (parts_from φ n) _ (c n (omega arith)) (held_one k (n + size φ - 1) 0 (omega arith) (omega arith))
+pub held_unary : (k : Op) (φ : Formula) → Coded φ → (n : ℕ) → n + (size φ + 1) ≤ index_limit → Held (unary_parts k φ n (parts_from φ n))
+held_unary k φ c n h = held_append (parts_from φ n) _ (c n (omega arith)) (held_one k (n + size φ - 1) 0 (omega arith) (omega arith))
 
-pub held-binary : (k : Op) (φ ψ : Formula) → Coded φ → Coded ψ → (n : ℕ) → n + (size φ + size ψ + 1) ≤ index_limit
+pub held_binary : (k : Op) (φ ψ : Formula) → Coded φ → Coded ψ → (n : ℕ) → n + (size φ + size ψ + 1) ≤ index_limit
     → Held (binary_parts k φ ψ n (parts_from φ n) (parts_from ψ (n + size φ)))
-held-binary k φ ψ c d n h =
+held_binary k φ ψ c d n h =
     held_append (parts_from φ n ++ parts_from ψ (n + size φ)) _
     (held_append (parts_from φ n) (parts_from ψ (n + size φ)) (c n (omega arith)) (d (n + size φ) (omega arith)))
     (held_one k (n + size φ - 1) (n + size φ + size ψ - 1) (omega arith) (omega arith))

@@ -13,7 +13,7 @@ use Rattle.basics.specs.Says.{Says}
 use Rattle.basics.specs.Bounded.{any, first_that}
 use Rattle.basics.proofs.Booleans.{test, clash}
 use Rattle.basics.proofs.SaysLaws.{says_not, says_stable}
-use Rattle.basics.proofs.BoundedLaws.{any_at, any_not, first_le, first_passes, first-least}
+use Rattle.basics.proofs.BoundedLaws.{any_at, any_not, first_le, first_passes, first_least}
 use Rattle.formula.specs.Formula.{Formula, Not, Or, F, G}
 use Rattle.formula.specs.Semantics.{Trace, Sat, holds}
 use Rattle.formula.specs.Constraints.{soon, hold, delay, once, before, after, within, during}
@@ -21,8 +21,8 @@ use Rattle.formula.specs.Meanings.{AtMostOnce, HoldDuring, SometimeBefore, Somet
 use Rattle.formula.proofs.Agreement.{agrees}
 
 -- where a test fails, what it stands for does not hold
-says-fails : {b : Bool} {P : Type 0} → Says b P → b ≡ false → ¬ P
-says-fails e f p = clash (e.1 p) f
+says_fails : {b : Bool} {P : Type 0} → Says b P → b ≡ false → ¬ P
+says_fails e f p = clash (e.1 p) f
 
 -- of what a test stands for, `Not` with `Or` is an implication
 or_implies : {b : Bool} {P Q : Type 0} → Says b P → ((¬ P) ⊎ Q) ↔ (P → Q)
@@ -30,7 +30,7 @@ or_implies {b} {P} {Q} e = (λ s p. elim s [ inl n ↦ absurd (n p) | inr q ↦ 
   where
     from : (b ≡ true) ⊎ (b ≡ false) → (P → Q) → (¬ P) ⊎ Q
     from (inl t) f = inr (f (e.0 t))
-    from (inr t) f = inl (says-fails e t)
+    from (inr t) f = inl (says_fails e t)
 
 -- ---- `soon`, `hold` and `delay`
 
@@ -38,52 +38,52 @@ module _ (π : Trace) (φ : Formula) where
   abbrev Soon : ℕ → ℕ → Type 0
   Soon n j = (k : ℕ) × (j ≤ k) × (k ≤ j + n) × (k < length π) × Sat π k φ
 
-  soon-says : (n j : ℕ) → j < length π → Sat π j (soon n φ) ↔ Soon n j
+  soon_says : (n j : ℕ) → j < length π → Sat π j (soon n φ) ↔ Soon n j
   unfolding Sat soon
-  soon-says zero j h =
+  soon_says zero j h =
       (λ p. (j, omega arith, omega arith, h, p), λ (k, a, b, c, p). let e : k ≡ j = omega arith in subst (TrueAt π φ) e p)
-  soon-says (suc n) j h = (
+  soon_says (suc n) j h = (
     λ s.
         elim s [
           | inl p ↦ (j, omega arith, omega arith, h, p)
-          | inr (l, r) ↦ let (k, a, b, c, p) = (soon-says n (suc j) l).0 r in (k, omega arith, omega arith, c, p)
+          | inr (l, r) ↦ let (k, a, b, c, p) = (soon_says n (suc j) l).0 r in (k, omega arith, omega arith, c, p)
         ],
     λ (k, a, b, c, p).
         elim (eq-or-lt_of_le a) [
           | inl e ↦ inl (subst (TrueAt π φ) (sym e) p)
-          | inr l ↦ let m : suc j < length π = omega arith in inr (m, (soon-says n (suc j) m).1 (k, l, omega arith, c, p))
+          | inr l ↦ let m : suc j < length π = omega arith in inr (m, (soon_says n (suc j) m).1 (k, l, omega arith, c, p))
         ],
   )
 
   abbrev Hold : ℕ → ℕ → Type 0
   Hold n j = (k : ℕ) → j ≤ k → k ≤ j + n → k < length π → Sat π k φ
 
-  hold-says : (n j : ℕ) → j < length π → Sat π j (hold n φ) ↔ Hold n j
+  hold_says : (n j : ℕ) → j < length π → Sat π j (hold n φ) ↔ Hold n j
   unfolding Sat hold
-  hold-says zero j h =
+  hold_says zero j h =
       (λ p k a b c. let e : j ≡ k = omega arith in subst (TrueAt π φ) e p, λ f. f j (omega arith) (omega arith) h)
-  hold-says (suc n) j h = (
+  hold_says (suc n) j h = (
     λ (p, s) k a b c.
         elim (eq-or-lt_of_le a) [
           | inl e ↦ subst (TrueAt π φ) e p
-          | inr l ↦ let m : suc j < length π = omega arith in (hold-says n (suc j) m).0 (s m) k l (omega arith) c
+          | inr l ↦ let m : suc j < length π = omega arith in (hold_says n (suc j) m).0 (s m) k l (omega arith) c
         ],
-    λ f. (f j (omega arith) (omega arith) h, λ m. (hold-says n (suc j) m).1 (λ k a b c. f k (omega arith) (omega arith) c)),
+    λ f. (f j (omega arith) (omega arith) h, λ m. (hold_says n (suc j) m).1 (λ k a b c. f k (omega arith) (omega arith) c)),
   )
 
-  delay-says : (n j : ℕ) → j < length π → Sat π j (delay n φ) ↔ (j + n < length π → Sat π (j + n) φ)
+  delay_says : (n j : ℕ) → j < length π → Sat π j (delay n φ) ↔ (j + n < length π → Sat π (j + n) φ)
   unfolding Sat delay
-  delay-says zero j h = rw add-zero (λ s l. s, λ f. f h)
-  delay-says (suc n) j h =
+  delay_says zero j h = rw add-zero (λ s l. s, λ f. f h)
+  delay_says (suc n) j h =
       rw (add-suc, ← suc-add)
-      (λ s l. (delay-says n (suc j) (omega arith)).0 (s (omega arith)) l, λ f m. (delay-says n (suc j) m).1 f)
+      (λ s l. (delay_says n (suc j) (omega arith)).0 (s (omega arith)) l, λ f m. (delay_says n (suc j) m).1 f)
 
 module _ (π : Trace) (i : ℕ) (φ : Formula) where
   -- ---- at-most-once: behind step j, φ stays true as far as a search for a step without it passes
 
-  once-to : Sat π i (once φ) → AtMostOnce π i (TrueAt π φ)
+  once_to : Sat π i (once φ) → AtMostOnce π i (TrueAt π φ)
   unfolding Sat
-  once-to never j a b p = (j + n, omega arith, omega (arith, first_le stops left), λ k c d. on k (eq-or-lt_of_le c) d, off)
+  once_to never j a b p = (j + n, omega arith, omega (arith, first_le stops left), λ k c d. on k (eq-or-lt_of_le c) d, off)
     where
       stops : ℕ → Bool
       stops d = not (holds φ (drop (suc j + d) π))
@@ -103,26 +103,26 @@ module _ (π : Trace) (i : ℕ) (φ : Formula) where
           let d = k - suc j in
           let e : suc j + d ≡ k = omega arith in
           let h : suc j + d < length π = omega (arith, first_le stops left) in
-          subst (TrueAt π φ) e (says_stable (agrees φ π (suc j + d) h) (says-fails (says d h) (first-least stops left d (omega arith))))
+          subst (TrueAt π φ) e (says_stable (agrees φ π (suc j + d) h) (says_fails (says d h) (first_least stops left d (omega arith))))
 
       off : (k : ℕ) → j + n < k → k < length π → ¬ Sat π k φ
       off k c d q =
           let out = (says n (omega arith)).0 (first_passes stops left (omega arith)) in
           never (j, a, b, (p, (suc j + n, omega arith, omega arith, (out, (k, omega arith, d, q)))))
 
-  once-from : AtMostOnce π i (TrueAt π φ) → Sat π i (once φ)
+  once_from : AtMostOnce π i (TrueAt π φ) → Sat π i (once φ)
   unfolding Sat
-  once-from m (j, a, b, (p, (k, c, d, (out, (l, g, h, q))))) =
+  once_from m (j, a, b, (p, (k, c, d, (out, (l, g, h, q))))) =
       let (e, je, el, on, off) = m j a b p in
       elim (dec_le k e) [ yes y ↦ out (on k c y) | no y ↦ off l (omega arith) h q ]
 
-  pub once-says : Sat π i (once φ) ↔ AtMostOnce π i (TrueAt π φ)
-  once-says = (once-to, once-from)
+  pub once_says : Sat π i (once φ) ↔ AtMostOnce π i (TrueAt π φ)
+  once_says = (once_to, once_from)
 
   -- ---- hold-during
 
-  pub during-says : (m n : ℕ) → i < length π → 1 ≤ m → m ≤ n → Sat π i (during m n φ) ↔ HoldDuring π i (TrueAt π φ) m n
-  during-says m n h lo hi = (to, from)
+  pub during_says : (m n : ℕ) → i < length π → 1 ≤ m → m ≤ n → Sat π i (during m n φ) ↔ HoldDuring π i (TrueAt π φ) m n
+  during_says m n h lo hi = (to, from)
     where
       first : ℕ
       first = i + (m - 1)
@@ -130,11 +130,11 @@ module _ (π : Trace) (i : ℕ) (φ : Formula) where
       to : Sat π i (during m n φ) → HoldDuring π i (TrueAt π φ) m n
       to s d a b c =
           let l : first < length π = omega arith in
-          (hold-says π φ (n - m) first l).0 ((delay-says π (hold (n - m) φ) (m - 1) i h).0 s l) (i + d) (omega arith) (omega arith) c
+          (hold_says π φ (n - m) first l).0 ((delay_says π (hold (n - m) φ) (m - 1) i h).0 s l) (i + d) (omega arith) (omega arith) c
 
       from : HoldDuring π i (TrueAt π φ) m n → Sat π i (during m n φ)
       from f =
-          (delay-says π (hold (n - m) φ) (m - 1) i h).1 (λ l. (hold-says π φ (n - m) first l).1 (λ k a b c.
+          (delay_says π (hold (n - m) φ) (m - 1) i h).1 (λ l. (hold_says π φ (n - m) first l).1 (λ k a b c.
           let e : i + (k - i) ≡ k = omega arith in
           subst (TrueAt π φ) e (f (k - i) (omega arith) (omega arith) (omega arith))))
 
@@ -152,9 +152,9 @@ module _ (π : Trace) (i : ℕ) (φ : Formula) where
   module _ (ψ : Formula) where
     -- ---- sometime-before: a search from step i to step j finds ψ, or φ comes without it
 
-    before-to : Sat π i (before φ ψ) → SometimeBefore π i (TrueAt π φ) (TrueAt π ψ)
+    before_to : Sat π i (before φ ψ) → SometimeBefore π i (TrueAt π φ) (TrueAt π ψ)
     unfolding Sat
-    before-to never j a b p = elim (test (any (j - i) passes)) [ inl t ↦ found t | inr f ↦ absurd (never (j, a, b, p, none f)) ]
+    before_to never j a b p = elim (test (any (j - i) passes)) [ inl t ↦ found t | inr f ↦ absurd (never (j, a, b, p, none f)) ]
       where
         passes : ℕ → Bool
         passes d = holds ψ (drop (i + d) π)
@@ -169,17 +169,17 @@ module _ (π : Trace) (i : ℕ) (φ : Formula) where
         none f k c l q =
             let e : k ≡ i + (k - i) = omega arith in
             let h : k - i < j - i = omega arith in
-            says-fails (says (k - i) h) (any_not (j - i) passes f (k - i) h) (subst (TrueAt π ψ) e q)
+            says_fails (says (k - i) h) (any_not (j - i) passes f (k - i) h) (subst (TrueAt π ψ) e q)
 
-    pub before-says : Sat π i (before φ ψ) ↔ SometimeBefore π i (TrueAt π φ) (TrueAt π ψ)
+    pub before_says : Sat π i (before φ ψ) ↔ SometimeBefore π i (TrueAt π φ) (TrueAt π ψ)
     unfolding Sat
-    before-says = (before-to, λ m (j, a, b, p, none). let (k, c, d, q) = m j a b p in none k c d q)
+    before_says = (before_to, λ m (j, a, b, p, none). let (k, c, d, q) = m j a b p in none k c d q)
 
     -- ---- sometime-after and always-within
 
-    pub after-says : Sat π i (after φ ψ) ↔ SometimeAfter π i (TrueAt π φ) (TrueAt π ψ)
+    pub after_says : Sat π i (after φ ψ) ↔ SometimeAfter π i (TrueAt π φ) (TrueAt π ψ)
     unfolding Sat
-    after-says = where_true (F ψ) (λ j. Sat π j (F ψ)) (λ j b. Iff.rfl)
+    after_says = where_true (F ψ) (λ j. Sat π j (F ψ)) (λ j b. Iff.rfl)
 
-    pub within-says : (n : ℕ) → Sat π i (within n φ ψ) ↔ AlwaysWithin π i (TrueAt π φ) (TrueAt π ψ) n
-    within-says n = where_true (soon n ψ) (Soon π ψ n) (soon-says π ψ n)
+    pub within_says : (n : ℕ) → Sat π i (within n φ ψ) ↔ AlwaysWithin π i (TrueAt π φ) (TrueAt π ψ) n
+    within_says n = where_true (soon n ψ) (Soon π ψ n) (soon_says π ψ n)

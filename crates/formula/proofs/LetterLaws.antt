@@ -11,7 +11,7 @@ use lib.Dec.{eqb, ltb}
 use lib.Pow.{pow_mono, pow_pos, shr-shr}
 use Rattle.basics.specs.Limits.{kind_limit}
 use Rattle.basics.specs.Bits.{bit}
-use Rattle.basics.proofs.BitsLaws.{bit-out, bit_mod, bits_ext}
+use Rattle.basics.proofs.BitsLaws.{bit_out, bit_mod, bits_ext}
 use Rattle.basics.proofs.Booleans.{test, clash, and_true}
 use Rattle.formula.specs.Letter.{Counts, HasSignal, IsLetter, kind_size, is_letter}
 
@@ -21,19 +21,19 @@ lt_power : (n : ℕ) → n < 2 ^ n
 lt_power zero = omega arith
 lt_power (suc n) = subst (λ x. suc n < x) (sym (pow-suc 2 n)) (omega (arith, lt_power n))
 
-bit-above : (n k b : ℕ) → n < 2 ^ k → k ≤ b → bit n b ≡ false
-bit-above n k b h l = bit-out n b (lt_of_lt_of_le h (pow_mono {i = k} {j = b} l))
+bit_above : (n k b : ℕ) → n < 2 ^ k → k ≤ b → bit n b ≡ false
+bit_above n k b h l = bit_out n b (lt_of_lt_of_le h (pow_mono {i = k} {j = b} l))
 
-bit-shift : (n m k : ℕ) → bit (n / 2 ^ m) k ≡ bit n (m + k)
-bit-shift n m k = ap (λ x. eqb (x % 2) 1) (shr-shr n m k)
+bit_shift : (n m k : ℕ) → bit (n / 2 ^ m) k ≡ bit n (m + k)
+bit_shift n m k = ap (λ x. eqb (x % 2) 1) (shr-shr n m k)
 
 -- a number is below 2 ^ k exactly where its bits are below k
 module _ (n k : ℕ) where
   bits_below : n < 2 ^ k → (b : ℕ) → bit n b ≡ true → b < k
-  bits_below h b t = elim (dec_lt b k) [ yes l ↦ l | no l ↦ clash t (bit-above n k b h (omega arith)) ]
+  bits_below h b t = elim (dec_lt b k) [ yes l ↦ l | no l ↦ clash t (bit_above n k b h (omega arith)) ]
 
-  below-bits : ((b : ℕ) → bit n b ≡ true → b < k) → n < 2 ^ k
-  below-bits f =
+  below_bits : ((b : ℕ) → bit n b ≡ true → b < k) → n < 2 ^ k
+  below_bits f =
       subst (λ x. x < 2 ^ k) (sym (bits_ext (n + k) n (n % 2 ^ k) (wide n (omega arith) (lt_power n)) (wide k (omega arith) low) same)) low
     where
       low : n % 2 ^ k < 2 ^ k
@@ -49,18 +49,18 @@ module _ (n k : ℕ) where
       same b _ =
           elim (dec_lt b k) [
             | yes l ↦ sym (bit_mod n k b l)
-            | no l ↦ high b (omega arith) ∙ sym (bit-above (n % 2 ^ k) k b low (omega arith))
+            | no l ↦ high b (omega arith) ∙ sym (bit_above (n % 2 ^ k) k b low (omega arith))
           ]
 
 -- ---- the fields of a letter
 
 module _ (c : Counts) (few : (c.outputs ≤ kind_limit) × (c.observed ≤ kind_limit) × (c.hidden ≤ kind_limit)) (a : ℕ) where
   -- bit b of the field from bit m on
-  field-bit : (m b : ℕ) → b < kind_limit → bit (a / 2 ^ m % kind_size) b ≡ bit a (m + b)
-  field-bit m b h = bit_mod (a / 2 ^ m) kind_limit b h ∙ bit-shift a m b
+  field_bit : (m b : ℕ) → b < kind_limit → bit (a / 2 ^ m % kind_size) b ≡ bit a (m + b)
+  field_bit m b h = bit_mod (a / 2 ^ m) kind_limit b h ∙ bit_shift a m b
 
-  field-low : (x b : ℕ) → bit (x % kind_size) b ≡ true → b < kind_limit
-  field-low x b t = bits_below (x % kind_size) kind_limit (mod-lt x (pow_pos kind_limit)) b t
+  field_low : (x b : ℕ) → bit (x % kind_size) b ≡ true → b < kind_limit
+  field_low x b t = bits_below (x % kind_size) kind_limit (mod-lt x (pow_pos kind_limit)) b t
 
   -- what the test says
   record Fields : Type 0 where
@@ -85,12 +85,12 @@ module _ (c : Counts) (few : (c.outputs ≤ kind_limit) × (c.observed ≤ kind_
         | no n ↦ elim (dec_lt b (2 * kind_limit)) [
           | yes l ↦
               let j : kind_limit + (b - kind_limit) ≡ b = omega arith in
-              let s = field-bit kind_limit (b - kind_limit) (omega arith) ∙ ap (bit a) j ∙ t in
+              let s = field_bit kind_limit (b - kind_limit) (omega arith) ∙ ap (bit a) j ∙ t in
               let h = bits_below (a / kind_size % kind_size) c.observed (fields e).observed (b - kind_limit) s in
               inr (inl (omega arith, omega (arith, h)))
           | no m ↦
               let j : 2 * kind_limit + (b - 2 * kind_limit) ≡ b = omega arith in
-              let s = bit-shift a (2 * kind_limit) (b - 2 * kind_limit) ∙ ap (bit a) j ∙ t in
+              let s = bit_shift a (2 * kind_limit) (b - 2 * kind_limit) ∙ ap (bit a) j ∙ t in
               let h = bits_below (a / (kind_size * kind_size)) c.hidden (fields e).hidden (b - 2 * kind_limit) s in
               inr (inr (omega arith, omega (arith, h)))
         ]
@@ -98,26 +98,26 @@ module _ (c : Counts) (few : (c.outputs ≤ kind_limit) × (c.observed ≤ kind_
 
   from : IsLetter c a → is_letter c a ≡ true
   unfolding is_letter
-  from f = and_true (lt-ltb _ _ (below-bits _ _ outputs)) (and_true (lt-ltb _ _ (below-bits _ _ observed)) (lt-ltb _ _ (below-bits _ _ hidden)))
+  from f = and_true (lt-ltb _ _ (below_bits _ _ outputs)) (and_true (lt-ltb _ _ (below_bits _ _ observed)) (lt-ltb _ _ (below_bits _ _ hidden)))
     where
       outputs : (b : ℕ) → bit (a % kind_size) b ≡ true → b < c.outputs
-      outputs b t = let l = field-low a b t in go (f b (sym (bit_mod a kind_limit b l) ∙ t))
+      outputs b t = let l = field_low a b t in go (f b (sym (bit_mod a kind_limit b l) ∙ t))
         where
           go : HasSignal c b → b < c.outputs
           go (inl h) = h
-          go (inr (inl h)) = absurd (omega (arith, field-low a b t, h))
-          go (inr (inr h)) = absurd (omega (arith, field-low a b t, h))
+          go (inr (inl h)) = absurd (omega (arith, field_low a b t, h))
+          go (inr (inr h)) = absurd (omega (arith, field_low a b t, h))
 
       observed : (b : ℕ) → bit (a / kind_size % kind_size) b ≡ true → b < c.observed
-      observed b t = go (f (kind_limit + b) (sym (field-bit kind_limit b (field-low (a / kind_size) b t)) ∙ t))
+      observed b t = go (f (kind_limit + b) (sym (field_bit kind_limit b (field_low (a / kind_size) b t)) ∙ t))
         where
           go : HasSignal c (kind_limit + b) → b < c.observed
           go (inl h) = absurd (omega (arith, few, h))
           go (inr (inl h)) = omega (arith, h)
-          go (inr (inr h)) = absurd (omega (arith, field-low (a / kind_size) b t, h))
+          go (inr (inr h)) = absurd (omega (arith, field_low (a / kind_size) b t, h))
 
       hidden : (b : ℕ) → bit (a / (kind_size * kind_size)) b ≡ true → b < c.hidden
-      hidden b t = go (f (2 * kind_limit + b) (sym (bit-shift a (2 * kind_limit) b) ∙ t))
+      hidden b t = go (f (2 * kind_limit + b) (sym (bit_shift a (2 * kind_limit) b) ∙ t))
         where
           go : HasSignal c (2 * kind_limit + b) → b < c.hidden
           go (inl h) = absurd (omega (arith, few, h))

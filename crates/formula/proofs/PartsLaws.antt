@@ -35,8 +35,8 @@ module _ {B : Type 0} (d : B) (f : ℕ → B → B → B) (ps : List Part) where
       at (inr l) ih = get_or-append (bottom_up d f ps n) _ d i (rw length_bottom_up l) ∙ ih l
 
   -- and no others
-  pub bottom_up-out : (n i : ℕ) → n ≤ i → get_or (bottom_up d f ps n) i d ≡ d
-  bottom_up-out n i h = get_or-eq_default (bottom_up d f ps n) d {n = i} (rw length_bottom_up h)
+  pub bottom_up_out : (n i : ℕ) → n ≤ i → get_or (bottom_up d f ps n) i d ≡ d
+  bottom_up_out n i h = get_or-eq_default (bottom_up d f ps n) d {n = i} (rw length_bottom_up h)
 
   pub result_at_last : (i : ℕ) → result_at d f ps i ≡ f i (get_or (bottom_up d f ps i) (part_at ps i).left d) (get_or (bottom_up d f ps i) (part_at ps i).right d)
   unfolding result_at bottom_up
@@ -52,35 +52,35 @@ module _ {B C : Type 0} where
   pub reads_none : (c : C) → Reads {B = B} 0 (λ x y. c)
   reads_none c x x' y y' p q = refl
 
-  pub reads-one : (f : B → C) → Reads {B = B} 1 (λ x y. f x)
-  reads-one f x x' y y' p q = ap f (p (omega arith))
+  pub reads_one : (f : B → C) → Reads {B = B} 1 (λ x y. f x)
+  reads_one f x x' y y' p q = ap f (p (omega arith))
 
   pub reads_both : (f : B → B → C) → Reads 2 f
   reads_both f x x' y y' p q = ap₂ f (p (omega arith)) (q (omega arith))
 
-build-reads : (k : Op) (b : ℕ) → Reads (arity k) (build k b)
-build-reads op.Signal b = reads_none (signal b)
-build-reads op.True b = reads_none True
-build-reads op.False b = reads_none False
-build-reads op.Not b = reads-one Not
-build-reads op.And b = reads_both And
-build-reads op.Or b = reads_both Or
-build-reads op.Implies b = reads_both Implies
-build-reads op.Next b = reads-one X
-build-reads op.WeakNext b = reads-one N
-build-reads op.Eventually b = reads-one F
-build-reads op.Always b = reads-one G
-build-reads op.Until b = reads_both U
-build-reads op.Release b = reads_both R
+build_reads : (k : Op) (b : ℕ) → Reads (arity k) (build k b)
+build_reads op.Signal b = reads_none (signal b)
+build_reads op.True b = reads_none True
+build_reads op.False b = reads_none False
+build_reads op.Not b = reads_one Not
+build_reads op.And b = reads_both And
+build_reads op.Or b = reads_both Or
+build_reads op.Implies b = reads_both Implies
+build_reads op.Next b = reads_one X
+build_reads op.WeakNext b = reads_one N
+build_reads op.Eventually b = reads_one F
+build_reads op.Always b = reads_one G
+build_reads op.Until b = reads_both U
+build_reads op.Release b = reads_both R
 
 -- the formula of a part is its operator over the formulas of its operands
-pub formula_at-step : (ps : List Part) (i : ℕ) → Earlier ps i
+pub formula_at_step : (ps : List Part) (i : ℕ) → Earlier ps i
     → formula_at ps i ≡ build (part_at ps i).kind (part_at ps i).left (formula_at ps (part_at ps i).left) (formula_at ps (part_at ps i).right)
 unfolding formula_at
-formula_at-step ps i e =
+formula_at_step ps i e =
     result_at_last False _ ps i
-    ∙ build-reads (part_at ps i).kind (part_at ps i).left _ _ _ _ (λ h. get_d_bottom_up False _ ps i _ (e.left-earlier h))
-    (λ h. get_d_bottom_up False _ ps i _ (e.right-earlier h))
+    ∙ build_reads (part_at ps i).kind (part_at ps i).left _ _ _ _ (λ h. get_d_bottom_up False _ ps i _ (e.left_earlier h))
+    (λ h. get_d_bottom_up False _ ps i _ (e.right_earlier h))
 
 -- ---- parts put behind a list change nothing before them
 
@@ -106,25 +106,25 @@ WellFormed ps = (i : ℕ) → i < length ps → Earlier ps i
 
 -- ---- what a value reads at its step is some of the operands
 
-pub reads-few : (k : Op) → reads k ≤ arity k
-reads-few op.Signal = omega arith
-reads-few op.True = omega arith
-reads-few op.False = omega arith
-reads-few op.Not = omega arith
-reads-few op.And = omega arith
-reads-few op.Or = omega arith
-reads-few op.Implies = omega arith
-reads-few op.Next = omega arith
-reads-few op.WeakNext = omega arith
-reads-few op.Eventually = omega arith
-reads-few op.Always = omega arith
-reads-few op.Until = omega arith
-reads-few op.Release = omega arith
+pub reads_few : (k : Op) → reads k ≤ arity k
+reads_few op.Signal = omega arith
+reads_few op.True = omega arith
+reads_few op.False = omega arith
+reads_few op.Not = omega arith
+reads_few op.And = omega arith
+reads_few op.Or = omega arith
+reads_few op.Implies = omega arith
+reads_few op.Next = omega arith
+reads_few op.WeakNext = omega arith
+reads_few op.Eventually = omega arith
+reads_few op.Always = omega arith
+reads_few op.Until = omega arith
+reads_few op.Release = omega arith
 
-pub earlier-ready : (ps : List Part) (i : ℕ) → Earlier ps i → Ready ps i
-earlier-ready ps i e =
-    let few = reads-few (part_at ps i).kind in
-    record { left-ready = λ h. e.left-earlier (le_trans h few); right-ready = λ h. e.right-earlier (le_trans h few) }
+pub earlier_ready : (ps : List Part) (i : ℕ) → Earlier ps i → Ready ps i
+earlier_ready ps i e =
+    let few = reads_few (part_at ps i).kind in
+    record { left_ready = λ h. e.left_earlier (le_trans h few); right_ready = λ h. e.right_earlier (le_trans h few) }
 
 -- ---- one more part
 
@@ -137,27 +137,27 @@ module _ (rs : List Part) (w : WellFormed rs) (q : Part)
   unfolding part_at
   part_at_new = get_or-append_seam rs q [] _
 
-  earlier-new : Earlier (rs ++ (q ∷ [])) (length rs)
-  earlier-new = record { left-earlier = rw part_at_new l; right-earlier = rw part_at_new r }
+  earlier_new : Earlier (rs ++ (q ∷ [])) (length rs)
+  earlier_new = record { left_earlier = rw part_at_new l; right_earlier = rw part_at_new r }
 
-  formed-new : WellFormed (rs ++ (q ∷ []))
+  formed_new : WellFormed (rs ++ (q ∷ []))
   unfolding WellFormed
-  formed-new i h = at (eq-or-lt_of_le (le_of_suc-le-suc (subst (λ n. i < n) (length_put q rs) h)))
+  formed_new i h = at (eq-or-lt_of_le (le_of_suc-le-suc (subst (λ n. i < n) (length_put q rs) h)))
     where
       at : (i ≡ length rs) ⊎ (i < length rs) → Earlier (rs ++ (q ∷ [])) i
-      at (inl e) = rw e earlier-new
+      at (inl e) = rw e earlier_new
       at (inr k) =
           record {
-            left-earlier = rw (part_at_append rs (q ∷ []) i k) (w i k).left-earlier;
-            right-earlier = rw (part_at_append rs (q ∷ []) i k) (w i k).right-earlier;
+            left_earlier = rw (part_at_append rs (q ∷ []) i k) (w i k).left_earlier;
+            right_earlier = rw (part_at_append rs (q ∷ []) i k) (w i k).right_earlier;
           }
 
   formula_new : (x y : Formula) → (1 ≤ arity q.kind → formula_at rs q.left ≡ x) → (2 ≤ arity q.kind → formula_at rs q.right ≡ y)
       → formula_at (rs ++ (q ∷ [])) (length rs) ≡ build q.kind q.left x y
   formula_new x y hx hy =
-      formula_at-step (rs ++ (q ∷ [])) (length rs) earlier-new
+      formula_at_step (rs ++ (q ∷ [])) (length rs) earlier_new
       ∙ rw part_at_new
-      (build-reads q.kind q.left _ _ _ _ (λ k. formula_at_append rs (q ∷ []) q.left (l k) ∙ hx k)
+      (build_reads q.kind q.left _ _ _ _ (λ k. formula_at_append rs (q ∷ []) q.left (l k) ∙ hx k)
       (λ k. formula_at_append rs (q ∷ []) q.right (r k) ∙ hy k))
 
 -- ---- a formula's parts
@@ -199,20 +199,20 @@ last_lt : {φ : Formula} {ps ts : List Part} → Written φ ps ts → last_of (p
 last_lt {φ} {ps} {ts} w = pred_lt (length ps) (length (ps ++ ts)) (omega (arith, length-append ps ts))
 
 -- a part over operands that are there already
-written-put : (ps ts : List Part) → WellFormed (ps ++ ts) → (q : Part) → (1 ≤ arity q.kind → q.left < length (ps ++ ts))
+written_put : (ps ts : List Part) → WellFormed (ps ++ ts) → (q : Part) → (1 ≤ arity q.kind → q.left < length (ps ++ ts))
     → (2 ≤ arity q.kind → q.right < length (ps ++ ts)) → (x y : Formula) → (1 ≤ arity q.kind → formula_at (ps ++ ts) q.left ≡ x)
     → (2 ≤ arity q.kind → formula_at (ps ++ ts) q.right ≡ y) → Written (build q.kind q.left x y) ps (ts ++ (q ∷ []))
-written-put ps ts w q l r x y hx hy =
+written_put ps ts w q l r x y hx hy =
     record {
       some = omega (arith, length_put q ts);
-      formed = rw (← append_assoc ps ts (q ∷ [])) (formed-new (ps ++ ts) w q l r);
+      formed = rw (← append_assoc ps ts (q ∷ [])) (formed_new (ps ++ ts) w q l r);
       tree = rw (← append_assoc ps ts (q ∷ []), length_put q (ps ++ ts)) (formula_new (ps ++ ts) w q l r x y hx hy);
     }
 
 -- a part without operands
-written-leaf : (k : Op) (b : ℕ) (ps : List Part) → arity k ≡ 0 → WellFormed ps → Written (build k b True True) ps (one_part k b 0)
-written-leaf k b ps z w =
-    written-put ps [] (rw append-nil w) (record { kind = k; left = b; right = 0 }) (λ h. absurd (omega arith)) (λ h. absurd (omega arith)) True True
+written_leaf : (k : Op) (b : ℕ) (ps : List Part) → arity k ≡ 0 → WellFormed ps → Written (build k b True True) ps (one_part k b 0)
+written_leaf k b ps z w =
+    written_put ps [] (rw append-nil w) (record { kind = k; left = b; right = 0 }) (λ h. absurd (omega arith)) (λ h. absurd (omega arith)) True True
     (λ h. absurd (omega arith)) (λ h. absurd (omega arith))
 
 -- the parts of x behind n others
@@ -223,25 +223,25 @@ module _ (x : Formula) (k : Op) (ps : List Part) (n : ℕ) (e : length ps ≡ n)
   length_xs : length xs ≡ n + size x
   length_xs = length-append ps (parts_from x n) ∙ omega (arith, length_from x n)
 
-  last-xs : n + size x - 1 ≡ last_of xs
-  last-xs = rw length_xs (omega arith)
+  last_xs : n + size x - 1 ≡ last_of xs
+  last_xs = rw length_xs (omega arith)
 
   -- a part with x as its operand
-  written-unary : arity k ≡ 1 → Written (build k (n + size x - 1) x True) ps (unary_parts k x n (parts_from x n))
-  written-unary o =
-      written-put ps (parts_from x n) w.formed (record { kind = k; left = n + size x - 1; right = 0 }) (λ h. rw last-xs (last_lt w))
-      (λ h. absurd (omega arith)) x True (λ h. rw last-xs w.tree) (λ h. absurd (omega arith))
+  written_unary : arity k ≡ 1 → Written (build k (n + size x - 1) x True) ps (unary_parts k x n (parts_from x n))
+  written_unary o =
+      written_put ps (parts_from x n) w.formed (record { kind = k; left = n + size x - 1; right = 0 }) (λ h. rw last_xs (last_lt w))
+      (λ h. absurd (omega arith)) x True (λ h. rw last_xs w.tree) (λ h. absurd (omega arith))
 
   -- a part with x and y as its operands, the parts of y being the last
-  written-binary : (y : Formula) → ((qs : List Part) (m : ℕ) → length qs ≡ m → WellFormed qs → Written y qs (parts_from y m))
+  written_binary : (y : Formula) → ((qs : List Part) (m : ℕ) → length qs ≡ m → WellFormed qs → Written y qs (parts_from y m))
       → Written (build k (n + size x - 1) x y) ps (binary_parts k x y n (parts_from x n) (parts_from y (n + size x)))
-  written-binary y f =
-      written-put ps (parts_from x n ++ ys) (rw (← append_assoc ps (parts_from x n) ys) v.formed)
+  written_binary y f =
+      written_put ps (parts_from x n ++ ys) (rw (← append_assoc ps (parts_from x n) ys) v.formed)
       (record { kind = k; left = n + size x - 1; right = n + size x + size y - 1 })
-      (λ h. rw (last-xs, ← append_assoc ps (parts_from x n) ys) (lt_trans (last_lt w) grown))
-      (λ h. rw (last-ys, ← append_assoc ps (parts_from x n) ys) (last_lt v)) x y
-      (λ h. rw (last-xs, ← append_assoc ps (parts_from x n) ys) (formula_at_append xs ys (last_of xs) (last_lt w) ∙ w.tree))
-      (λ h. rw (last-ys, ← append_assoc ps (parts_from x n) ys) v.tree)
+      (λ h. rw (last_xs, ← append_assoc ps (parts_from x n) ys) (lt_trans (last_lt w) grown))
+      (λ h. rw (last_ys, ← append_assoc ps (parts_from x n) ys) (last_lt v)) x y
+      (λ h. rw (last_xs, ← append_assoc ps (parts_from x n) ys) (formula_at_append xs ys (last_of xs) (last_lt w) ∙ w.tree))
+      (λ h. rw (last_ys, ← append_assoc ps (parts_from x n) ys) v.tree)
     where
       ys : List Part
       ys = parts_from y (n + size x)
@@ -252,53 +252,53 @@ module _ (x : Formula) (k : Op) (ps : List Part) (n : ℕ) (e : length ps ≡ n)
       grown : length xs < length (xs ++ ys)
       grown = omega (arith, v.some, length-append xs ys)
 
-      last-ys : n + size x + size y - 1 ≡ last_of (xs ++ ys)
-      last-ys = rw (length-append xs ys, length_xs, length_from y (n + size x)) (omega arith)
+      last_ys : n + size x + size y - 1 ≡ last_of (xs ++ ys)
+      last_ys = rw (length-append xs ys, length_xs, length_from y (n + size x)) (omega arith)
 
 written : (φ : Formula) (ps : List Part) (n : ℕ) → length ps ≡ n → WellFormed ps → Written φ ps (parts_from φ n)
 unfolding parts_from
-written (signal b) ps n e w = written-leaf op.Signal b ps refl w
-written True ps n e w = written-leaf op.True 0 ps refl w
-written False ps n e w = written-leaf op.False 0 ps refl w
-written (Not φ) ps n e w = written-unary φ op.Not ps n e (written φ ps n e w) refl
-written (X φ) ps n e w = written-unary φ op.Next ps n e (written φ ps n e w) refl
-written (N φ) ps n e w = written-unary φ op.WeakNext ps n e (written φ ps n e w) refl
-written (F φ) ps n e w = written-unary φ op.Eventually ps n e (written φ ps n e w) refl
-written (G φ) ps n e w = written-unary φ op.Always ps n e (written φ ps n e w) refl
-written (And φ ψ) ps n e w = written-binary φ op.And ps n e (written φ ps n e w) ψ (written ψ)
-written (Or φ ψ) ps n e w = written-binary φ op.Or ps n e (written φ ps n e w) ψ (written ψ)
-written (Implies φ ψ) ps n e w = written-binary φ op.Implies ps n e (written φ ps n e w) ψ (written ψ)
-written (U φ ψ) ps n e w = written-binary φ op.Until ps n e (written φ ps n e w) ψ (written ψ)
-written (R φ ψ) ps n e w = written-binary φ op.Release ps n e (written φ ps n e w) ψ (written ψ)
+written (signal b) ps n e w = written_leaf op.Signal b ps refl w
+written True ps n e w = written_leaf op.True 0 ps refl w
+written False ps n e w = written_leaf op.False 0 ps refl w
+written (Not φ) ps n e w = written_unary φ op.Not ps n e (written φ ps n e w) refl
+written (X φ) ps n e w = written_unary φ op.Next ps n e (written φ ps n e w) refl
+written (N φ) ps n e w = written_unary φ op.WeakNext ps n e (written φ ps n e w) refl
+written (F φ) ps n e w = written_unary φ op.Eventually ps n e (written φ ps n e w) refl
+written (G φ) ps n e w = written_unary φ op.Always ps n e (written φ ps n e w) refl
+written (And φ ψ) ps n e w = written_binary φ op.And ps n e (written φ ps n e w) ψ (written ψ)
+written (Or φ ψ) ps n e w = written_binary φ op.Or ps n e (written φ ps n e w) ψ (written ψ)
+written (Implies φ ψ) ps n e w = written_binary φ op.Implies ps n e (written φ ps n e w) ψ (written ψ)
+written (U φ ψ) ps n e w = written_binary φ op.Until ps n e (written φ ps n e w) ψ (written ψ)
+written (R φ ψ) ps n e w = written_binary φ op.Release ps n e (written φ ps n e w) ψ (written ψ)
 
 -- ---- the theorems
 
 module _ (φ : Formula) where
-  written-parts : Written φ [] (parts_of φ)
+  written_parts : Written φ [] (parts_of φ)
   unfolding parts_of WellFormed
-  written-parts = written φ [] 0 refl (λ i h. absurd (omega arith))
+  written_parts = written φ [] 0 refl (λ i h. absurd (omega arith))
 
-  pub parts-formed : WellFormed (parts_of φ)
-  parts-formed = written-parts.formed
+  pub parts_formed : WellFormed (parts_of φ)
+  parts_formed = written_parts.formed
 
-  pub parts-ready : AllReady (parts_of φ)
+  pub parts_ready : AllReady (parts_of φ)
   unfolding AllReady WellFormed
-  parts-ready i h = earlier-ready (parts_of φ) i (parts-formed i h)
+  parts_ready i h = earlier_ready (parts_of φ) i (parts_formed i h)
 
-  pub parts-inside : (i : ℕ) → i < length (parts_of φ) → 1 ≤ arity (part_at (parts_of φ) i).kind → (part_at (parts_of φ) i).left < length (parts_of φ)
+  pub parts_inside : (i : ℕ) → i < length (parts_of φ) → 1 ≤ arity (part_at (parts_of φ) i).kind → (part_at (parts_of φ) i).left < length (parts_of φ)
   unfolding WellFormed
-  parts-inside i h l = lt_trans ((parts-formed i h).left-earlier l) h
+  parts_inside i h l = lt_trans ((parts_formed i h).left_earlier l) h
 
   -- reading the parts of a formula gives the formula back
   pub parts_formula : formula_at (parts_of φ) (last_of (parts_of φ)) ≡ φ
-  parts_formula = written-parts.tree
+  parts_formula = written_parts.tree
 
   pub length_parts : length (parts_of φ) ≡ size φ
   unfolding parts_of
   length_parts = length_from φ 0
 
-  pub parts-some : 0 < length (parts_of φ)
-  parts-some = written-parts.some
+  pub parts_some : 0 < length (parts_of φ)
+  parts_some = written_parts.some
 
-  pub last-below : last_of (parts_of φ) < length (parts_of φ)
-  last-below = last_lt written-parts
+  pub last_below : last_of (parts_of φ) < length (parts_of φ)
+  last_below = last_lt written_parts

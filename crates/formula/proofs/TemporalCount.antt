@@ -18,35 +18,35 @@ temporals_append [] ys = sym (zero-add (temporals ys))
 temporals_append (x ∷ xs) ys = ap (λ n. digit (is_temporal x) + n) (temporals_append xs ys) ∙ sym
     (add_assoc (digit (is_temporal x)) (temporals xs) (temporals ys))
 
-temporals-both : (ps qs : List Part) → temporals (kinds_of (ps ++ qs)) ≡ temporals (kinds_of ps) + temporals (kinds_of qs)
-temporals-both ps qs = rw map-append (temporals_append (kinds_of ps) (kinds_of qs))
+temporals_both : (ps qs : List Part) → temporals (kinds_of (ps ++ qs)) ≡ temporals (kinds_of ps) + temporals (kinds_of qs)
+temporals_both ps qs = rw map-append (temporals_append (kinds_of ps) (kinds_of qs))
 
 -- an operator behind its operands
-temporals-unary : (k : Op) (φ : Formula) (n : ℕ) → temporals (kinds_of (parts_from φ n)) ≡ operators φ
+temporals_unary : (k : Op) (φ : Formula) (n : ℕ) → temporals (kinds_of (parts_from φ n)) ≡ operators φ
     → temporals (kinds_of (unary_parts k φ n (parts_from φ n))) ≡ operators φ + digit (is_temporal (byte_of k))
 unfolding temporals
-temporals-unary k φ n e = temporals-both (parts_from φ n) _ ∙ omega arith
+temporals_unary k φ n e = temporals_both (parts_from φ n) _ ∙ omega arith
 
-temporals-binary : (k : Op) (φ ψ : Formula) (n : ℕ) → temporals (kinds_of (parts_from φ n)) ≡ operators φ
+temporals_binary : (k : Op) (φ ψ : Formula) (n : ℕ) → temporals (kinds_of (parts_from φ n)) ≡ operators φ
     → temporals (kinds_of (parts_from ψ (n + size φ))) ≡ operators ψ
     → temporals (kinds_of (binary_parts k φ ψ n (parts_from φ n) (parts_from ψ (n + size φ)))) ≡ operators φ + operators ψ + digit (is_temporal (byte_of k))
 unfolding temporals
-temporals-binary k φ ψ n e f =
-    temporals-both (parts_from φ n ++ parts_from ψ (n + size φ)) _ ∙ omega (arith, temporals-both (parts_from φ n) (parts_from ψ (n + size φ)))
+temporals_binary k φ ψ n e f =
+    temporals_both (parts_from φ n ++ parts_from ψ (n + size φ)) _ ∙ omega (arith, temporals_both (parts_from φ n) (parts_from ψ (n + size φ)))
 
 -- a formula's parts have its temporal operators
-pub temporals-from : (φ : Formula) (n : ℕ) → temporals (kinds_of (parts_from φ n)) ≡ operators φ
+pub temporals_from : (φ : Formula) (n : ℕ) → temporals (kinds_of (parts_from φ n)) ≡ operators φ
 unfolding temporals parts_from operators
-temporals-from (signal b) n = refl
-temporals-from True n = refl
-temporals-from False n = refl
-temporals-from (Not φ) n = temporals-unary op.Not φ n (temporals-from φ n) ∙ add-zero (operators φ)
-temporals-from (X φ) n = temporals-unary op.Next φ n (temporals-from φ n)
-temporals-from (N φ) n = temporals-unary op.WeakNext φ n (temporals-from φ n)
-temporals-from (F φ) n = temporals-unary op.Eventually φ n (temporals-from φ n)
-temporals-from (G φ) n = temporals-unary op.Always φ n (temporals-from φ n)
-temporals-from (And φ ψ) n = temporals-binary op.And φ ψ n (temporals-from φ n) (temporals-from ψ (n + size φ)) ∙ add-zero (operators φ + operators ψ)
-temporals-from (Or φ ψ) n = temporals-binary op.Or φ ψ n (temporals-from φ n) (temporals-from ψ (n + size φ)) ∙ add-zero (operators φ + operators ψ)
-temporals-from (Implies φ ψ) n = temporals-binary op.Implies φ ψ n (temporals-from φ n) (temporals-from ψ (n + size φ)) ∙ add-zero (operators φ + operators ψ)
-temporals-from (U φ ψ) n = temporals-binary op.Until φ ψ n (temporals-from φ n) (temporals-from ψ (n + size φ))
-temporals-from (R φ ψ) n = temporals-binary op.Release φ ψ n (temporals-from φ n) (temporals-from ψ (n + size φ))
+temporals_from (signal b) n = refl
+temporals_from True n = refl
+temporals_from False n = refl
+temporals_from (Not φ) n = temporals_unary op.Not φ n (temporals_from φ n) ∙ add-zero (operators φ)
+temporals_from (X φ) n = temporals_unary op.Next φ n (temporals_from φ n)
+temporals_from (N φ) n = temporals_unary op.WeakNext φ n (temporals_from φ n)
+temporals_from (F φ) n = temporals_unary op.Eventually φ n (temporals_from φ n)
+temporals_from (G φ) n = temporals_unary op.Always φ n (temporals_from φ n)
+temporals_from (And φ ψ) n = temporals_binary op.And φ ψ n (temporals_from φ n) (temporals_from ψ (n + size φ)) ∙ add-zero (operators φ + operators ψ)
+temporals_from (Or φ ψ) n = temporals_binary op.Or φ ψ n (temporals_from φ n) (temporals_from ψ (n + size φ)) ∙ add-zero (operators φ + operators ψ)
+temporals_from (Implies φ ψ) n = temporals_binary op.Implies φ ψ n (temporals_from φ n) (temporals_from ψ (n + size φ)) ∙ add-zero (operators φ + operators ψ)
+temporals_from (U φ ψ) n = temporals_binary op.Until φ ψ n (temporals_from φ n) (temporals_from ψ (n + size φ))
+temporals_from (R φ ψ) n = temporals_binary op.Release φ ψ n (temporals_from φ n) (temporals_from ψ (n + size φ))

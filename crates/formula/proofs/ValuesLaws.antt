@@ -14,42 +14,42 @@ use Rattle.basics.specs.Bits.{bit}
 use Rattle.formula.specs.Semantics.{Trace}
 use Rattle.formula.specs.Parts.{Part, byte_of, is_temporal, part_at, reads, Ready, bottom_up, result_at}
 use Rattle.formula.specs.Values.{combine, owed, value_with, owed_with, owed_on, value_on}
-use Rattle.formula.proofs.PartsLaws.{Reads, reads_none, reads-one, reads_both, get_d_bottom_up, bottom_up-out, result_at_last}
+use Rattle.formula.proofs.PartsLaws.{Reads, reads_none, reads_one, reads_both, get_d_bottom_up, bottom_up_out, result_at_last}
 
 -- a value reads at its step only the operands that `reads` says
-pub combine-reads : (k : Op) (s o : Bool) → Reads (reads k) (combine k s o)
-combine-reads op.Signal s o = reads_none s
-combine-reads op.True s o = reads_none true
-combine-reads op.False s o = reads_none false
-combine-reads op.Not s o = reads-one not
-combine-reads op.And s o = reads_both ◌&&◌
-combine-reads op.Or s o = reads_both ◌||◌
-combine-reads op.Implies s o = reads_both (combine op.Implies s o)
-combine-reads op.Next s o = reads_none o
-combine-reads op.WeakNext s o = reads_none (not o)
-combine-reads op.Eventually s o = reads-one (λ x. x || o)
-combine-reads op.Always s o = reads-one (λ x. x && not o)
-combine-reads op.Until s o = reads_both (combine op.Until s o)
-combine-reads op.Release s o = reads_both (combine op.Release s o)
+pub combine_reads : (k : Op) (s o : Bool) → Reads (reads k) (combine k s o)
+combine_reads op.Signal s o = reads_none s
+combine_reads op.True s o = reads_none true
+combine_reads op.False s o = reads_none false
+combine_reads op.Not s o = reads_one not
+combine_reads op.And s o = reads_both ◌&&◌
+combine_reads op.Or s o = reads_both ◌||◌
+combine_reads op.Implies s o = reads_both (combine op.Implies s o)
+combine_reads op.Next s o = reads_none o
+combine_reads op.WeakNext s o = reads_none (not o)
+combine_reads op.Eventually s o = reads_one (λ x. x || o)
+combine_reads op.Always s o = reads_one (λ x. x && not o)
+combine_reads op.Until s o = reads_both (combine op.Until s o)
+combine_reads op.Release s o = reads_both (combine op.Release s o)
 
 -- and its own obligation only if it is temporal
-pub combine-own : (k : Op) (s o o' x y : Bool) → (is_temporal (byte_of k) ≡ true → o ≡ o') → combine k s o x y ≡ combine k s o' x y
-combine-own op.Signal s o o' x y e = refl
-combine-own op.True s o o' x y e = refl
-combine-own op.False s o o' x y e = refl
-combine-own op.Not s o o' x y e = refl
-combine-own op.And s o o' x y e = refl
-combine-own op.Or s o o' x y e = refl
-combine-own op.Implies s o o' x y e = refl
-combine-own op.Next s o o' x y e = e refl
-combine-own op.WeakNext s o o' x y e = ap not (e refl)
-combine-own op.Eventually s o o' x y e = ap (λ q. x || q) (e refl)
-combine-own op.Always s o o' x y e = ap (λ q. x && not q) (e refl)
-combine-own op.Until s o o' x y e = ap (λ q. y || (x && q)) (e refl)
-combine-own op.Release s o o' x y e = ap (λ q. y && (x || not q)) (e refl)
+pub combine_own : (k : Op) (s o o' x y : Bool) → (is_temporal (byte_of k) ≡ true → o ≡ o') → combine k s o x y ≡ combine k s o' x y
+combine_own op.Signal s o o' x y e = refl
+combine_own op.True s o o' x y e = refl
+combine_own op.False s o o' x y e = refl
+combine_own op.Not s o o' x y e = refl
+combine_own op.And s o o' x y e = refl
+combine_own op.Or s o o' x y e = refl
+combine_own op.Implies s o o' x y e = refl
+combine_own op.Next s o o' x y e = e refl
+combine_own op.WeakNext s o o' x y e = ap not (e refl)
+combine_own op.Eventually s o o' x y e = ap (λ q. x || q) (e refl)
+combine_own op.Always s o o' x y e = ap (λ q. x && not q) (e refl)
+combine_own op.Until s o o' x y e = ap (λ q. y || (x && q)) (e refl)
+combine_own op.Release s o o' x y e = ap (λ q. y && (x || not q)) (e refl)
 
-combine-none : (k : Op) → k ≡ op.False → (s o x y : Bool) → combine k s o x y ≡ false
-combine-none k e s o x y = ap (λ q. combine q s o x y) e
+combine_none : (k : Op) → k ≡ op.False → (s o x y : Bool) → combine k s o x y ≡ false
+combine_none k e s o x y = ap (λ q. combine q s o x y) e
 
 owed_none : (k : Op) → k ≡ op.False → (x v : Bool) → owed k x v ≡ false
 owed_none k e x v = ap (λ q. owed q x v) e
@@ -76,7 +76,7 @@ module _ (ps : List Part) where
           where
             at : (b : Bool) → ltb j i ≡ b → get_or (bottom_up false f ps i) j false ≡ (b && result_at false f ps j)
             at true l = get_d_bottom_up false f ps i j (ltb-true j i l)
-            at false l = bottom_up-out false f ps i j (ltb-false j i l)
+            at false l = bottom_up_out false f ps i j (ltb-false j i l)
 
     -- where all that it reads stand before it, over those of its operands as they are
     pub with_step : (o : ℕ → Bool) (i : ℕ) → Ready ps i
@@ -85,8 +85,8 @@ module _ (ps : List Part) where
     unfolding value_with
     with_step o i r =
         result_at_last false _ ps i
-        ∙ combine-reads (part_at ps i).kind (bit a (part_at ps i).left) (o i) _ _ _ _
-        (λ h. get_d_bottom_up false _ ps i _ (r.left-ready h)) (λ h. get_d_bottom_up false _ ps i _ (r.right-ready h))
+        ∙ combine_reads (part_at ps i).kind (bit a (part_at ps i).left) (o i) _ _ _ _
+        (λ h. get_d_bottom_up false _ ps i _ (r.left_ready h)) (λ h. get_d_bottom_up false _ ps i _ (r.right_ready h))
 
     -- it goes by the obligations of the temporal parts up to it
     module _ (o o' : ℕ → Bool) where
@@ -104,7 +104,7 @@ module _ (ps : List Part) where
           let same = tables_same n (λ i h. e i (omega arith)) in
           ap₂ (λ t v. t ++ (v ∷ [])) same
           (ap (λ t. combine q.kind (bit a q.left) (o n) (get_or t q.left false) (get_or t q.right false)) same
-          ∙ combine-own q.kind (bit a q.left) (o n) (o' n) _ _ (e n (omega arith)))
+          ∙ combine_own q.kind (bit a q.left) (o n) (o' n) _ _ (e n (omega arith)))
 
       pub with_same : (i : ℕ) → Same (suc i) → value_with ps a o i ≡ value_with ps a o' i
       unfolding value_with result_at
@@ -113,16 +113,16 @@ module _ (ps : List Part) where
   -- ---- on a trace
 
   -- a part's value obeys its operator's equation
-  pub value-step : (a : ℕ) (π : Trace) (i : ℕ) → Ready ps i
+  pub value_step : (a : ℕ) (π : Trace) (i : ℕ) → Ready ps i
       → value_on ps (a ∷ π) i
       ≡ combine (part_at ps i).kind (bit a (part_at ps i).left) (owed_on ps π i) (value_on ps (a ∷ π) (part_at ps i).left)
       (value_on ps (a ∷ π) (part_at ps i).right)
   unfolding value_on
-  value-step a π i r = with_step a (owed_on ps π) i r
+  value_step a π i r = with_step a (owed_on ps π) i r
 
-  pub owed-step : (a : ℕ) (π : Trace) (i : ℕ) → owed_on ps (a ∷ π) i ≡ owed_with ps (value_on ps (a ∷ π)) i
+  pub owed_step : (a : ℕ) (π : Trace) (i : ℕ) → owed_on ps (a ∷ π) i ≡ owed_with ps (value_on ps (a ∷ π)) i
   unfolding owed_on value_on
-  owed-step a π i = refl
+  owed_step a π i = refl
 
   -- past the last part nothing is true or owed
   module _ (i : ℕ) (h : length ps ≤ i) where
@@ -133,9 +133,9 @@ module _ (ps : List Part) where
     pub value_out : (π : Trace) → value_on ps π i ≡ false
     unfolding value_on value_with
     value_out [] = refl
-    value_out (a ∷ π) = result_at_last false _ ps i ∙ combine-none (part_at ps i).kind kind_out _ _ _ _
+    value_out (a ∷ π) = result_at_last false _ ps i ∙ combine_none (part_at ps i).kind kind_out _ _ _ _
 
-    pub owed-out : (π : Trace) → owed_on ps π i ≡ false
+    pub owed_out : (π : Trace) → owed_on ps π i ≡ false
     unfolding owed_on
-    owed-out [] = refl
-    owed-out (a ∷ π) = owed-step a π i ∙ owed_none (part_at ps i).kind kind_out _ _
+    owed_out [] = refl
+    owed_out (a ∷ π) = owed_step a π i ∙ owed_none (part_at ps i).kind kind_out _ _

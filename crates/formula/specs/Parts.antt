@@ -125,13 +125,13 @@ reads op.Release = 2
 
 -- the operands of part i stand before it
 pub record Earlier (ps : List Part) (i : ℕ) : Type 0 where
-  pub left-earlier : 1 ≤ arity (part_at ps i).kind → (part_at ps i).left < i
-  pub right-earlier : 2 ≤ arity (part_at ps i).kind → (part_at ps i).right < i
+  pub left_earlier : 1 ≤ arity (part_at ps i).kind → (part_at ps i).left < i
+  pub right_earlier : 2 ≤ arity (part_at ps i).kind → (part_at ps i).right < i
 
 -- those that its value reads at the same step stand before it
 pub record Ready (ps : List Part) (i : ℕ) : Type 0 where
-  pub left-ready : 1 ≤ reads (part_at ps i).kind → (part_at ps i).left < i
-  pub right-ready : 2 ≤ reads (part_at ps i).kind → (part_at ps i).right < i
+  pub left_ready : 1 ≤ reads (part_at ps i).kind → (part_at ps i).left < i
+  pub right_ready : 2 ≤ reads (part_at ps i).kind → (part_at ps i).right < i
 
 -- of every part, so that the values at a step can be worked out from the first part to the last
 unfoldable pub AllReady : List Part → Type 0

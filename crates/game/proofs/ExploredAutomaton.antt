@@ -22,16 +22,16 @@ use Rattle.basics.specs.Reach.{closed, index_in}
 use Rattle.search.specs.ReachableSets.{same_set}
 use Rattle.states.specs.States.{next_state, states_of}
 use Rattle.search.specs.Memory.{packed, sets_of, successors_of}
-use Rattle.states.proofs.ExploredStates.{letters-few}
+use Rattle.states.proofs.ExploredStates.{letters_few}
 use Rattle.basics.proofs.EqualRows.{length_rows, get_d_rows}
 use Rattle.basics.proofs.MemberLaws.{in_tabulate, get_d_in}
-use Rattle.search.proofs.PackedSets.{packed_length, bit-packed}
-use Rattle.states.proofs.NumberedSuccessors.{successor-right}
+use Rattle.search.proofs.PackedSets.{packed_length, bit_packed}
+use Rattle.states.proofs.NumberedSuccessors.{successor_right}
 use Rattle.game.specs.Solution.{automaton_of}
 use Rattle.game.specs.StateMemory.{letter_number}
 use Rattle.beliefs.specs.BeliefMemory.{successor_in, Successors}
-use Rattle.beliefs.proofs.NumberedRows.{rows-entry}
-use Rattle.game.proofs.LetterNumbers.{pair_lt, letter-count, letter_at}
+use Rattle.beliefs.proofs.NumberedRows.{rows_entry}
+use Rattle.game.proofs.LetterNumbers.{pair_lt, letter_count_lem, letter_at}
 use Rattle.game.proofs.SameBeliefs.{Tables}
 
 module _ (ps : List Part) (c : Counts) (few : c.outputs + c.observed + c.hidden ≤ signal_limit) (xs : List PatternSet)
@@ -49,9 +49,9 @@ module _ (ps : List Part) (c : Counts) (few : c.outputs + c.observed + c.hidden 
   unfolding letters_of
   letters_length = length_tabulate (letter_count c) (letter_of c)
 
-  letter-is : (a : ℕ) → a < letter_count c → get_or (letters_of c) a 0 ≡ letter_of c a
+  letter_is : (a : ℕ) → a < letter_count c → get_or (letters_of c) a 0 ≡ letter_of c a
   unfolding letters_of
-  letter-is a h = get_d_tabulate (letter_count c) (letter_of c) a 0 h
+  letter_is a h = get_d_tabulate (letter_count c) (letter_of c) a 0 h
 
   letter_in : (a : ℕ) → a < letter_count c → letter_of c a ∈ letters_of c
   unfolding letters_of
@@ -60,39 +60,39 @@ module _ (ps : List Part) (c : Counts) (few : c.outputs + c.observed + c.hidden 
   module _ (n : ℕ) (successors : List ℕ) (left : successors ≡ padded n
       (successors_of (operators_of ps) (back ps) (letters_of c) (states_of ps (letters_of c) state_limit))) where
     -- letter number a leads from state s to the state with the number in the table
-    entry-is : (s a : ℕ) → s < length xs → a < letter_count c → successor_in successors s a ≡ index_in same_set (next_state ps (get_or xs s []) (letter_of c a)) xs
+    entry_is : (s a : ℕ) → s < length xs → a < letter_count c → successor_in successors s a ≡ index_in same_set (next_state ps (get_or xs s []) (letter_of c a)) xs
     unfolding next_state
-    entry-is s a h l =
+    entry_is s a h l =
         ap (λ t. get_or t (s * letter_limit + a) 0) (left ∙ ap (λ r. padded n (successors_of (operators_of ps) (back ps) (letters_of c) r)) listed)
-        ∙ rows-entry same_set (next (operators_of ps) (back ps)) (λ x. letters_of c) letter_limit
-        (λ x. subst (λ k. k ≤ letter_limit) (sym letters_length) (letters-few c few))
+        ∙ rows_entry same_set (next (operators_of ps) (back ps)) (λ x. letters_of c) letter_limit
+        (λ x. subst (λ k. k ≤ letter_limit) (sym letters_length) (letters_few c few))
         xs [] n s a h (subst (λ k. a < k) (sym letters_length) l)
-        ∙ ap (λ v. index_in same_set (next (operators_of ps) (back ps) (get_or xs s []) v) xs) (letter-is a l)
+        ∙ ap (λ v. index_in same_set (next (operators_of ps) (back ps) (get_or xs s []) v) xs) (letter_is a l)
 
     pub explored_successors : Successors successors (length xs) (choices * observations) hiddens
     explored_successors =
         record {
           inside = λ s a h l.
-              let k : a < letter_count c = subst (λ m. a < m) (sym (letter-count c)) l in
-              subst (λ m. m < length xs) (sym (entry-is s a h k))
-              (successor-right ps (letters_of c) state_limit xs listed (get_or xs s []) (get_d_in xs s [] h) (letter_of c a) (letter_in a k)).0;
+              let k : a < letter_count c = subst (λ m. a < m) (sym (letter_count_lem c)) l in
+              subst (λ m. m < length xs) (sym (entry_is s a h k))
+              (successor_right ps (letters_of c) state_limit xs listed (get_or xs s []) (get_d_in xs s [] h) (letter_of c a) (letter_in a k)).0;
         }
 
-    explored-follows : (i k s h : ℕ) → i < length xs → k < choices → s < observations → h < hiddens
+    explored_follows : (i k s h : ℕ) → i < length xs → k < choices → s < observations → h < hiddens
         → successor_in successors i (letter_number choices observations k s h) ≡ (automaton_of ps xs).next i (letter_from k s h)
-    explored-follows i k s h ib kb sb hb =
+    explored_follows i k s h ib kb sb hb =
         let pair = pair_lt choices observations k s kb sb in
-        let few-letters : letter_number choices observations k s h < letter_count c =
-        subst₂ (λ m t. m < t) (add_comm (h * (choices * observations)) (s * choices + k)) (sym (letter-count c)) (digits_lt hb pair)
+        let few_letters : letter_number choices observations k s h < letter_count c =
+        subst₂ (λ m t. m < t) (add_comm (h * (choices * observations)) (s * choices + k)) (sym (letter_count_lem c)) (digits_lt hb pair)
         in
-        entry-is i (letter_number choices observations k s h) ib few-letters
+        entry_is i (letter_number choices observations k s h) ib few_letters
         ∙ ap (λ v. index_in same_set (next_state ps (get_or xs i []) v) xs) (letter_at c k s h kb sb)
 
   -- a state accepts where the lowest bit of its bytes is set
-  explored-accepts : (n : ℕ) (sets : List ℕ) → sets ≡ padded n (sets_of (states_of ps (letters_of c) state_limit)) → (s : ℕ) → s < length xs
+  explored_accepts : (n : ℕ) (sets : List ℕ) → sets ≡ padded n (sets_of (states_of ps (letters_of c) state_limit)) → (s : ℕ) → s < length xs
       → bit (get_or sets (s * set_size) 0) 0 ≡ accepts (get_or xs s [])
   unfolding accepts
-  explored-accepts n sets left s h =
+  explored_accepts n sets left s h =
       let z : s * set_size ≡ s * set_size + 0 = omega arith in
       let l : s * set_size + 0 < length xs * set_size = omega arith in
       ap (λ y. bit y 0)
@@ -100,7 +100,7 @@ module _ (ps : List Part) (c : Counts) (few : c.outputs + c.observed + c.hidden 
       ∙ get_or-append (flat_map (packed set_size) xs) _ 0 (s * set_size + 0)
       (subst (λ m. s * set_size + 0 < m) (sym (length_rows set_size (packed set_size) (packed_length set_size) xs)) l)
       ∙ get_d_rows set_size (packed set_size) (packed_length set_size) xs [] s 0 h (omega arith))
-      ∙ bit-packed set_size (get_or xs s []) 0 (omega arith) ∙ ap (member (get_or xs s [])) (zero-mod (length (get_or xs s [])))
+      ∙ bit_packed set_size (get_or xs s []) 0 (omega arith) ∙ ap (member (get_or xs s [])) (zero-mod (length (get_or xs s [])))
 
   -- all that is left in memory
   pub explored_tables : (n : ℕ) (sets : List ℕ) → sets ≡ padded n (sets_of (states_of ps (letters_of c) state_limit))
@@ -108,4 +108,4 @@ module _ (ps : List Part) (c : Counts) (few : c.outputs + c.observed + c.hidden 
       → successors ≡ padded m (successors_of (operators_of ps) (back ps) (letters_of c) (states_of ps (letters_of c) state_limit))
       → Tables (automaton_of ps xs) choices observations hiddens letter_from sets successors
   explored_tables n sets sets-are m successors successors-are =
-      record { first = refl; follows = explored-follows m successors successors-are; accepting = explored-accepts n sets sets-are }
+      record { first = refl; follows = explored_follows m successors successors-are; accepting = explored_accepts n sets sets-are }

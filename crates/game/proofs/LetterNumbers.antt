@@ -21,8 +21,8 @@ module _ (c : Counts) where
   y = 2 ^ c.observed
 
   -- how many there are
-  pub letter-count : letter_count c ≡ 2 ^ c.hidden * (x * y)
-  letter-count =
+  pub letter_count_lem : letter_count c ≡ 2 ^ c.hidden * (x * y)
+  letter_count_lem =
       pow-add 2 (c.outputs + c.observed) c.hidden ∙ ap (λ n. n * 2 ^ c.hidden) (pow-add 2 c.outputs c.observed)
       ∙ mul_comm (x * y) (2 ^ c.hidden)
 

@@ -56,8 +56,8 @@ module _ (source : List ℕ) (work table : ℕ) where
 
   module _ (enough : work_size ≤ work) (room : table_size ≤ table) where
     -- 1 to 8: the text denotes no problem, and this is why
-    pub refused-text : (number place : ℕ) → number ≤ 8 → (told_by work table source ≡ refused number place) ↔ Refuses source number place
-    refused-text = SolvedAsCases.refused-text source work table enough room
+    pub refused_text : (number place : ℕ) → number ≤ 8 → (told_by work table source ≡ refused number place) ↔ Refuses source number place
+    refused_text = SolvedAsCases.refused_text source work table enough room
 
     module _ (p : Problem) (denotes : Denotes source p) where
       -- 9: more than 128 states can be reached
@@ -68,22 +68,22 @@ module _ (source : List ℕ) (work table : ℕ) where
       pub too_many_beliefs_lem : (told_by work table source ≡ refused 10 0) ↔ ((¬ ManyStates p) × ManyBeliefs p)
       too_many_beliefs_lem = SolvedAsCases.too_many_beliefs_lem source work table enough room p denotes
 
-      module _ (few-states : ¬ ManyStates p) (few-beliefs : ¬ ManyBeliefs p) where
+      module _ (few_states : ¬ ManyStates p) (few-beliefs : ¬ ManyBeliefs p) where
         -- 11: no strategy of the problem's order wins
         pub unrealizable : (told_by work table source ≡ refused 11 0) ↔ ((σ : Strategy p.order) → IsStrategy (game_of p) σ → ¬ Wins (game_of p) σ)
-        unrealizable = SolvedAsCases.unrealizable source work table enough room p denotes few-states few-beliefs
+        unrealizable = SolvedAsCases.unrealizable source work table enough room p denotes few_states few-beliefs
 
         -- otherwise the table that the reference lays down is written, and told with its row count, observed signals, order and worst case ..
         pub otherwise : (¬ (told_by work table source ≡ refused 11 0))
             → (n : ℕ) × (r : ℕ) × (told_by work table source ≡ values (n ∷ p.signals.observed ∷ order_number p.order ∷ r ∷ []))
             × Controller p n r (cells_by work table source)
-        otherwise = SolvedAsCases.otherwise source work table enough room p denotes few-states few-beliefs
+        otherwise = SolvedAsCases.otherwise source work table enough room p denotes few_states few-beliefs
 
         -- .. and there is only one
         pub controller : (n r : ℕ) (t : List ℕ)
             → ((told_by work table source ≡ values (n ∷ p.signals.observed ∷ order_number p.order ∷ r ∷ [])) × (cells_by work table source ≡ t))
             ↔ Controller p n r t
-        controller = SolvedAsCases.controller source work table enough room p denotes few-states few-beliefs
+        controller = SolvedAsCases.controller source work table enough room p denotes few_states few-beliefs
 
 -- ---- WHAT WAS ANSWERED BEFORE, while beliefs behind a final one counted too: `earlier_told` and `earlier_cells`, which differ from `told_by` and
 -- `cells_by` in the beliefs that are counted and in nothing else
@@ -91,24 +91,24 @@ module _ (source : List ℕ) (work table : ℕ) where
 module _ (source : List ℕ) (work table : ℕ) where
   -- all of it but number 10 is answered still, for a problem of either order: a table with its row count and worst case, cell for cell, and
   -- "unrealizable" as well as every other refusal
-  pub answers-kept : (¬ (earlier_told work table source ≡ refused 10 0))
+  pub answers_kept : (¬ (earlier_told work table source ≡ refused 10 0))
       → (told_by work table source ≡ earlier_told work table source) × (cells_by work table source ≡ earlier_cells work table source)
-  answers-kept = EarlierCountLaws.answers-kept source work table
+  answers_kept = EarlierCountLaws.answers_kept source work table
 
   -- its number 10: more than 256 beliefs could be reached by any histories
   pub earlier_too_many : work_size ≤ work → table_size ≤ table → (p : Problem) → Denotes source p
       → (earlier_told work table source ≡ refused 10 0) ↔ ((¬ ManyStates p) × EarlierManyBeliefs p)
-  earlier_too_many enough room = EarlierCountLaws.earlier_too_many source work table (SolvedAsCases.long-enough source work table enough room)
+  earlier_too_many enough room = EarlierCountLaws.earlier_too_many source work table (SolvedAsCases.long_enough source work table enough room)
 
 -- ---- what is left in lent memory: a refusal leaves the table as it was, and a table all behind its rows; 12 leaves the work memory as it was,
 -- and any other answer leaves it all zero
 pub table_kept : (work : ℕ) (source t : List ℕ) (number place : ℕ) → told_by work (length t) source ≡ refused number place → table_after work source t ≡ t
 table_kept = LentMemory.table_kept
 
-pub table-rest : (work : ℕ) (source t : List ℕ) (n observed r : ℕ) (o : Order)
+pub table_rest : (work : ℕ) (source t : List ℕ) (n observed r : ℕ) (o : Order)
     → told_by work (length t) source ≡ values (n ∷ observed ∷ order_number o ∷ r ∷ [])
     → drop (n * row_size o) (table_after work source t) ≡ drop (n * row_size o) t
-table-rest = LentMemory.table-rest
+table_rest = LentMemory.table_rest
 
 pub work_kept : (table : ℕ) (w : List ℕ) → Short (length w) table → work_after table w ≡ w
 work_kept = LentMemory.work_kept
@@ -134,23 +134,23 @@ pub ranks : (p : Problem) (n r : ℕ) (t : List ℕ) (c : Controller p n r t)
 ranks = SolvedAsCases.ranks
 
 -- the ranks in it are those of the reference (REFERENCE.md, The game), for any histories' final beliefs: a final belief has rank 0 ..
-pub final-rank : (o : Order) (choices observations : ℕ) (Final : History → Type 0) → 0 < observations → (h : History)
+pub final_rank : (o : Order) (choices observations : ℕ) (Final : History → Type 0) → 0 < observations → (h : History)
     → Final h ↔ RankIs o choices observations Final h 0
-final-rank = IsTableLaws.final-rank
+final_rank = IsTableLaws.final_rank
 
 -- .. that of another is the least r for which the controller can choose so that every observation leads to a rank below r ..
-pub other-rank : (o : Order) (choices observations : ℕ) (Final : History → Type 0) → 0 < observations → (h : History) → (¬ Final h) → (r : ℕ)
+pub other_rank : (o : Order) (choices observations : ℕ) (Final : History → Type 0) → 0 < observations → (h : History) → (¬ Final h) → (r : ℕ)
     → RankIs o choices observations Final h r
     ↔ (HasAnswer o choices observations Final r h × ((q : ℕ) → q < r → ¬ HasAnswer o choices observations Final q h))
-other-rank = IsTableLaws.other-rank
+other_rank = IsTableLaws.other_rank
 
 -- .. and under `Read` a rank over 0 of a problem's belief is one more than the worst, over observations, of the best next rank
-pub read-rank : (p : Problem) → (¬ ManyStates p) → (h : History) → Possible (game_of p).choices (game_of p).observations h → (¬ FinalBelief p h) → (r : ℕ)
+pub read_rank : (p : Problem) → (¬ ManyStates p) → (h : History) → Possible (game_of p).choices (game_of p).observations h → (¬ FinalBelief p h) → (r : ℕ)
     → RankIs Read (game_of p).choices (game_of p).observations (FinalBelief p) h (suc r)
     ↔ (((s : ℕ) → s < (game_of p).observations
     → (q : ℕ) × (q ≤ r) × BestNext Read (game_of p).choices (game_of p).observations (FinalBelief p) h s q)
     × ((s : ℕ) × (s < (game_of p).observations) × BestNext Read (game_of p).choices (game_of p).observations (FinalBelief p) h s r))
-read-rank p few = ReadRank.read-rank (game_of p).choices (game_of p).observations (FinalBelief p) (BelievedLaws.final-decided p few)
+read_rank p few = ReadRank.read_rank (game_of p).choices (game_of p).observations (FinalBelief p) (BelievedLaws.final_decided p few)
 
 -- ---- the theory behind it
 
@@ -160,16 +160,16 @@ pub any_game : (o : Order) (G : Game) (A : Arena) (same : A.K → A.K → Bool) 
     → positions A same G.choices G.observations limit ≡ closed all → Knows G A
     → 0 < G.observations → 0 < G.hiddens → G.choices < stop_cell → G.observations ≤ side_limit
     → Right limit o G (verdict_of o A same G.choices G.observations (length all))
-any_game = AnswerLaws.answer-right
+any_game = AnswerLaws.answer_right
 
 -- for either order and any positions: where all that choices and observations reach is within a limit, what counts is within it, and the verdict
 -- is the same from either count
-pub any-answer-kept : (A : Arena) (same : A.K → A.K → Bool) → ((a b : A.K) → Says (same a b) (a ≡ b)) → (choices observations : ℕ) (o : Order)
+pub any_answer_kept : (A : Arena) (same : A.K → A.K → Bool) → ((a b : A.K) → Says (same a b) (a ≡ b)) → (choices observations : ℕ) (o : Order)
     → 0 < observations → choices < stop_cell → observations ≤ side_limit
     → (limit : ℕ) (all : List A.K) → earlier_positions A same choices observations limit ≡ closed all
     → (few : List A.K) × (positions A same choices observations limit ≡ closed few)
     × (verdict_of o A same choices observations (length few) ≡ verdict_of o A same choices observations (length all))
-any-answer-kept = KeptAnswers.answer-kept
+any_answer_kept = KeptAnswers.answer_kept
 
 -- reading first is never worse: whoever wins by setting first also wins by reading first, with the same number of steps in every play
 pub read_never_worse : (G : Game) (σ : Strategy Set) → IsStrategy G σ → Wins G σ
@@ -177,5 +177,5 @@ pub read_never_worse : (G : Game) (σ : Strategy Set) → IsStrategy G σ → Wi
 read_never_worse = ReadNeverWorse.read_never_worse
 
 -- a problem's beliefs know: one is final exactly where every hidden history makes the trace true
-pub beliefs-know : (p : Problem) (xs : List PatternSet) → problem_states p ≡ closed xs → Knows (game_of p) (beliefs_of p xs)
-beliefs-know = StatesJudge.beliefs-know
+pub beliefs_know : (p : Problem) (xs : List PatternSet) → problem_states p ≡ closed xs → Knows (game_of p) (beliefs_of p xs)
+beliefs_know = StatesJudge.beliefs_know

@@ -14,20 +14,20 @@ use Rattle.rules.specs.Within.{counts_in, Few}
 use Rattle.rules.specs.Problem.{Problem, problem_parts}
 use Rattle.search.specs.PatternSet.{PatternSet}
 use Rattle.search.specs.ReachableSets.{same_set}
-use Rattle.search.proofs.ReachableSetsLaws.{same_set-says}
+use Rattle.search.proofs.ReachableSetsLaws.{same_set_says}
 use Rattle.play.specs.Limits.{belief_limit}
 use Rattle.play.specs.Game.{Game, Unrealizable}
 use Rattle.play.specs.Rank.{Arena}
 use Rattle.play.specs.Belief.{Belief}
 use Rattle.play.specs.Answer.{moves, positions, Verdict, solved, unrealizable, verdict_of, Right}
-use Rattle.play.proofs.AnswerLaws.{start-counted, move-counted, answer-right}
-use Rattle.play.proofs.AnswerTable.{answer-table, one_answer}
+use Rattle.play.proofs.AnswerLaws.{start_counted, move_counted, answer_right}
+use Rattle.play.proofs.AnswerTable.{answer_table, one_answer}
 use Rattle.game.specs.Solution.{game_of, problem_states, beliefs_of, Solution, too_many_states, too_many_beliefs, verdict, solution_of}
 use Rattle.game.specs.Solution.{solution_from, solution}
 use Rattle.game.specs.Believed.{SameBelief, FinalBelief, ManyStates, ManyBeliefs, Small}
 use Rattle.game.specs.SolvedAs.{Controller}
-use Rattle.game.proofs.StatesJudge.{beliefs-know, some-hidden}
-use Rattle.game.proofs.BelievedLaws.{many_states_lem, few-states, beliefs-tell, beliefs_iff}
+use Rattle.game.proofs.StatesJudge.{beliefs_know, some_hidden}
+use Rattle.game.proofs.BelievedLaws.{many_states_lem, few_states, beliefs_tell, beliefs_iff}
 
 -- a solution with what makes it due
 pub data Solving (p : Problem) : Solution → Type 0 where
@@ -42,11 +42,11 @@ module _ (p : Problem) (few : Few p.signals) where
   abbrev G : Game
   G = game_of p
 
-  pub few-choices : G.choices < 65535
-  few-choices = lt_of_le_of_lt (pow_mono {i = p.signals.outputs} {j = kind_limit} few.outputs) (omega arith)
+  pub few_choices : G.choices < 65535
+  few_choices = lt_of_le_of_lt (pow_mono {i = p.signals.outputs} {j = kind_limit} few.outputs) (omega arith)
 
-  pub few-observations : G.observations ≤ 16
-  few-observations = pow_mono {i = p.signals.observed} {j = kind_limit} few.observed
+  pub few_observations : G.observations ≤ 16
+  few_observations = pow_mono {i = p.signals.observed} {j = kind_limit} few.observed
 
   module _ (xs : List PatternSet) (listed : problem_states p ≡ closed xs) where
     abbrev A : Arena
@@ -58,71 +58,71 @@ module _ (p : Problem) (few : Few p.signals) where
     -- beliefs are counted exactly where they are not too many
     many_told : counted ≡ over → ManyBeliefs p
     many_told e =
-        (beliefs_iff p xs listed _).0 ((over_iff same_set same_set-says (moves A same_set G.choices G.observations) A.start belief_limit).0 e)
+        (beliefs_iff p xs listed _).0 ((over_iff same_set same_set_says (moves A same_set G.choices G.observations) A.start belief_limit).0 e)
 
     many_over : ManyBeliefs p → counted ≡ over
     many_over m =
-        (over_iff same_set same_set-says (moves A same_set G.choices G.observations) A.start belief_limit).1 ((beliefs_iff p xs listed _).1 m)
+        (over_iff same_set same_set_says (moves A same_set G.choices G.observations) A.start belief_limit).1 ((beliefs_iff p xs listed _).1 m)
 
     module _ (all : List Belief) (is : counted ≡ closed all) where
       abbrev answer : Verdict
       answer = verdict_of p.order A same_set G.choices G.observations (length all)
 
       small : Small p
-      small = (few-states p xs listed, λ m. closed_not_over all (sym is ∙ many_over m))
+      small = (few_states p xs listed, λ m. closed_not_over all (sym is ∙ many_over m))
 
       right : Right belief_limit p.order G answer
       right =
-          answer-right p.order G A same_set same_set-says belief_limit all is (beliefs-know p xs listed) (pow_pos p.signals.observed) (some-hidden p)
-          few-choices few-observations
+          answer_right p.order G A same_set same_set_says belief_limit all is (beliefs_know p xs listed) (pow_pos p.signals.observed) (some_hidden p)
+          few_choices few_observations
 
-      solving-verdict : (v : Verdict) → answer ≡ v → Right belief_limit p.order G v → Solving p (verdict v)
-      solving-verdict (solved n r cells) e s =
-          let moves-in = move-counted A same_set same_set-says G.choices G.observations belief_limit all is in
-          let start_in = start-counted A same_set same_set-says G.choices G.observations belief_limit all is in
+      solving_verdict : (v : Verdict) → answer ≡ v → Right belief_limit p.order G v → Solving p (verdict v)
+      solving_verdict (solved n r cells) e s =
+          let moves-in = move_counted A same_set same_set_says G.choices G.observations belief_limit all is in
+          let start_in = start_counted A same_set same_set_says G.choices G.observations belief_limit all is in
           let (t, q) =
-          answer-table p.order A same_set same_set-says G.choices G.observations (pow_pos p.signals.observed) few-choices few-observations
-          all moves-in start_in (SameBelief p) (FinalBelief p) (beliefs-tell p xs listed) n r cells e in
+          answer_table p.order A same_set same_set_says G.choices G.observations (pow_pos p.signals.observed) few_choices few_observations
+          all moves-in start_in (SameBelief p) (FinalBelief p) (beliefs_tell p xs listed) n r cells e in
           table small n r cells (record { is_table = t; rank = q; solves = s })
           (λ m q t c.
-          one_answer p.order A same_set same_set-says G.choices G.observations (pow_pos p.signals.observed) few-choices few-observations
-          all moves-in start_in (SameBelief p) (FinalBelief p) (beliefs-tell p xs listed) n r cells e m q t c.is_table c.rank)
-      solving-verdict unrealizable e u = none small u
+          one_answer p.order A same_set same_set_says G.choices G.observations (pow_pos p.signals.observed) few_choices few_observations
+          all moves-in start_in (SameBelief p) (FinalBelief p) (beliefs_tell p xs listed) n r cells e m q t c.is_table c.rank)
+      solving_verdict unrealizable e u = none small u
 
-    solving-beliefs : (l : Listing Belief) → counted ≡ l → Solving p (solution_of p.order A same_set G.choices G.observations l)
-    solving-beliefs (closed all) e = solving-verdict all e (answer all e) refl (right all e)
-    solving-beliefs over e = beliefs (few-states p xs listed) (many_told e)
+    solving_beliefs : (l : Listing Belief) → counted ≡ l → Solving p (solution_of p.order A same_set G.choices G.observations l)
+    solving_beliefs (closed all) e = solving_verdict all e (answer all e) refl (right all e)
+    solving_beliefs over e = beliefs (few_states p xs listed) (many_told e)
 
-  solving-states : (l : Listing PatternSet) → problem_states p ≡ l → Solving p (solution_from p.order (problem_parts p) (counts_in p.signals) l)
-  solving-states (closed xs) e = solving-beliefs xs e (counted xs e) refl
-  solving-states over e = states ((many_states_lem p).0 e)
+  solving_states : (l : Listing PatternSet) → problem_states p ≡ l → Solving p (solution_from p.order (problem_parts p) (counts_in p.signals) l)
+  solving_states (closed xs) e = solving_beliefs xs e (counted xs e) refl
+  solving_states over e = states ((many_states_lem p).0 e)
 
   pub solving : Solving p (solution p)
-  solving = solving-states (problem_states p) refl
+  solving = solving_states (problem_states p) refl
 
 -- ---- what is due is answered
 
 module _ (p : Problem) where
-  pub states-due : (s : Solution) → Solving p s → ManyStates p → s ≡ too_many_states
-  states-due s (states m) d = refl
-  states-due s (beliefs f m) d = absurd (f d)
-  states-due s (none small u) d = absurd (small.0 d)
-  states-due s (table small n r cells c one) d = absurd (small.0 d)
+  pub states_due : (s : Solution) → Solving p s → ManyStates p → s ≡ too_many_states
+  states_due s (states m) d = refl
+  states_due s (beliefs f m) d = absurd (f d)
+  states_due s (none small u) d = absurd (small.0 d)
+  states_due s (table small n r cells c one) d = absurd (small.0 d)
 
-  pub beliefs-due : (s : Solution) → Solving p s → (¬ ManyStates p) → ManyBeliefs p → s ≡ too_many_beliefs
-  beliefs-due s (states m) f d = absurd (f m)
-  beliefs-due s (beliefs f' m) f d = refl
-  beliefs-due s (none small u) f d = absurd (small.1 d)
-  beliefs-due s (table small n r cells c one) f d = absurd (small.1 d)
+  pub beliefs_due : (s : Solution) → Solving p s → (¬ ManyStates p) → ManyBeliefs p → s ≡ too_many_beliefs
+  beliefs_due s (states m) f d = absurd (f m)
+  beliefs_due s (beliefs f' m) f d = refl
+  beliefs_due s (none small u) f d = absurd (small.1 d)
+  beliefs_due s (table small n r cells c one) f d = absurd (small.1 d)
 
-  pub none-due : (s : Solution) → Solving p s → Small p → Unrealizable (game_of p) p.order → s ≡ verdict unrealizable
-  none-due s (states m) small u = absurd (small.0 m)
-  none-due s (beliefs f m) small u = absurd (small.1 m)
-  none-due s (none small' u') small u = refl
-  none-due s (table small' n r cells c one) small u = absurd (u _ c.solves.optimal.is_strategy c.solves.optimal.wins)
+  pub none_due : (s : Solution) → Solving p s → Small p → Unrealizable (game_of p) p.order → s ≡ verdict unrealizable
+  none_due s (states m) small u = absurd (small.0 m)
+  none_due s (beliefs f m) small u = absurd (small.1 m)
+  none_due s (none small' u') small u = refl
+  none_due s (table small' n r cells c one) small u = absurd (u _ c.solves.optimal.is_strategy c.solves.optimal.wins)
 
-  pub table-due : (s : Solution) → Solving p s → Small p → (n r : ℕ) (cells : List ℕ) → Controller p n r cells → s ≡ verdict (solved n r cells)
-  table-due s (states m) small n r cells c = absurd (small.0 m)
-  table-due s (beliefs f m) small n r cells c = absurd (small.1 m)
-  table-due s (none small' u) small n r cells c = absurd (u _ c.solves.optimal.is_strategy c.solves.optimal.wins)
-  table-due s (table small' m q t c' one) small n r cells c = let (a, b, d) = one n r cells c in rw (a, b, d) refl
+  pub table_due : (s : Solution) → Solving p s → Small p → (n r : ℕ) (cells : List ℕ) → Controller p n r cells → s ≡ verdict (solved n r cells)
+  table_due s (states m) small n r cells c = absurd (small.0 m)
+  table_due s (beliefs f m) small n r cells c = absurd (small.1 m)
+  table_due s (none small' u) small n r cells c = absurd (u _ c.solves.optimal.is_strategy c.solves.optimal.wins)
+  table_due s (table small' m q t c' one) small n r cells c = let (a, b, d) = one n r cells c in rw (a, b, d) refl

@@ -11,12 +11,12 @@ use Rattle.rules.specs.Problem.{Problem}
 use Rattle.rules.specs.Satisfies.{Satisfies}
 use Rattle.rules.specs.Denotes.{Denotes}
 use Rattle.rules.specs.Refuses.{Refuses}
-use Rattle.lines.proofs.RefusalLaws.{told-apart, one_number, one_place}
-use Rattle.rules.proofs.RefusesLaws.{refuses-number}
+use Rattle.lines.proofs.RefusalLaws.{told_apart, one_number, one_place}
+use Rattle.rules.proofs.RefusesLaws.{refuses_number}
 use Rattle.play.specs.Cells.{table_size, rank_cell}
 use Rattle.basics.specs.declared.order.Order.{Order}
 use Rattle.basics.specs.Order.{order_number}
-use Rattle.basics.proofs.OrderLaws.{one-order}
+use Rattle.basics.proofs.OrderLaws.{one_order}
 use Rattle.play.specs.Game.{Play, Strategy, IsStrategy, Steps, run, Wins, Unrealizable}
 use Rattle.play.specs.IsTable.{RankIs}
 use Rattle.play.specs.Table.{table_strategy}
@@ -25,7 +25,7 @@ use Rattle.game.specs.Believed.{FinalBelief, ManyStates, ManyBeliefs}
 use Rattle.game.specs.SolvedAs.{solved_of, told_solved, told_by, cells_of, cells_by, Controller, Short, SolvedAs}
 use Rattle.game.specs.SolvedAs as due
 use Rattle.game.proofs.SolutionCases.{Solving, states, beliefs, none, table}
-use Rattle.game.proofs.SolvedAsLaws.{due_call, solution-answered, solving-read, answered_iff}
+use Rattle.game.proofs.SolvedAsLaws.{due_call, solution_answered, solving_read, answered_iff}
 
 module _ (source : List ℕ) (work room : ℕ) where
   abbrev answer : Told
@@ -38,19 +38,19 @@ module _ (source : List ℕ) (work room : ℕ) where
 
   when_short : (a : Told) (t : List ℕ) → SolvedAs work room source a t → a ≡ refused 12 0 → Short work room
   when_short a t (due.short_memory s) e = s
-  when_short a t (due.bad_source f number place x) e = absurd (omega (arith, one_number e, refuses-number x))
+  when_short a t (due.bad_source f number place x) e = absurd (omega (arith, one_number e, refuses_number x))
   when_short a t (due.too_many_states_lem f p d m) e = absurd (omega (arith, one_number e))
   when_short a t (due.too_many_beliefs_lem f p d s m) e = absurd (omega (arith, one_number e))
   when_short a t (due.unrealizable f p d small u) e = absurd (omega (arith, one_number e))
-  when_short a t (due.table f p d small n r c k) e = told-apart (sym e)
+  when_short a t (due.table f p d small n r c k) e = told_apart (sym e)
 
   pub short_memory : (answer ≡ refused 12 0) ↔ ((work < work_size) ⊎ (room < table_size))
   short_memory = (when_short answer cells (due_call source work room), λ s. ((answered_iff source work room _ _).1 (due.short_memory s)).0)
 
   module _ (enough : work_size ≤ work) (long : table_size ≤ room) where
-    pub long-enough : ¬ Short work room
-    long-enough (inl s) = absurd (omega arith)
-    long-enough (inr s) = absurd (omega arith)
+    pub long_enough : ¬ Short work room
+    long_enough (inl s) = absurd (omega arith)
+    long_enough (inr s) = absurd (omega arith)
 
     -- ---- 1 to 8
 
@@ -62,12 +62,12 @@ module _ (source : List ℕ) (work room : ℕ) where
     when_refused a t (due.too_many_states_lem f p d m) number place h e = absurd (omega (arith, one_number e))
     when_refused a t (due.too_many_beliefs_lem f p d s m) number place h e = absurd (omega (arith, one_number e))
     when_refused a t (due.unrealizable f p d small u) number place h e = absurd (omega (arith, one_number e))
-    when_refused a t (due.table f p d small n r c k) number place h e = told-apart (sym e)
+    when_refused a t (due.table f p d small n r c k) number place h e = told_apart (sym e)
 
-    pub refused-text : (number place : ℕ) → number ≤ 8 → (answer ≡ refused number place) ↔ Refuses source number place
-    refused-text number place h = (
+    pub refused_text : (number place : ℕ) → number ≤ 8 → (answer ≡ refused number place) ↔ Refuses source number place
+    refused_text number place h = (
       when_refused answer cells (due_call source work room) number place h,
-      λ x. ((answered_iff source work room _ _).1 (due.bad_source long-enough number place x)).0,
+      λ x. ((answered_iff source work room _ _).1 (due.bad_source long_enough number place x)).0,
     )
 
     -- ---- for a problem that the text denotes
@@ -76,39 +76,39 @@ module _ (source : List ℕ) (work room : ℕ) where
       abbrev told : Solution → Told
       told s = told_solved (solved_of p.order p.signals.observed s)
 
-      is-told : answer ≡ told (solution p)
-      is-told = (solution-answered source work room long-enough p denotes (solution p) refl).0
+      is_told : answer ≡ told (solution p)
+      is_told = (solution_answered source work room long_enough p denotes (solution p) refl).0
 
-      are-cells : cells ≡ cells_of (solution p)
-      are-cells = (solution-answered source work room long-enough p denotes (solution p) refl).1
+      are_cells : cells ≡ cells_of (solution p)
+      are_cells = (solution_answered source work room long_enough p denotes (solution p) refl).1
 
       view : Solving p (solution p)
-      view = solving-read source work room p denotes
+      view = solving_read source work room p denotes
 
       when_many_states : (s : Solution) → Solving p s → told s ≡ refused 9 0 → ManyStates p
       when_many_states s (states m) e = m
       when_many_states s (beliefs f m) e = absurd (omega (arith, one_number e))
       when_many_states s (none small u) e = absurd (omega (arith, one_number e))
-      when_many_states s (table small n r t c one) e = told-apart (sym e)
+      when_many_states s (table small n r t c one) e = told_apart (sym e)
 
       when_many_beliefs : (s : Solution) → Solving p s → told s ≡ refused 10 0 → (¬ ManyStates p) × ManyBeliefs p
       when_many_beliefs s (states m) e = absurd (omega (arith, one_number e))
       when_many_beliefs s (beliefs f m) e = (f, m)
       when_many_beliefs s (none small u) e = absurd (omega (arith, one_number e))
-      when_many_beliefs s (table small n r t c one) e = told-apart (sym e)
+      when_many_beliefs s (table small n r t c one) e = told_apart (sym e)
 
       when_unrealizable : (s : Solution) → Solving p s → told s ≡ refused 11 0 → Unrealizable (game_of p) p.order
       when_unrealizable s (states m) e = absurd (omega (arith, one_number e))
       when_unrealizable s (beliefs f m) e = absurd (omega (arith, one_number e))
       when_unrealizable s (none small u) e = u
-      when_unrealizable s (table small n r t c one) e = told-apart (sym e)
+      when_unrealizable s (table small n r t c one) e = told_apart (sym e)
 
       when_solved : (s : Solution) → Solving p s → (n r : ℕ) (t : List ℕ)
           → told s ≡ values (n ∷ p.signals.observed ∷ order_number p.order ∷ r ∷ []) → cells_of s ≡ t
           → Controller p n r t
-      when_solved s (states m) n r t e q = told-apart e
-      when_solved s (beliefs f m) n r t e q = told-apart e
-      when_solved s (none small u) n r t e q = told-apart e
+      when_solved s (states m) n r t e q = told_apart e
+      when_solved s (beliefs f m) n r t e q = told_apart e
+      when_solved s (none small u) n r t e q = told_apart e
       when_solved s (table small m k u c one) n r t e q =
           let is-n : m ≡ n = cc in
           let is-r : k ≡ r = cc in
@@ -116,28 +116,28 @@ module _ (source : List ℕ) (work room : ℕ) where
 
       pub too_many_states_lem : (answer ≡ refused 9 0) ↔ ManyStates p
       too_many_states_lem = (
-        λ e. when_many_states (solution p) view (sym is-told ∙ e),
-        λ m. ((answered_iff source work room _ _).1 (due.too_many_states_lem long-enough p denotes m)).0,
+        λ e. when_many_states (solution p) view (sym is_told ∙ e),
+        λ m. ((answered_iff source work room _ _).1 (due.too_many_states_lem long_enough p denotes m)).0,
       )
 
       pub too_many_beliefs_lem : (answer ≡ refused 10 0) ↔ ((¬ ManyStates p) × ManyBeliefs p)
       too_many_beliefs_lem = (
-        λ e. when_many_beliefs (solution p) view (sym is-told ∙ e),
-        λ m. ((answered_iff source work room _ _).1 (due.too_many_beliefs_lem long-enough p denotes m.0 m.1)).0,
+        λ e. when_many_beliefs (solution p) view (sym is_told ∙ e),
+        λ m. ((answered_iff source work room _ _).1 (due.too_many_beliefs_lem long_enough p denotes m.0 m.1)).0,
       )
 
-      module _ (few-states : ¬ ManyStates p) (few-beliefs : ¬ ManyBeliefs p) where
+      module _ (few_states : ¬ ManyStates p) (few-beliefs : ¬ ManyBeliefs p) where
         pub unrealizable : (answer ≡ refused 11 0) ↔ ((σ : Strategy p.order) → IsStrategy (game_of p) σ → ¬ Wins (game_of p) σ)
         unrealizable = (
-          λ e. when_unrealizable (solution p) view (sym is-told ∙ e),
-          λ u. ((answered_iff source work room _ _).1 (due.unrealizable long-enough p denotes (few-states, few-beliefs) u)).0,
+          λ e. when_unrealizable (solution p) view (sym is_told ∙ e),
+          λ u. ((answered_iff source work room _ _).1 (due.unrealizable long_enough p denotes (few_states, few-beliefs) u)).0,
         )
 
         pub controller : (n r : ℕ) (t : List ℕ)
             → ((answer ≡ values (n ∷ p.signals.observed ∷ order_number p.order ∷ r ∷ [])) × (cells ≡ t)) ↔ Controller p n r t
         controller n r t = (
-          λ e. when_solved (solution p) view n r t (sym is-told ∙ e.0) (sym are-cells ∙ e.1),
-          λ c. (answered_iff source work room _ _).1 (due.table long-enough p denotes (few-states, few-beliefs) n r t c),
+          λ e. when_solved (solution p) view n r t (sym is_told ∙ e.0) (sym are_cells ∙ e.1),
+          λ c. (answered_iff source work room _ _).1 (due.table long_enough p denotes (few_states, few-beliefs) n r t c),
         )
 
         pub otherwise : (¬ (answer ≡ refused 11 0))
@@ -146,29 +146,29 @@ module _ (source : List ℕ) (work room : ℕ) where
           where
             at : (s : Solution) → Solving p s → solution p ≡ s
                 → (n : ℕ) × (r : ℕ) × (answer ≡ values (n ∷ p.signals.observed ∷ order_number p.order ∷ r ∷ [])) × Controller p n r cells
-            at s (states m) e = absurd (few-states m)
+            at s (states m) e = absurd (few_states m)
             at s (beliefs g m) e = absurd (few-beliefs m)
             at s (none small u) e = absurd (f (unrealizable.1 u))
-            at s (table small n r t c one) e = (n, r, is-told ∙ ap told e, subst (Controller p n r) (sym (are-cells ∙ ap cells_of e)) c)
+            at s (table small n r t c one) e = (n, r, is_told ∙ ap told e, subst (Controller p n r) (sym (are_cells ∙ ap cells_of e)) c)
 
 -- a table that is due is the controller of a problem that the text denotes
-pub due-table : (work room : ℕ) (source : List ℕ) (n observed r : ℕ) (o : Order) (t : List ℕ)
+pub due_table : (work room : ℕ) (source : List ℕ) (n observed r : ℕ) (o : Order) (t : List ℕ)
     → SolvedAs work room source (values (n ∷ observed ∷ order_number o ∷ r ∷ [])) t
     → (p : Problem) × Denotes source p × (observed ≡ p.signals.observed) × (o ≡ p.order) × Controller p n r t
-due-table work room source n observed r o t d = at (values (n ∷ observed ∷ order_number o ∷ r ∷ [])) t d refl
+due_table work room source n observed r o t d = at (values (n ∷ observed ∷ order_number o ∷ r ∷ [])) t d refl
   where
     at : (a : Told) (t : List ℕ) → SolvedAs work room source a t → a ≡ values (n ∷ observed ∷ order_number o ∷ r ∷ [])
         → (p : Problem) × Denotes source p × (observed ≡ p.signals.observed) × (o ≡ p.order) × Controller p n r t
-    at a t (due.short_memory s) e = told-apart e
-    at a t (due.bad_source f number place x) e = told-apart e
-    at a t (due.too_many_states_lem f p d m) e = told-apart e
-    at a t (due.too_many_beliefs_lem f p d s m) e = told-apart e
-    at a t (due.unrealizable f p d small u) e = told-apart e
+    at a t (due.short_memory s) e = told_apart e
+    at a t (due.bad_source f number place x) e = told_apart e
+    at a t (due.too_many_states_lem f p d m) e = told_apart e
+    at a t (due.too_many_beliefs_lem f p d s m) e = told_apart e
+    at a t (due.unrealizable f p d small u) e = told_apart e
     at a t (due.table f p d small m q cells c) e =
         let is-n : m ≡ n = cc in
         let is-r : q ≡ r = cc in
         let is-observed : observed ≡ p.signals.observed = cc in
-        let is-o = one-order o p.order cc in
+        let is-o = one_order o p.order cc in
         (p, d, is-observed, is-o, rw (← is-n, ← is-r) c)
 
 -- what a table is good for

@@ -21,17 +21,17 @@ use Rattle.basics.specs.Reach.{closed}
 use Rattle.search.specs.ReachableSets.{same_set, next_sets, reachable_sets}
 use Rattle.states.specs.States.{start_state, next_state, state_after, states_of}
 use Rattle.basics.proofs.MemberLaws.{get_d_in}
-use Rattle.search.proofs.ReachableSetsLaws.{same_set-says}
+use Rattle.search.proofs.ReachableSetsLaws.{same_set_says}
 use Rattle.states.proofs.Acceptance.{accepts_iff_satisfies, start_state_rejects}
-use Rattle.states.proofs.NumberedSuccessors.{successor-right}
-use Rattle.obligations.proofs.LettersLaws.{letter-listed}
+use Rattle.states.proofs.NumberedSuccessors.{successor_right}
+use Rattle.obligations.proofs.LettersLaws.{letter_listed}
 use Rattle.play.specs.Game.{Game}
 use Rattle.play.specs.Belief.{Automaton, state_from}
 use Rattle.play.specs.History.{History, Possible, Hidden, letters, Knows}
 use Rattle.game.specs.Solution.{game_of, automaton_of, problem_states, beliefs_of}
 use Rattle.play.proofs.Plans.{rest}
 use Rattle.play.proofs.BeliefsKnow.{Judges, belief_knows}
-use Rattle.basics.proofs.ReachLaws.{closed-begins}
+use Rattle.basics.proofs.ReachLaws.{closed_begins}
 
 module _ (p : Problem) where
   abbrev G : Game
@@ -45,10 +45,10 @@ module _ (p : Problem) where
 
   -- what a step makes is a letter
   letter_in : (c s x : ℕ) → c < G.choices → s < G.observations → x < G.hiddens → G.letter c s x ∈ alphabet
-  letter_in c s x cb sb xb = letter-listed (counts_in p.signals) c s x cb sb xb
+  letter_in c s x cb sb xb = letter_listed (counts_in p.signals) c s x cb sb xb
 
-  pub some-hidden : 0 < G.hiddens
-  some-hidden = pow_pos p.signals.hidden
+  pub some_hidden : 0 < G.hiddens
+  some_hidden = pow_pos p.signals.hidden
 
   module _ (xs : List PatternSet) (listed : problem_states p ≡ closed xs) where
     abbrev M : Automaton
@@ -60,13 +60,13 @@ module _ (p : Problem) where
     first_state : (0 < length xs) × (at 0 ≡ start_state ps)
     unfolding states_of reachable_sets start_state
     first_state =
-        let (ys, e) = closed-begins same_set same_set-says (next_sets (operators_of ps) (back ps) alphabet) (start (operators_of ps)) state_limit xs listed in
+        let (ys, e) = closed_begins same_set same_set_says (next_sets (operators_of ps) (back ps) alphabet) (start (operators_of ps)) state_limit xs listed in
         rw e (omega arith, refl)
 
     step : (i : ℕ) → i < length xs → (c s x : ℕ) → c < G.choices → s < G.observations → x < G.hiddens
         → (M.next i (G.letter c s x) < length xs) × (at (M.next i (G.letter c s x)) ≡ next_state ps (at i) (G.letter c s x))
     step i h c s x cb sb xb =
-        successor-right ps alphabet state_limit xs listed (at i) (get_d_in xs i [] h) (G.letter c s x) (letter_in c s x cb sb xb)
+        successor_right ps alphabet state_limit xs listed (at i) (get_d_in xs i [] h) (G.letter c s x) (letter_in c s x cb sb xb)
 
     -- a number's state after letters is its state's
     steps : (h : History) → Possible G.choices G.observations h → (x : ℕ → ℕ) → Hidden G x → (i : ℕ) → i < length xs
@@ -92,9 +92,9 @@ module _ (p : Problem) where
         record {
           judges = judges;
           starts = ap accepts first_state.1 ∙ start_state_rejects ps;
-          initial-below = first_state.0;
-          next-below = λ i h c r x cb rb xb. (step i h c r x cb rb xb).0;
+          initial_below = first_state.0;
+          next_below = λ i h c r x cb rb xb. (step i h c r x cb rb xb).0;
         }
 
-    pub beliefs-know : Knows G (beliefs_of p xs)
-    beliefs-know = belief_knows G M some-hidden states_judge
+    pub beliefs_know : Knows G (beliefs_of p xs)
+    beliefs_know = belief_knows G M some_hidden states_judge

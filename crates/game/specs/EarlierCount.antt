@@ -1,4 +1,4 @@
--- What was answered while beliefs behind a final one counted too. It is here to be compared with (`answers-kept` in `proofs/Main`); no code
+-- What was answered while beliefs behind a final one counted too. It is here to be compared with (`answers_kept` in `proofs/Main`); no code
 -- follows it.
 -- Assumes nothing.
 use Rattle.std.specs.Prelude.{ℕ, suc, cond, List, []}

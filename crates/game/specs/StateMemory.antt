@@ -19,11 +19,11 @@ sets_from (refused r) work = work
 
 -- choices and observations of at most four signals each, and letters of at most nine
 pub record Widths (choices observations hiddens : ℕ) : Type 0 where
-  pub some-choice : 0 < choices
-  pub few-choices : choices ≤ side_limit
-  pub some-observation : 0 < observations
-  pub few-observations : observations ≤ side_limit
-  pub few-letters : hiddens * (choices * observations) ≤ letter_limit
+  pub some_choice : 0 < choices
+  pub few_choices : choices ≤ side_limit
+  pub some_observation : 0 < observations
+  pub few_observations : observations ≤ side_limit
+  pub few_letters : hiddens * (choices * observations) ≤ letter_limit
 
 -- n states, each with its row of successors, letters going by their numbers
 abbrev pub automaton_in : (sets successors : List ℕ) → ℕ → Automaton

@@ -18,12 +18,12 @@ use Rattle.syntax.specs.Cells.{cell, one_sided, two_sided}
 use Rattle.grammar.specs.Parse.{Res, none, some, bind, close, Reader, parse, grow, atom}
 use Rattle.grammar.specs.PlanParse.{reader, parse_formula}
 use Rattle.grammar.specs.Answer.{answer, Reads, Room, cells_after}
-use Rattle.grammar.proofs.ParseCases.{on_true, on_false, bind-some, bind-none}
+use Rattle.grammar.proofs.ParseCases.{on_true, on_false, bind_some, bind_none}
 use Rattle.syntax.proofs.LexLaws.{tok_high, tok_real}
-use Rattle.syntax.proofs.TreeLaws.{stored-pre, stored-bin}
+use Rattle.syntax.proofs.TreeLaws.{stored_pre, stored_bin}
 use Rattle.grammar.proofs.ReadsInside.{Laws}
-use Rattle.grammar.proofs.ParseLaws.{parse-bin, parse-atom, parse-pre, parse-inside}
-use Rattle.grammar.proofs.ParseLaws.{grow-stop, grow-left, grow-right, atom-leaf, atom-other, atom-group}
+use Rattle.grammar.proofs.ParseLaws.{parse_bin, parse_atom, parse_pre, parse_inside}
+use Rattle.grammar.proofs.ParseLaws.{grow_stop, grow_left, grow_right, atom_leaf, atom_other, atom_group}
 
 -- a phrase that was read
 pub record Got (v : Token → ℕ) (res : Res) (n : ℕ) (p q : List ℕ) (next count : ℕ) : Type 0 where
@@ -32,28 +32,28 @@ pub record Got (v : Token → ℕ) (res : Res) (n : ℕ) (p q : List ℕ) (next 
   pub counted : count ≡ n + size tree
   pub parts : q ≡ sets p n (cells v tree)
 
-bad-at : {C : Type 0} (r : Read) (next count : ℕ) → r ≡ Bad → r ≡ At next count → C
-bad-at r next count e f = let z : ◌≡◌ {A = ℕ} 0 1 = cc in absurd (omega arith)
+bad_at : {C : Type 0} (r : Read) (next count : ℕ) → r ≡ Bad → r ≡ At next count → C
+bad_at r next count e f = let z : ◌≡◌ {A = ℕ} 0 1 = cc in absurd (omega arith)
 
 pub got : {v : Token → ℕ} (res : Res) {n : ℕ} {p q : List ℕ} {x : Read} {next count : ℕ} → Reads v res n p q x → x ≡ At next count
     → Got v res n p q next count
-got none {x = x} {next = next} {count = count} rd e = bad-at x next count rd.is e
+got none {x = x} {next = next} {count = count} rd e = bad_at x next count rd.is e
 got (some a m) {n = n} {x = x} {next = next} {count = count} rd e =
     let i = rd.is in
     let f : m ≡ next = cc in
     let g : count ≡ n + size a = cc in
     record { tree = a; is = ap (λ y. some a y) f; counted = g; parts = rd.left }
 
-pub got-none : {v : Token → ℕ} (res : Res) {n : ℕ} {p q : List ℕ} {x : Read} → Reads v res n p q x → x ≡ Bad → res ≡ none
-got-none none rd e = refl
-got-none (some a m) {n = n} {x = x} rd e = bad-at x m (n + size a) e rd.is
+pub got_none : {v : Token → ℕ} (res : Res) {n : ℕ} {p q : List ℕ} {x : Read} → Reads v res n p q x → x ≡ Bad → res ≡ none
+got_none none rd e = refl
+got_none (some a m) {n = n} {x = x} rd e = bad_at x m (n + size a) e rd.is
 
 pub reads_none : {v : Token → ℕ} (res : Res) {n : ℕ} {p q : List ℕ} → res ≡ none → Reads v res n p q Bad
 reads_none {v} res {n} {p} {q} e = subst (λ x. Reads v x n p q Bad) (sym e) (record { is = refl; left = tt })
 
-pub reads-some : {v : Token → ℕ} (res : Res) {n : ℕ} {p q : List ℕ} (a : Tree) {next count : ℕ} → res ≡ some a next → count ≡ n + size a
+pub reads_some : {v : Token → ℕ} (res : Res) {n : ℕ} {p q : List ℕ} (a : Tree) {next count : ℕ} → res ≡ some a next → count ≡ n + size a
     → q ≡ sets p n (cells v a) → Reads v res n p q (At next count)
-reads-some {v} res {n} {p} {q} a {next} {count} e f g =
+reads_some {v} res {n} {p} {q} a {next} {count} e f g =
     subst (λ x. Reads v x n p q (At next count)) (sym e) (record { is = ap (λ c. At next c) f; left = g })
 
 -- there is room further on too, with c cells before it
@@ -80,7 +80,7 @@ module _ {f : ℕ → ℕ} {R : Reader} (L : Laws f R) where
         → Reads v (parse R text l at) n p q x → x ≡ At next count → Span f text at n next count
     span l at {next = next} h rd e =
         let g = got (parse R text l at) rd e in
-        let i = parse-inside L text at h l g.tree next g.is in
+        let i = parse_inside L text at h l g.tree next g.is in
         let c = g.counted in
         record { grew = omega arith; onward = i.later; wide = omega (arith, i.low); high = i.high }
 
@@ -107,7 +107,7 @@ module _ {f : ℕ → ℕ} {R : Reader} (L : Laws f R) where
       hr = omega (arith, lr, hl)
 
       opened : parse R text l at ≡ bind (parse R text r at) (λ a next. grow R text r a next)
-      opened = ap (λ x. parse R text x at) lr ∙ parse-bin L text at h r hr
+      opened = ap (λ x. parse R text x at) lr ∙ parse_bin L text at h r hr
 
       pub begin : {v : Token → ℕ} {n : ℕ} {p q : List ℕ} {x : Read} {next count : ℕ} → Reads v (parse R text r at) n p q x
           → x ≡ At next count → Growing v l r at n p next count q
@@ -115,15 +115,15 @@ module _ {f : ℕ → ℕ} {R : Reader} (L : Laws f R) where
           let g = got (parse R text r at) rd e in
           record {
             tree = g.tree;
-            parsed = opened ∙ bind-some _ _ g.tree next g.is;
+            parsed = opened ∙ bind_some _ _ g.tree next g.is;
             counted = g.counted;
             parts = g.parts;
-            high = (parse-inside L text at h r g.tree next g.is).high;
+            high = (parse_inside L text at h r g.tree next g.is).high;
           }
 
-      pub first-bad : {v : Token → ℕ} {n : ℕ} {p q : List ℕ} {x : Read} → Reads v (parse R text r at) n p q x → x ≡ Bad
+      pub first_bad : {v : Token → ℕ} {n : ℕ} {p q : List ℕ} {x : Read} → Reads v (parse R text r at) n p q x → x ≡ Bad
           → Reads v (parse R text l at) n p q Bad
-      first-bad rd e = reads_none (parse R text l at) (opened ∙ bind-none _ _ (got-none (parse R text r at) rd e))
+      first_bad rd e = reads_none (parse R text l at) (opened ∙ bind_none _ _ (got_none (parse R text r at) rd e))
 
       module _ {v : Token → ℕ} {n : ℕ} {p q : List ℕ} {to c : ℕ} (g : Growing v l r at n p to c q) (tok : Token)
           (it : tok ≡ token_at text to) where
@@ -133,7 +133,7 @@ module _ {f : ℕ → ℕ} {R : Reader} (L : Laws f R) where
         -- no operator follows
         pub stopped : R.grammar.is_op l tok.kind ≡ false → Reads v (parse R text l at) n p q (At to c)
         stopped o =
-            reads-some (parse R text l at) g.tree (g.parsed ∙ grow-stop L text to g.high r hr g.tree (op o))
+            reads_some (parse R text l at) g.tree (g.parsed ∙ grow_stop L text to g.high r hr g.tree (op o))
             g.counted g.parts
 
         -- an operator follows, and its right operand is of the level below or of the same
@@ -149,14 +149,14 @@ module _ {f : ℕ → ℕ} {R : Reader} (L : Laws f R) where
           operand : (k : ℕ) {res : Res} → right ≡ k → parse R text right tok.next ≡ res → parse R text k (token_at text to).next ≡ res
           operand k i e = ap (λ (x : Token). parse R text k x.next) (sym it) ∙ ap (λ j. parse R text j tok.next) (sym i) ∙ e
 
-          pub next-bad : {q₂ : List ℕ} {x : Read} → Reads v (parse R text right tok.next) c q q₂ x → x ≡ Bad
+          pub next_bad : {q₂ : List ℕ} {x : Read} → Reads v (parse R text right tok.next) c q q₂ x → x ≡ Bad
               → Reads v (parse R text l at) n p q₂ Bad
-          next-bad rd e =
-              let z = got-none (parse R text right tok.next) rd e in
+          next_bad rd e =
+              let z = got_none (parse R text right tok.next) rd e in
               reads_none (parse R text l at)
               (g.parsed ∙ side
-              (λ f i. grow-left L text to g.high r hr g.tree (op o) f ∙ bind-none _ _ (operand r i z))
-              (λ f i. grow-right L text to g.high r hr g.tree (op o) f ∙ bind-none _ _ (operand (suc r) i z)))
+              (λ f i. grow_left L text to g.high r hr g.tree (op o) f ∙ bind_none _ _ (operand r i z))
+              (λ f i. grow_right L text to g.high r hr g.tree (op o) f ∙ bind_none _ _ (operand (suc r) i z)))
 
           module _ {q₂ q₃ : List ℕ} {x : Read} {next count : ℕ} (rd : Reads v (parse R text right tok.next) c q q₂ x)
               (e : x ≡ At next count) (s : q₃ ≡ set q₂ count (cell tok.kind (two_sided (count - c)))) where
@@ -168,7 +168,7 @@ module _ {f : ℕ → ℕ} {R : Reader} (L : Laws f R) where
                 let a = g.counted in
                 let d = g.parts in
                 let f = b.parts in
-                let w = stored-bin v tok g.tree b.tree p n in
+                let w = stored_bin v tok g.tree b.tree p n in
                 let x : count - c ≡ size b.tree = omega (arith, b.counted) in
                 let y : count ≡ n + size g.tree + size b.tree = omega (arith, b.counted, a) in
                 cc
@@ -182,94 +182,94 @@ module _ {f : ℕ → ℕ} {R : Reader} (L : Laws f R) where
                 record {
                   tree = bin tok g.tree b.tree;
                   parsed = g.parsed ∙ side
-                      (λ f i. grow-left L text to g.high r hr g.tree (op o) f ∙ bind-some _ _ b.tree next (operand r i b.is)
+                      (λ f i. grow_left L text to g.high r hr g.tree (op o) f ∙ bind_some _ _ b.tree next (operand r i b.is)
                       ∙ ap (λ y. grow R text r (bin y g.tree b.tree) next) (sym it))
                       (λ _ i. absurd (f (i ∙ sym lr)));
                   counted = counts;
                   parts = wrote;
-                  high = (parse-inside L text tok.next (tok_high text to g.high tok it) right b.tree next b.is).high;
+                  high = (parse_inside L text tok.next (tok_high text to g.high tok it) right b.tree next b.is).high;
                 }
 
-            pub next-done : right ≡ l → Reads v (parse R text l at) n p q₃ (At next (count + 1))
-            next-done f =
-                reads-some (parse R text l at) (bin tok g.tree b.tree)
+            pub next_done : right ≡ l → Reads v (parse R text l at) n p q₃ (At next (count + 1))
+            next_done f =
+                reads_some (parse R text l at) (bin tok g.tree b.tree)
                 (g.parsed ∙ side
                 (λ _ i. absurd (omega (arith, i, f, lr)))
-                (λ f i. grow-right L text to g.high r hr g.tree (op o) f ∙ bind-some _ _ b.tree next (operand (suc r) i b.is)
+                (λ f i. grow_right L text to g.high r hr g.tree (op o) f ∙ bind_some _ _ b.tree next (operand (suc r) i b.is)
                 ∙ ap (λ y. some (bin y g.tree b.tree) next) (sym it)))
                 counts wrote
 
     module _ (at : ℕ) (h : at ≤ length text) (tok : Token) (it : tok ≡ token_at text at) where
-      to-test : (p : ℕ → Bool) {b : Bool} → p tok.kind ≡ b → p (token_at text at).kind ≡ b
-      to-test p o = ap (λ (x : Token). p x.kind) (sym it) ∙ o
+      to_test : (p : ℕ → Bool) {b : Bool} → p tok.kind ≡ b → p (token_at text at).kind ≡ b
+      to_test p o = ap (λ (x : Token). p x.kind) (sym it) ∙ o
 
       pub pass : {v : Token → ℕ} {n : ℕ} {p q : List ℕ} {x : Read} → R.grammar.is_pre tok.kind ≡ false
           → Reads v (atom R text at) n p q x → Reads v (parse R text 0 at) n p q x
-      pass {v} {n} {p} {q} {x} o rd = subst (λ y. Reads v y n p q x) (sym (parse-atom L text at h (to-test R.grammar.is_pre o))) rd
+      pass {v} {n} {p} {q} {x} o rd = subst (λ y. Reads v y n p q x) (sym (parse_atom L text at h (to_test R.grammar.is_pre o))) rd
 
       module _ (o : R.grammar.is_pre tok.kind ≡ true) where
-        pub pre-bad : {v : Token → ℕ} {n : ℕ} {p q : List ℕ} {x : Read} → Reads v (parse R text 0 tok.next) n p q x → x ≡ Bad
+        pub pre_bad : {v : Token → ℕ} {n : ℕ} {p q : List ℕ} {x : Read} → Reads v (parse R text 0 tok.next) n p q x → x ≡ Bad
             → Reads v (parse R text 0 at) n p q Bad
-        pre-bad rd e =
+        pre_bad rd e =
             reads_none (parse R text 0 at)
-            (parse-pre L text at h (to-test R.grammar.is_pre o) ∙ bind-none _ _
-            (ap (λ (x : Token). parse R text 0 x.next) (sym it) ∙ got-none (parse R text 0 tok.next) rd e))
+            (parse_pre L text at h (to_test R.grammar.is_pre o) ∙ bind_none _ _
+            (ap (λ (x : Token). parse R text 0 x.next) (sym it) ∙ got_none (parse R text 0 tok.next) rd e))
 
-        pub pre-done : {v : Token → ℕ} {n : ℕ} {p q q₂ : List ℕ} {x : Read} {next count : ℕ} → Reads v (parse R text 0 tok.next) n p q x
+        pub pre_done : {v : Token → ℕ} {n : ℕ} {p q q₂ : List ℕ} {x : Read} {next count : ℕ} → Reads v (parse R text 0 tok.next) n p q x
             → x ≡ At next count → q₂ ≡ set q count (cell tok.kind one_sided) → Reads v (parse R text 0 at) n p q₂ (At next (count + 1))
         unfolding size
-        pre-done {v} {n = n} {p = p} {q = q} {q₂ = q₂} {next = next} {count = count} rd e s =
+        pre_done {v} {n = n} {p = p} {q = q} {q₂ = q₂} {next = next} {count = count} rd e s =
             let b = got (parse R text 0 tok.next) rd e in
             let a = b.counted in
             let d = b.parts in
-            let w = stored-pre v tok b.tree p n in
-            reads-some (parse R text 0 at) (pre tok b.tree)
-            (parse-pre L text at h (to-test R.grammar.is_pre o)
-            ∙ bind-some _ _ b.tree next (ap (λ (x : Token). parse R text 0 x.next) (sym it) ∙ b.is)
+            let w = stored_pre v tok b.tree p n in
+            reads_some (parse R text 0 at) (pre tok b.tree)
+            (parse_pre L text at h (to_test R.grammar.is_pre o)
+            ∙ bind_some _ _ b.tree next (ap (λ (x : Token). parse R text 0 x.next) (sym it) ∙ b.is)
             ∙ ap (λ x. some (pre x b.tree) next) (sym it))
             (omega arith) (cc)
 
-      pub leaf-done : {v : Token → ℕ} {n x : ℕ} {p q : List ℕ} → R.grammar.is_leaf tok.kind ≡ true → x ≡ v tok
+      pub leaf_done : {v : Token → ℕ} {n x : ℕ} {p q : List ℕ} → R.grammar.is_leaf tok.kind ≡ true → x ≡ v tok
           → q ≡ set p n (cell tok.kind (x % 256)) → Reads v (atom R text at) n p q (At tok.next (n + 1))
       unfolding cells size
-      leaf-done {n = n} {p = p} o w s =
-          reads-some (atom R text at) (leaf tok)
-          (atom-leaf L text at h (to-test R.grammar.is_leaf o) ∙ ap (λ (x : Token). some (leaf x) x.next) (sym it)) refl
+      leaf_done {n = n} {p = p} o w s =
+          reads_some (atom R text at) (leaf tok)
+          (atom_leaf L text at h (to_test R.grammar.is_leaf o) ∙ ap (λ (x : Token). some (leaf x) x.next) (sym it)) refl
           (s ∙ ap (λ y. set p n (cell tok.kind (y % 256))) w)
 
       module _ (o : R.grammar.is_leaf tok.kind ≡ false) where
         -- an atom that another reader reads
-        pub other-done : {v : Token → ℕ} {n : ℕ} {p q : List ℕ} {x : Read} → (tok.kind ≡ open_kind → ⊥) → Reads v (R.other text at) n p q x
+        pub other_done : {v : Token → ℕ} {n : ℕ} {p q : List ℕ} {x : Read} → (tok.kind ≡ open_kind → ⊥) → Reads v (R.other text at) n p q x
             → Reads v (atom R text at) n p q x
-        other-done {v} {n} {p} {q} {x} f rd =
+        other_done {v} {n} {p} {q} {x} f rd =
             subst (λ y. Reads v y n p q x)
-            (sym (atom-other L text at h (to-test R.grammar.is_leaf o) (λ e. f (ap (λ (x : Token). x.kind) it ∙ e)))) rd
+            (sym (atom_other L text at h (to_test R.grammar.is_leaf o) (λ e. f (ap (λ (x : Token). x.kind) it ∙ e)))) rd
 
         module _ (k : tok.kind ≡ open_kind) where
           group : atom R text at ≡ bind (parse R text R.grammar.top tok.next) (close text)
-          group = atom-group L text at h (to-test R.grammar.is_leaf o) (ap (λ (x : Token). x.kind) (sym it) ∙ k)
+          group = atom_group L text at h (to_test R.grammar.is_leaf o) (ap (λ (x : Token). x.kind) (sym it) ∙ k)
               ∙ ap (λ (x : Token). bind (parse R text R.grammar.top x.next) (close text)) (sym it)
 
-          pub group-bad : {v : Token → ℕ} {n : ℕ} {p q : List ℕ} {x : Read} → Reads v (parse R text R.grammar.top tok.next) n p q x
+          pub group_bad : {v : Token → ℕ} {n : ℕ} {p q : List ℕ} {x : Read} → Reads v (parse R text R.grammar.top tok.next) n p q x
               → x ≡ Bad → Reads v (atom R text at) n p q Bad
-          group-bad rd e = reads_none (atom R text at) (group ∙ bind-none _ _ (got-none (parse R text R.grammar.top tok.next) rd e))
+          group_bad rd e = reads_none (atom R text at) (group ∙ bind_none _ _ (got_none (parse R text R.grammar.top tok.next) rd e))
 
           module _ {v : Token → ℕ} {n : ℕ} {p q : List ℕ} {x : Read} {next count : ℕ}
               (rd : Reads v (parse R text R.grammar.top tok.next) n p q x) (e : x ≡ At next count)
               (end : Token) (et : end ≡ token_at text next) where
-            pub close-bad : (end.kind ≡ close_kind → ⊥) → Reads v (atom R text at) n p q Bad
+            pub close_bad : (end.kind ≡ close_kind → ⊥) → Reads v (atom R text at) n p q Bad
             unfolding close
-            close-bad f =
+            close_bad f =
                 let b = got (parse R text R.grammar.top tok.next) rd e in
                 reads_none (atom R text at)
-                (group ∙ bind-some _ _ b.tree next b.is ∙ on_false _ _ _ (ne_eqb _ _ (λ y. f (ap (λ (x : Token). x.kind) et ∙ y))))
+                (group ∙ bind_some _ _ b.tree next b.is ∙ on_false _ _ _ (ne_eqb _ _ (λ y. f (ap (λ (x : Token). x.kind) et ∙ y))))
 
-            pub close-done : end.kind ≡ close_kind → Reads v (atom R text at) n p q (At end.next count)
+            pub close_done : end.kind ≡ close_kind → Reads v (atom R text at) n p q (At end.next count)
             unfolding close
-            close-done y =
+            close_done y =
                 let b = got (parse R text R.grammar.top tok.next) rd e in
-                reads-some (atom R text at) b.tree
-                (group ∙ bind-some _ _ b.tree next b.is ∙ on_true _ _ _ (eq-eqb _ _ (ap (λ (x : Token). x.kind) (sym et) ∙ y))
+                reads_some (atom R text at) b.tree
+                (group ∙ bind_some _ _ b.tree next b.is ∙ on_true _ _ _ (eq-eqb _ _ (ap (λ (x : Token). x.kind) (sym et) ∙ y))
                 ∙ ap (λ (x : Token). some b.tree x.next) (sym et))
                 b.counted b.parts
 
@@ -290,9 +290,9 @@ pub at_zero : (R : Reader) {v : Token → ℕ} (text : List ℕ) (at : ℕ) {l n
     → Reads v (parse R text 0 at) n p q x → Reads v (parse R text l at) n p q x
 at_zero R {v} text at {l} {n} {p} {q} {x} e rd = subst (λ k. Reads v (parse R text k at) n p q x) (sym e) rd
 
-pub right-most : (b : Bool) (l right : ℕ) → right ≡ cond b (l - 1) l → right ≤ l
-right-most true l right e = omega arith
-right-most false l right e = omega arith
+pub right_most : (b : Bool) (l right : ℕ) → right ≡ cond b (l - 1) l → right ≤ l
+right_most true l right e = omega arith
+right_most false l right e = omega arith
 
 -- the whole text
 module _ (text : List ℕ) where
@@ -304,7 +304,7 @@ module _ (text : List ℕ) where
   pub formula_bad : {v : Token → ℕ} {p q q₂ : List ℕ} {x : Read} → Reads v (parse (reader true) text 4 0) 0 p q x → x ≡ Bad
       → length q ≡ length p → q₂ ≡ replicate (length q) 0 → (Bad ≡ answer (parse_formula text) 0) × (q₂ ≡ cells_after v (parse_formula text) p)
   unfolding parse_formula
-  formula_bad {v} {p} {q} rd e l z = no_formula v p q (bind-none _ _ (got-none (parse (reader true) text 4 0) rd e)) l z
+  formula_bad {v} {p} {q} rd e l z = no_formula v p q (bind_none _ _ (got_none (parse (reader true) text 4 0) rd e)) l z
 
   module _ {v : Token → ℕ} {p q : List ℕ} {x : Read} {next count : ℕ} (rd : Reads v (parse (reader true) text 4 0) 0 p q x)
       (e : x ≡ At next count) (tok : Token) (it : tok ≡ token_at text next) where
@@ -314,12 +314,12 @@ module _ (text : List ℕ) where
     formula_more f l z =
         let g = got (parse (reader true) text 4 0) rd e in
         no_formula v p q
-        (bind-some _ _ g.tree next g.is ∙ on_false _ _ _ (ne_eqb _ _ (λ y. f (ap (λ (x : Token). x.kind) it ∙ y)))) l z
+        (bind_some _ _ g.tree next g.is ∙ on_false _ _ _ (ne_eqb _ _ (λ y. f (ap (λ (x : Token). x.kind) it ∙ y)))) l z
 
     pub formula_done : tok.kind ≡ end_kind → (At next count ≡ answer (parse_formula text) 0) × (q ≡ cells_after v (parse_formula text) p)
     unfolding parse_formula
     formula_done z =
         let g = got (parse (reader true) text 4 0) rd e in
         subst (λ x. (At next count ≡ answer x 0) × (q ≡ cells_after v x p))
-        (sym (bind-some _ _ g.tree next g.is ∙ on_true _ _ _ (eq-eqb _ _ (ap (λ (x : Token). x.kind) (sym it) ∙ z))))
+        (sym (bind_some _ _ g.tree next g.is ∙ on_true _ _ _ (eq-eqb _ _ (ap (λ (x : Token). x.kind) (sym it) ∙ z))))
         (ap (λ c. At next c) g.counted, g.parts)

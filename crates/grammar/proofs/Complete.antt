@@ -10,16 +10,16 @@ use lib.ListN.{length}
 use Rattle.syntax.specs.declared.lex.Token.{Token}
 use Rattle.syntax.specs.Lex.{token_at, tokens}
 use Rattle.syntax.specs.Tree.{Tree, leaf, pre, bin}
-use Rattle.grammar.specs.Grammar.{Derives, tighter, to-left, to-right, prefixed, plain, grouped, other}
+use Rattle.grammar.specs.Grammar.{Derives, tighter, to_left, to_right, prefixed, plain, grouped, other}
 use Rattle.grammar.specs.Parse.{Res, some, close, Reader, parse, grow}
 use Rattle.basics.proofs.Booleans.{or_left, or_right}
-use Rattle.grammar.proofs.ParseCases.{false_true, on_true, bind-some}
+use Rattle.grammar.proofs.ParseCases.{false_true, on_true, bind_some}
 use Rattle.syntax.proofs.LexLaws.{ends}
 use Rattle.grammar.proofs.ReadsInside.{Laws}
 use Rattle.grammar.proofs.GrammarLaws.{Exact, goes_on}
-use Rattle.grammar.proofs.ParseLaws.{parse-bin, parse-atom, parse-pre}
-use Rattle.grammar.proofs.ParseLaws.{grow-stop, grow-left, grow-right, atom-leaf, atom-other, atom-group}
-use Rattle.syntax.proofs.Spelt.{first, first_token, head_is, tail-is}
+use Rattle.grammar.proofs.ParseLaws.{parse_bin, parse_atom, parse_pre}
+use Rattle.grammar.proofs.ParseLaws.{grow_stop, grow_left, grow_right, atom_leaf, atom_other, atom_group}
+use Rattle.syntax.proofs.Spelt.{first, first_token, head_is, tail_is}
 
 module _ {f : ℕ → ℕ} {R : Reader} (L : Laws f R) (X : Exact R) where
   module _ (text : List ℕ) where
@@ -45,7 +45,7 @@ module _ {f : ℕ → ℕ} {R : Reader} (L : Laws f R) (X : Exact R) where
           next = g.next;
           inside = g.inside;
           after = g.after;
-          found = g.grown ∙ grow-stop L text g.next g.inside r hr a
+          found = g.grown ∙ grow_stop L text g.next g.inside r hr a
               (ap (R.grammar.is_op (suc r)) (sym (first_token text g.next g.inside) ∙ ap first g.after) ∙ o);
         }
 
@@ -57,19 +57,19 @@ module _ {f : ℕ → ℕ} {R : Reader} (L : Laws f R) (X : Exact R) where
           next = f.next;
           inside = f.inside;
           after = f.after;
-          grown = parse-bin L text at h r hr ∙ bind-some _ _ a f.next f.found;
+          grown = parse_bin L text at h r hr ∙ bind_some _ _ a f.next f.found;
         }
 
     module _ (r : ℕ) (res : Res) (a b : Tree) (t : Token) (us rest : List Token) (hr : suc r ≤ R.grammar.top)
         (o : R.grammar.is_op (suc r) t.kind ≡ true) (g : Grown res r a (t ∷ us ++ rest)) where
-      op-here : token_at text g.next ≡ t
-      op-here = head_is text g.next g.inside t (us ++ rest) g.after
+      op_here : token_at text g.next ≡ t
+      op_here = head_is text g.next g.inside t (us ++ rest) g.after
 
-      op-is : R.grammar.is_op (suc r) (token_at text g.next).kind ≡ true
-      op-is = ap (λ (x : Token). R.grammar.is_op (suc r) x.kind) op-here ∙ o
+      op_is : R.grammar.is_op (suc r) (token_at text g.next).kind ≡ true
+      op_is = ap (λ (x : Token). R.grammar.is_op (suc r) x.kind) op_here ∙ o
 
-      op-tail : tokens text (token_at text g.next).next ≡ us ++ rest
-      op-tail = tail-is text g.next g.inside t (us ++ rest) g.after
+      op_tail : tokens text (token_at text g.next).next ≡ us ++ rest
+      op_tail = tail_is text g.next g.inside t (us ++ rest) g.after
 
       op_in : (token_at text g.next).next ≤ length text
       op_in = (ends text g.next g.inside).high
@@ -81,8 +81,8 @@ module _ {f : ℕ → ℕ} {R : Reader} (L : Laws f R) (X : Exact R) where
             next = f.next;
             inside = f.inside;
             after = f.after;
-            grown = g.grown ∙ grow-left L text g.next g.inside r hr a op-is l ∙ bind-some _ _ b f.next f.found
-                ∙ ap (λ x. grow R text r (bin x a b) f.next) op-here;
+            grown = g.grown ∙ grow_left L text g.next g.inside r hr a op_is l ∙ bind_some _ _ b f.next f.found
+                ∙ ap (λ x. grow R text r (bin x a b) f.next) op_here;
           }
 
       join_right : R.grammar.leftward (suc r) ≡ false → Found (parse R text (suc r) (token_at text g.next).next) b rest
@@ -92,8 +92,8 @@ module _ {f : ℕ → ℕ} {R : Reader} (L : Laws f R) (X : Exact R) where
             next = f.next;
             inside = f.inside;
             after = f.after;
-            found = g.grown ∙ grow-right L text g.next g.inside r hr a op-is l ∙ bind-some _ _ b f.next f.found
-                ∙ ap (λ x. some (bin x a b) f.next) op-here;
+            found = g.grown ∙ grow_right L text g.next g.inside r hr a op_is l ∙ bind_some _ _ b f.next f.found
+                ∙ ap (λ x. some (bin x a b) f.next) op_here;
           }
 
     -- what is shown of a phrase, by induction on how it is derived: read by itself, and, at a level that groups to the left, before
@@ -126,18 +126,18 @@ module _ {f : ℕ → ℕ} {R : Reader} (L : Laws f R) (X : Exact R) where
               (begin r at a rest h (omega arith) (i.0 at rest h (omega arith) e (below r rest s))),
           λ at rest h hr l e s. begin r at a rest h hr (i.0 at rest h (omega arith) e s),
         )
-    done (to-left {r = r} {ts = ts} {us = us} {a = a} {b = b} t l o d d') =
+    done (to_left {r = r} {ts = ts} {us = us} {a = a} {b = b} t l o d d') =
         let i = done d in
         let j = done d' in
         let both : Left (suc r) (ts ++ t ∷ us) (bin t a b) =
         (λ at rest h hr l' e s.
         let g = i.1 at (t ∷ us ++ rest) h hr l (e ∙ append_assoc ts (t ∷ us) rest) (X.apart r t.kind o) in
         join_left r _ a b t us rest hr o g l
-        (j.0 _ rest (op_in r _ a b t us rest hr o g) (omega arith) (op-tail r _ a b t us rest hr o g) s)) in (
+        (j.0 _ rest (op_in r _ a b t us rest hr o g) (omega arith) (op_tail r _ a b t us rest hr o g) s)) in (
           λ at rest h hl e s. stop r _ (bin t a b) rest (omega arith) (no_op r rest s) (both at rest h (omega arith) l e (below r rest s)),
           both,
         )
-    done (to-right {r = r} {ts = ts} {us = us} {a = a} {b = b} t l o d d') =
+    done (to_right {r = r} {ts = ts} {us = us} {a = a} {b = b} t l o d d') =
         let i = done d in
         let j = done d' in (
           λ at rest h hl e s.
@@ -145,19 +145,19 @@ module _ {f : ℕ → ℕ} {R : Reader} (L : Laws f R) (X : Exact R) where
               let g = begin r at a (t ∷ us ++ rest) h hr
               (i.0 at (t ∷ us ++ rest) h (omega arith) (e ∙ append_assoc ts (t ∷ us) rest) (X.apart r t.kind o)) in
               join_right r _ a b t us rest hr o g l
-              (j.0 _ rest (op_in r _ a b t us rest hr o g) hl (op-tail r _ a b t us rest hr o g) s),
+              (j.0 _ rest (op_in r _ a b t us rest hr o g) hl (op_tail r _ a b t us rest hr o g) s),
           λ at rest h hr l' e s. false_true (sym l ∙ l'),
         )
     done (prefixed {us = us} {a = a} t p d) =
         let i = done d in (
           λ at rest h hl e s.
               let q = head_is text at h t (us ++ rest) e in
-              let f = i.0 (token_at text at).next rest (ends text at h).high hl (tail-is text at h t (us ++ rest) e) s in
+              let f = i.0 (token_at text at).next rest (ends text at h).high hl (tail_is text at h t (us ++ rest) e) s in
               record {
                 next = f.next;
                 inside = f.inside;
                 after = f.after;
-                found = parse-pre L text at h (ap (λ (x : Token). R.grammar.is_pre x.kind) q ∙ p) ∙ bind-some _ _ a f.next f.found
+                found = parse_pre L text at h (ap (λ (x : Token). R.grammar.is_pre x.kind) q ∙ p) ∙ bind_some _ _ a f.next f.found
                     ∙ ap (λ x. some (pre x a) f.next) q;
               },
           tt,
@@ -169,8 +169,8 @@ module _ {f : ℕ → ℕ} {R : Reader} (L : Laws f R) (X : Exact R) where
           record {
             next = (token_at text at).next;
             inside = (ends text at h).high;
-            after = tail-is text at h t rest e;
-            found = parse-atom L text at h (X.leaf-pre (token_at text at).kind k) ∙ atom-leaf L text at h k
+            after = tail_is text at h t rest e;
+            found = parse_atom L text at h (X.leaf_pre (token_at text at).kind k) ∙ atom_leaf L text at h k
                 ∙ ap (λ x. some (leaf x) (token_at text at).next) q;
           },
       tt,
@@ -182,25 +182,25 @@ module _ {f : ℕ → ℕ} {R : Reader} (L : Laws f R) (X : Exact R) where
               let q = head_is text at h t (us ++ c ∷ rest) e' in
               let k = ap (λ (x : Token). x.kind) q ∙ o in
               let f = i.0 (token_at text at).next (c ∷ rest) (ends text at h).high (le_refl R.grammar.top)
-              (tail-is text at h t (us ++ c ∷ rest) e') (rw z X.close-op) in
+              (tail_is text at h t (us ++ c ∷ rest) e') (rw z X.close_op) in
               let y = head_is text f.next f.inside c rest f.after in
               record {
                 next = (token_at text f.next).next;
                 inside = (ends text f.next f.inside).high;
-                after = tail-is text f.next f.inside c rest f.after;
-                found = parse-atom L text at h (rw k X.open_pre) ∙ atom-group L text at h (rw k X.open_leaf) k
-                    ∙ bind-some _ _ a f.next f.found ∙ on_true _ _ _ (eq-eqb _ _ (ap (λ (x : Token). x.kind) y ∙ z));
+                after = tail_is text f.next f.inside c rest f.after;
+                found = parse_atom L text at h (rw k X.open_pre) ∙ atom_group L text at h (rw k X.open_leaf) k
+                    ∙ bind_some _ _ a f.next f.found ∙ on_true _ _ _ (eq-eqb _ _ (ap (λ (x : Token). x.kind) y ∙ z));
               },
           tt,
         )
     done (other {us = us} {a = a} w) = (
       λ at rest h hl e s.
-          let f = X.other-found w text at rest h e in
+          let f = X.other_found w text at rest h e in
           record {
             next = f.next;
             inside = f.inside;
             after = f.after;
-            found = parse-atom L text at h f.not_pre ∙ atom-other L text at h f.not_leaf f.not_open ∙ f.found;
+            found = parse_atom L text at h f.not_pre ∙ atom_other L text at h f.not_leaf f.not_open ∙ f.found;
           },
       tt,
     )

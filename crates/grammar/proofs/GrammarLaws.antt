@@ -18,7 +18,7 @@ use Rattle.syntax.specs.Tree.{Tree}
 use Rattle.grammar.specs.Grammar.{Grammar, is_op, is_pre, is_leaf, formulas}
 use Rattle.grammar.specs.Parse.{some, Reader}
 use Rattle.grammar.specs.PlanParse.{propositions}
-use Rattle.grammar.proofs.ParseCases.{none-some, false_true}
+use Rattle.grammar.proofs.ParseCases.{none_some, false_true}
 use Rattle.grammar.proofs.ReadsInside.{Laws}
 
 -- that a token of kind k goes on a phrase of level l
@@ -38,14 +38,14 @@ pub record OtherFound (R : Reader) (text : List ℕ) (at : ℕ) (a : Tree) (rest
 
 pub record Exact (R : Reader) : Type 0 where
   pub apart : (r k : ℕ) → R.grammar.is_op (suc r) k ≡ true → goes_on R.grammar r k ≡ false
-  pub close-op : goes_on R.grammar R.grammar.top close_kind ≡ false
-  pub end-op : goes_on R.grammar R.grammar.top end_kind ≡ false
-  pub leaf-pre : (k : ℕ) → R.grammar.is_leaf k ≡ true → R.grammar.is_pre k ≡ false
+  pub close_op : goes_on R.grammar R.grammar.top close_kind ≡ false
+  pub end_op : goes_on R.grammar R.grammar.top end_kind ≡ false
+  pub leaf_pre : (k : ℕ) → R.grammar.is_leaf k ≡ true → R.grammar.is_pre k ≡ false
   pub open_pre : R.grammar.is_pre open_kind ≡ false
   pub open_leaf : R.grammar.is_leaf open_kind ≡ false
-  pub other-sound : (text : List ℕ) (at : ℕ) (a : Tree) (next : ℕ) → at ≤ length text → R.other text at ≡ some a next
+  pub other_sound : (text : List ℕ) (at : ℕ) (a : Tree) (next : ℕ) → at ≤ length text → R.other text at ≡ some a next
       → (us : List Token) × (R.grammar.Other us a) × (tokens text at ≡ us ++ tokens text next)
-  pub other-found : {us : List Token} {a : Tree} → R.grammar.Other us a → (text : List ℕ) (at : ℕ) (rest : List Token) → at ≤ length text
+  pub other_found : {us : List Token} {a : Tree} → R.grammar.Other us a → (text : List ℕ) (at : ℕ) (rest : List Token) → at ≤ length text
       → tokens text at ≡ us ++ rest → OtherFound R text at a rest
 
 -- ---- the kinds in the table of formulas, one by one
@@ -90,9 +90,9 @@ leaf_cases P n t f k e =
 
 -- ---- no token of the table stands in two places
 
-pub op-apart : (m : Bool) (r k : ℕ) → is_op m (suc r) k ≡ true → goes_on (formulas m) r k ≡ false
+pub op_apart : (m : Bool) (r k : ℕ) → is_op m (suc r) k ≡ true → goes_on (formulas m) r k ≡ false
 unfolding goes_on is_op
-op-apart m r k o =
+op_apart m r k o =
     let e : suc r - 1 ≡ r = omega arith in
     subst (λ x. goes_on (formulas m) x k ≡ false) e (go m o)
   where
@@ -107,24 +107,24 @@ unfolding goes_on is_op
 kind_stops true = (refl, refl, refl)
 kind_stops false = (refl, refl, refl)
 
-pub op-end : (m : Bool) (l : ℕ) → is_op m l end_kind ≡ false
+pub op_end : (m : Bool) (l : ℕ) → is_op m l end_kind ≡ false
 unfolding is_op
-op-end true l = refl
-op-end false l = refl
+op_end true l = refl
+op_end false l = refl
 
-pub pre-end : (m : Bool) → is_pre m end_kind ≡ false
+pub pre_end : (m : Bool) → is_pre m end_kind ≡ false
 unfolding is_pre
-pre-end true = refl
-pre-end false = refl
+pre_end true = refl
+pre_end false = refl
 
-pub leaf-end : is_leaf end_kind ≡ false
+pub leaf_end : is_leaf end_kind ≡ false
 unfolding is_leaf
-leaf-end = refl
+leaf_end = refl
 
-pub leaf-pre : (m : Bool) (k : ℕ) → is_leaf k ≡ true → is_pre m k ≡ false
+pub leaf_pre : (m : Bool) (k : ℕ) → is_leaf k ≡ true → is_pre m k ≡ false
 unfolding is_pre
-leaf-pre true = leaf_cases (λ k. is_pre true k ≡ false) refl refl refl
-leaf-pre false = leaf_cases (λ k. is_pre false k ≡ false) refl refl refl
+leaf_pre true = leaf_cases (λ k. is_pre true k ≡ false) refl refl refl
+leaf_pre false = leaf_cases (λ k. is_pre false k ≡ false) refl refl refl
 
 pub open_pre : (m : Bool) → is_pre m open_kind ≡ false
 unfolding is_pre
@@ -141,22 +141,22 @@ pub propositions_laws : Laws (λ x. x) propositions
 propositions_laws =
     record {
       few = omega arith;
-      op-end = op-end false;
-      pre-end = pre-end false;
-      leaf-end = leaf-end;
+      op_end = op_end false;
+      pre_end = pre_end false;
+      leaf_end = leaf_end;
       steps = λ x y h. h;
-      other_in = λ text at a next h e. none-some a next e;
+      other_in = λ text at a next h e. none_some a next e;
     }
 
-pub propositions-exact : Exact propositions
-propositions-exact =
+pub propositions_exact : Exact propositions
+propositions_exact =
     record {
-      apart = op-apart false;
-      close-op = (kind_stops false).1;
-      end-op = (kind_stops false).0;
-      leaf-pre = leaf-pre false;
+      apart = op_apart false;
+      close_op = (kind_stops false).1;
+      end_op = (kind_stops false).0;
+      leaf_pre = leaf_pre false;
       open_pre = open_pre false;
       open_leaf = open_leaf;
-      other-sound = λ text at a next h e. none-some a next e;
-      other-found = λ w. absurd w;
+      other_sound = λ text at a next h e. none_some a next e;
+      other_found = λ w. absurd w;
     }

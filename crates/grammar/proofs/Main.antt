@@ -22,11 +22,11 @@ use Rattle.grammar.proofs.ReadIffDerived
 
 -- the tokens from a place on: none at the end, and otherwise the first and those behind it
 module _ (text : List ℕ) (at : ℕ) (inside : at ≤ length text) where
-  pub tokens-end : (token_at text at).kind ≡ end_kind → tokens text at ≡ []
-  tokens-end = Spelt.tokens-end text at inside
+  pub tokens_end : (token_at text at).kind ≡ end_kind → tokens text at ≡ []
+  tokens_end = Spelt.tokens_end text at inside
 
-  pub tokens-more : ¬ ((token_at text at).kind ≡ end_kind) → tokens text at ≡ token_at text at ∷ tokens text (token_at text at).next
-  tokens-more = Spelt.tokens-more text at inside
+  pub tokens_more : ¬ ((token_at text at).kind ≡ end_kind) → tokens text at ≡ token_at text at ∷ tokens text (token_at text at).next
+  tokens_more = Spelt.tokens_more text at inside
 
 -- a word is a name exactly where it is not reserved
 pub names : (w : List ℕ) → eqb (word_kind w) name_kind ≡ not (is_reserved w)
@@ -49,4 +49,4 @@ module _ (text : List ℕ) where
 
   -- no text has two trees
   pub unambiguous : (a b : Tree) → Derived text a → Derived text b → a ≡ b
-  unambiguous = ReadIffDerived.one-reading text
+  unambiguous = ReadIffDerived.one_reading text

@@ -10,8 +10,8 @@ use Rattle.grammar.specs.Parse.{Res, none, some, bind, on}
 abbrev pub is_kind : ℕ → ℕ → Bool
 is_kind c k = eqb k c
 
-pub none-some : {C : Type 0} (a : Tree) (m : ℕ) → none ≡ some a m → C
-none-some a m e = let z : ◌≡◌ {A = ℕ} 0 1 = cc in absurd (omega arith)
+pub none_some : {C : Type 0} (a : Tree) (m : ℕ) → none ≡ some a m → C
+none_some a m e = let z : ◌≡◌ {A = ℕ} 0 1 = cc in absurd (omega arith)
 
 pub false_true : {C : Type 0} → false ≡ true → C
 false_true e = let z : ◌≡◌ {A = ℕ} 0 1 = cc in absurd (omega arith)
@@ -25,7 +25,7 @@ on_elim false f g r e yes₁ no₁ = no₁ refl e
 pub bind_elim : {C : Type 0} (x : Res) (f : Tree → ℕ → Res) (a : Tree) (next : ℕ) → bind x f ≡ some a next
     → ((b : Tree) (m : ℕ) → x ≡ some b m → f b m ≡ some a next → C) → C
 unfolding bind
-bind_elim none f a next e go = none-some a next e
+bind_elim none f a next e go = none_some a next e
 bind_elim (some b m) f a next e go = go b m refl e
 
 -- two readers that agree
@@ -47,10 +47,10 @@ pub on_false : (b : Bool) (f g : Unit {0} → Res) → b ≡ false → on b f g 
 unfolding on
 on_false b f g e = rw e
 
-pub bind-some : (x : Res) (f : Tree → ℕ → Res) (b : Tree) (m : ℕ) → x ≡ some b m → bind x f ≡ f b m
+pub bind_some : (x : Res) (f : Tree → ℕ → Res) (b : Tree) (m : ℕ) → x ≡ some b m → bind x f ≡ f b m
 unfolding bind
-bind-some x f b m e = rw e
+bind_some x f b m e = rw e
 
-pub bind-none : (x : Res) (f : Tree → ℕ → Res) → x ≡ none → bind x f ≡ none
+pub bind_none : (x : Res) (f : Tree → ℕ → Res) → x ≡ none → bind x f ≡ none
 unfolding bind
-bind-none x f e = rw e
+bind_none x f e = rw e

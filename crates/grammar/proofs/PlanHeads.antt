@@ -14,7 +14,7 @@ use Rattle.syntax.specs.Kinds.{end_kind, open_kind, comma_kind, once_kind, befor
 use Rattle.syntax.specs.Lex.{token_at, tokens}
 use Rattle.syntax.specs.Plans.{InRange, steps_limit, last_limit}
 use Rattle.syntax.proofs.LexLaws.{ends}
-use Rattle.syntax.proofs.Spelt.{tokens-test, head_is, tail-is}
+use Rattle.syntax.proofs.Spelt.{tokens_test, head_is, tail_is}
 use Rattle.grammar.specs.declared.heads.Number.{Number}
 use Rattle.grammar.specs.declared.heads.Number.TheVariants as number
 use Rattle.grammar.specs.declared.heads.Head.{Head}
@@ -48,8 +48,8 @@ module _ (text : List ℕ) where
       let t = ends text at h in
       let u = ends text (token_at text at).next t.high in
       record {
-        spells = tokens-test text at h p pe pk
-            ∙ ap (λ ts. token_at text at ∷ ts) (tokens-test text (token_at text at).next t.high q qe qk);
+        spells = tokens_test text at h p pe pk
+            ∙ ap (λ ts. token_at text at ∷ ts) (tokens_test text (token_at text at).next t.high q qe qk);
         later = omega (arith, t.real p pe pk, u.real q qe qk);
         high = u.high;
       }
@@ -105,9 +105,9 @@ module _ (text : List ℕ) where
         let t = opened c z k in
         record { hs = pair at []; begins = b; numbered = n; spells = t.spells; later = t.later; high = t.high }
 
-    within-read : K ≡ within_kind → (n : Number) → NumberRead (behind at) n → HeadRead at (within_head n)
-    within-read k number.Bad r = tt
-    within-read k (number.At steps next) r =
+    within_read : K ≡ within_kind → (n : Number) → NumberRead (behind at) n → HeadRead at (within_head n)
+    within_read k number.Bad r = tt
+    within_read k (number.At steps next) r =
         let t = opened within_kind refl k in
         cond_elim (HeadRead at) (leb steps steps_limit) _ _
         (λ l. record {
@@ -120,10 +120,10 @@ module _ (text : List ℕ) where
         })
         (λ _. tt)
 
-    during-read : K ≡ during_kind → (first next : ℕ) → Numeral (behind at) first next → (n : Number) → NumberRead next n
+    during_read : K ≡ during_kind → (first next : ℕ) → Numeral (behind at) first next → (n : Number) → NumberRead next n
         → HeadRead at (during_head first n)
-    during-read k first next r number.Bad s = tt
-    during-read k first next r (number.At last end) s =
+    during_read k first next r number.Bad s = tt
+    during_read k first next r (number.At last end) s =
         let t = opened during_kind refl k in
         cond_elim (HeadRead at) (leb 1 first && (leb first last && leb last last_limit)) _ _
         (λ l. let m = and_right (leb 1 first) _ l in
@@ -138,9 +138,9 @@ module _ (text : List ℕ) where
         })
         (λ _. tt)
 
-    during-from : K ≡ during_kind → (n : Number) → NumberRead (behind at) n → HeadRead at (during_from text n)
-    during-from k number.Bad r = tt
-    during-from k (number.At first next) r = during-read k first next r (number_at text next) (number_read next r.both.high)
+    during_from_lem : K ≡ during_kind → (n : Number) → NumberRead (behind at) n → HeadRead at (during_from text n)
+    during_from_lem k number.Bad r = tt
+    during_from_lem k (number.At first next) r = during_read k first next r (number_at text next) (number_read next r.both.high)
 
     head_of_lem : HeadRead at (head_of K text (behind at))
     unfolding head_of
@@ -149,8 +149,8 @@ module _ (text : List ℕ) where
         cond_elim P (eqb K once_kind) _ _ (λ e. short once_kind refl (eqb-true _ _ e) (once _ _ (eqb-true _ _ e) o) tt) (λ _.
         cond_elim P (eqb K before_kind) _ _ (λ e. short before_kind refl (eqb-true _ _ e) (before _ _ (eqb-true _ _ e) o) tt) (λ _.
         cond_elim P (eqb K after_kind) _ _ (λ e. short after_kind refl (eqb-true _ _ e) (after _ _ (eqb-true _ _ e) o) tt) (λ _.
-        cond_elim P (eqb K within_kind) _ _ (λ e. within-read (eqb-true _ _ e) (number_at text (behind at)) number) (λ _.
-        cond_elim P (eqb K during_kind) _ _ (λ e. during-from (eqb-true _ _ e) (number_at text (behind at)) number) (λ _. tt)))))
+        cond_elim P (eqb K within_kind) _ _ (λ e. within_read (eqb-true _ _ e) (number_at text (behind at)) number) (λ _.
+        cond_elim P (eqb K during_kind) _ _ (λ e. during_from_lem (eqb-true _ _ e) (number_at text (behind at)) number) (λ _. tt)))))
       where
         number : NumberRead (behind at) (number_at text (behind at))
         number = number_read (behind at) (ends text (token_at text at).next (ends text at h).high).high
@@ -181,12 +181,12 @@ module _ (text : List ℕ) where
   written : (at : ℕ) → at ≤ length text → (t u : Token) (rest : List Token) → tokens text at ≡ t ∷ u ∷ rest → Written at t u rest
   written at h t u rest e =
       let i = (ends text at h).high in
-      let tail = tail-is text at h t (u ∷ rest) e in
+      let tail = tail_is text at h t (u ∷ rest) e in
       record {
         one = head_is text at h t (u ∷ rest) e;
         two = head_is text (token_at text at).next i u rest tail;
         inside = (ends text (token_at text at).next i).high;
-        after = tail-is text (token_at text at).next i u rest tail;
+        after = tail_is text (token_at text at).next i u rest tail;
       }
 
   -- a head that is found, with what comes after it
@@ -199,9 +199,9 @@ module _ (text : List ℕ) where
 
   module _ {at : ℕ} {t u : Token} {rest : List Token} (p : Written at t u rest) where
     -- a number
-    number-found : (v : ℕ) → v ≤ 9 → t.kind ≡ digit_kind v → u.kind ≡ comma_kind → number_at text at ≡ number.At v (behind text at)
+    number_found : (v : ℕ) → v ≤ 9 → t.kind ≡ digit_kind v → u.kind ≡ comma_kind → number_at text at ≡ number.At v (behind text at)
     unfolding number_at
-    number-found v few d i =
+    number_found v few d i =
         let k : (token_at text at).kind ≡ digit_kind v = ap (λ (x : Token). x.kind) p.one ∙ d in
         let c : (second_of text at).kind ≡ comma_kind = ap (λ (x : Token). x.kind) p.two ∙ i in
         let g = and_true (le-leb (digit_kind 0) (token_at text at).kind (omega arith))
@@ -211,10 +211,10 @@ module _ (text : List ℕ) where
         ∙ ap (λ n. number.At n (behind text at)) z
 
     -- a word of kind c and its `(`, and then what is read of its numbers
-    word-found : (c : ℕ) → Foreign c → t.kind ≡ c → u.kind ≡ open_kind → {w : PlanWord} {first : ℕ} {ts : List Token}
+    word_found : (c : ℕ) → Foreign c → t.kind ≡ c → u.kind ≡ open_kind → {w : PlanWord} {first : ℕ} {ts : List Token}
         → head_of c text (behind text at) ≡ head.At w first → first ≤ length text → tokens text first ≡ ts → HeadFound at w ts
     unfolding head_at
-    word-found c f k o {first = first} e i a =
+    word_found c f k o {first = first} e i a =
         let r : (token_at text at).kind ≡ c = ap (λ (x : Token). x.kind) p.one ∙ k in
         let q : (second_of text at).kind ≡ open_kind = ap (λ (x : Token). x.kind) p.two ∙ o in
         record { first = first; found = rw (eq-eqb _ _ q, r) e; inside = i; after = a; own = subst Foreign (sym r) f }
@@ -224,24 +224,24 @@ module _ (text : List ℕ) where
   unfolding head_of is_pre is_leaf
   head_found (once t u k o) n at rest h e =
       let p = written at h t u rest e in
-      word-found p once_kind (foreign once_kind refl refl refl) k o refl p.inside p.after
+      word_found p once_kind (foreign once_kind refl refl refl) k o refl p.inside p.after
   head_found (before t u k o) n at rest h e =
       let p = written at h t u rest e in
-      word-found p before_kind (foreign before_kind refl refl refl) k o refl p.inside p.after
+      word_found p before_kind (foreign before_kind refl refl refl) k o refl p.inside p.after
   head_found (after t u k o) n at rest h e =
       let p = written at h t u rest e in
-      word-found p after_kind (foreign after_kind refl refl refl) k o refl p.inside p.after
+      word_found p after_kind (foreign after_kind refl refl refl) k o refl p.inside p.after
   head_found (within t u d i steps k o dk ik) n at rest h e =
       let p = written at h t u (d ∷ i ∷ rest) e in
       let q = written _ p.inside d i rest p.after in
-      word-found p within_kind (foreign within_kind refl refl refl) k o
-      (ap within_head (number-found q steps (omega arith) dk ik) ∙ rw (le-leb steps steps_limit n)) q.inside q.after
+      word_found p within_kind (foreign within_kind refl refl refl) k o
+      (ap within_head (number_found q steps (omega arith) dk ik) ∙ rw (le-leb steps steps_limit n)) q.inside q.after
   head_found (during t u d i d₂ i₂ first last k o dk ik dk₂ ik₂) (low, mid, high) at rest h e =
       let p = written at h t u (d ∷ i ∷ d₂ ∷ i₂ ∷ rest) e in
       let q = written _ p.inside d i (d₂ ∷ i₂ ∷ rest) p.after in
       let r = written _ q.inside d₂ i₂ rest q.after in
-      word-found p during_kind (foreign during_kind refl refl refl) k o
-      (ap (during_from text) (number-found q first (omega arith) dk ik)
-      ∙ ap (during_head first) (number-found r last (omega arith) dk₂ ik₂)
+      word_found p during_kind (foreign during_kind refl refl refl) k o
+      (ap (during_from text) (number_found q first (omega arith) dk ik)
+      ∙ ap (during_head first) (number_found r last (omega arith) dk₂ ik₂)
       ∙ rw (le-leb 1 first low, le-leb first last mid, le-leb last last_limit high))
       r.inside r.after

@@ -19,20 +19,20 @@ use Rattle.syntax.specs.Lex.{token_at, tokens}
 use Rattle.syntax.specs.Plans.{InRange, plan_size}
 use Rattle.syntax.specs.Tree.{Tree, plan, size}
 use Rattle.syntax.proofs.LexLaws.{ends}
-use Rattle.syntax.proofs.Spelt.{first, tokens-test, head_is, tail-is}
+use Rattle.syntax.proofs.Spelt.{first, tokens_test, head_is, tail_is}
 use Rattle.grammar.specs.declared.heads.Head.{Head}
 use Rattle.grammar.specs.declared.heads.Head.TheVariants as head
 use Rattle.grammar.specs.declared.heads.Place.{Place}
 use Rattle.grammar.specs.declared.heads.Place.TheVariants as place
-use Rattle.grammar.specs.Grammar.{propositional, Derives, takes_two, Plan, over-one, over-two}
+use Rattle.grammar.specs.Grammar.{propositional, Derives, takes_two, Plan, over_one, over_two}
 use Rattle.grammar.specs.Parse.{some, close, parse}
 use Rattle.grammar.specs.PlanParse.{head_at, second_at, propositions, plan_second, plan_from, plan_at, others_at, reader}
-use Rattle.grammar.proofs.ParseCases.{is_kind, none-some, on_elim, bind_elim, on_true, bind-some}
-use Rattle.grammar.proofs.ReadsInside.{In, Laws, in_to, some_one, some-two}
-use Rattle.grammar.proofs.ParseLaws.{parse-inside}
-use Rattle.grammar.proofs.GrammarLaws.{goes_on, OtherFound, Exact, propositions_laws, propositions-exact}
-use Rattle.grammar.proofs.GrammarLaws.{op-apart, kind_stops, op-end, pre-end, leaf-end, leaf-pre, open_pre, open_leaf}
-use Rattle.grammar.proofs.Sound.{parse-sound}
+use Rattle.grammar.proofs.ParseCases.{is_kind, none_some, on_elim, bind_elim, on_true, bind_some}
+use Rattle.grammar.proofs.ReadsInside.{In, Laws, in_to, some_one, some_two}
+use Rattle.grammar.proofs.ParseLaws.{parse_inside}
+use Rattle.grammar.proofs.GrammarLaws.{goes_on, OtherFound, Exact, propositions_laws, propositions_exact}
+use Rattle.grammar.proofs.GrammarLaws.{op_apart, kind_stops, op_end, pre_end, leaf_end, leaf_pre, open_pre, open_leaf}
+use Rattle.grammar.proofs.Sound.{parse_sound}
 use Rattle.grammar.proofs.Complete.{Found, complete}
 use Rattle.grammar.proofs.PlanHeads.{Headed, HeadRead, head_read, HeadFound, head_found}
 
@@ -40,25 +40,25 @@ use Rattle.grammar.proofs.PlanHeads.{Headed, HeadRead, head_read, HeadFound, hea
 
 -- by the numbers that may stand in a word
 module _ (s t : ℕ) where
-  two-few : (w : PlanWord) → InRange w → takes_two w ≡ true → plan_size w s t ≤ 13 + s + 6 * t
+  two_few : (w : PlanWord) → InRange w → takes_two w ≡ true → plan_size w s t ≤ 13 + s + 6 * t
   unfolding plan_size
-  two-few Once n e = clash e refl
-  two-few Before n e = omega arith
-  two-few After n e = omega arith
-  two-few (Within steps) n e = let few = mul-le-mul_right {m = steps + 1} {n = 6} t (omega arith) in omega (arith, few, n)
-  two-few (During a b) n e = clash e refl
+  two_few Once n e = clash e refl
+  two_few Before n e = omega arith
+  two_few After n e = omega arith
+  two_few (Within steps) n e = let few = mul-le-mul_right {m = steps + 1} {n = 6} t (omega arith) in omega (arith, few, n)
+  two_few (During a b) n e = clash e refl
 
-  one-few : (w : PlanWord) → InRange w → takes_two w ≡ false → plan_size w s t ≤ 12 + 7 * s
+  one_few : (w : PlanWord) → InRange w → takes_two w ≡ false → plan_size w s t ≤ 12 + 7 * s
   unfolding plan_size
-  one-few Once n e = omega arith
-  one-few Before n e = clash refl e
-  one-few After n e = clash refl e
-  one-few (Within steps) n e = clash refl e
-  one-few (During a b) (l, m, h) e = let few = mul-le-mul_right {m = b - a + 1} {n = 7} s (omega arith) in omega (arith, few)
+  one_few Once n e = omega arith
+  one_few Before n e = clash refl e
+  one_few After n e = clash refl e
+  one_few (Within steps) n e = clash refl e
+  one_few (During a b) (l, m, h) e = let few = mul-le-mul_right {m = b - a + 1} {n = 7} s (omega arith) in omega (arith, few)
 
-  pub plan-few : (w : PlanWord) → InRange w → plan_size w s t ≤ 13 + 7 * s + 6 * t
-  plan-few w n =
-      elim (test (takes_two w)) [ inl e ↦ (let m = two-few w n e in omega arith) | inr e ↦ (let m = one-few w n e in omega arith) ]
+  pub plan_few : (w : PlanWord) → InRange w → plan_size w s t ≤ 13 + 7 * s + 6 * t
+  plan_few w n =
+      elim (test (takes_two w)) [ inl e ↦ (let m = two_few w n e in omega arith) | inr e ↦ (let m = one_few w n e in omega arith) ]
 
 -- ---- a word that was read, taken apart
 
@@ -103,22 +103,22 @@ module _ (text : List ℕ) (at : ℕ) (h : at ≤ length text) where
     second_is : second_at w text start q ≡ place.At s
     b : Tree
     e : ℕ
-    second-read : parse propositions text 4 s ≡ some b e
+    second_read : parse propositions text 4 s ≡ some b e
     closed : (token_at text e).kind ≡ close_kind
     is : some (plan w a b) (token_at text e).next ≡ some x next
 
-  plan-read : (x : Tree) (next : ℕ) → plan_at text at ≡ some x next → PlanRead x next
+  plan_read : (x : Tree) (next : ℕ) → plan_at text at ≡ some x next → PlanRead x next
   unfolding plan_at close
-  plan-read x next eq = go (head_at text at) (head_read text at h) eq
+  plan_read x next eq = go (head_at text at) (head_read text at h) eq
     where
       go : (hd : Head) → HeadRead text at hd → plan_from text hd ≡ some x next → PlanRead x next
-      go head.Bad r eq = none-some x next eq
+      go head.Bad r eq = none_some x next eq
       go (head.At w start) r eq =
           bind_elim _ _ _ _ eq (λ a q ea e₁. second w start r a q ea (second_at w text start q) refl e₁)
         where
           second : (w : PlanWord) (start : ℕ) → Headed text at w start → (a : Tree) (q : ℕ) → parse propositions text 4 start ≡ some a q
               → (p : Place) → second_at w text start q ≡ p → plan_second w text a p ≡ some x next → PlanRead x next
-          second w start r a q ea place.Bad z eq = none-some x next eq
+          second w start r a q ea place.Bad z eq = none_some x next eq
           second w start r a q ea (place.At s) z eq =
               bind_elim _ _ _ _ eq (λ b e eb e₂.
               on_elim _ _ _ _ e₂ (λ k e₃. record {
@@ -132,62 +132,62 @@ module _ (text : List ℕ) (at : ℕ) (h : at ≤ length text) where
                 second_is = z;
                 b = b;
                 e = e;
-                second-read = eb;
+                second_read = eb;
                 closed = eqb-true _ _ k;
                 is = e₃;
               })
-              (λ _ e₃. none-some x next e₃))
+              (λ _ e₃. none_some x next e₃))
 
   module _ {x : Tree} {next : ℕ} (r : PlanRead x next) where
     inside₁ : In (λ y. y) text r.start r.a r.q
-    inside₁ = parse-inside propositions_laws text r.start r.headed.high 4 r.a r.q r.first_read
+    inside₁ = parse_inside propositions_laws text r.start r.headed.high 4 r.a r.q r.first_read
 
-    second-high : r.s ≤ length text
-    second-high = (second_in text r.w r.start r.q r.s r.second_is r.headed.high inside₁).1
+    second_high : r.s ≤ length text
+    second_high = (second_in text r.w r.start r.q r.s r.second_is r.headed.high inside₁).1
 
     inside₂ : In (λ y. y) text r.s r.b r.e
-    inside₂ = parse-inside propositions_laws text r.s second-high 4 r.b r.e r.second-read
+    inside₂ = parse_inside propositions_laws text r.s second_high 4 r.b r.e r.second_read
 
     -- a word over one operand reads it twice
     same_read : r.s ≡ r.start → some r.a r.q ≡ some r.b r.e
-    same_read e = sym r.first_read ∙ ap (parse propositions text 4) (sym e) ∙ r.second-read
+    same_read e = sym r.first_read ∙ ap (parse propositions text 4) (sym e) ∙ r.second_read
 
-    plan-inside : In eight text at (plan r.w r.a r.b) (token_at text r.e).next
+    plan_inside : In eight text at (plan r.w r.a r.b) (token_at text r.e).next
     unfolding size
-    plan-inside =
+    plan_inside =
         let u = ends text r.e inside₂.high in
         let v = u.real (is_kind close_kind) refl (eq-eqb _ _ r.closed) in
         let i = inside₁ in
         let j = inside₂ in
         let hd = r.headed in
         second_cases text r.w r.start r.q r.s r.second_is
-        (λ t c e. let m = two-few (size r.a) (size r.b) r.w hd.numbered t in
+        (λ t c e. let m = two_few (size r.a) (size r.b) r.w hd.numbered t in
         let l = (ends text r.q i.high).real (is_kind comma_kind) refl (eq-eqb _ _ c) in
         record {
           low = omega (arith, m, l, v, e, hd.later, i.low, j.low);
           later = omega (arith, l, v, e, hd.later, i.later, j.later);
           high = u.high;
         })
-        (λ t e. let m = one-few (size r.a) (size r.b) r.w hd.numbered t in
-        let q = some-two r.a r.b r.q r.e (same_read e) in
+        (λ t e. let m = one_few (size r.a) (size r.b) r.w hd.numbered t in
+        let q = some_two r.a r.b r.q r.e (same_read e) in
         record { low = omega (arith, m, v, q, hd.later, i.low); later = omega (arith, v, q, hd.later, i.later); high = u.high })
 
-    plan-derives : (us : List Token) × Plan us (plan r.w r.a r.b)
+    plan_derives : (us : List Token) × Plan us (plan r.w r.a r.b)
         × (tokens text at ≡ us ++ tokens text (token_at text r.e).next)
     unfolding parse
-    plan-derives =
+    plan_derives =
         let hd = r.headed in
-        let p = parse-sound propositions_laws propositions-exact text _ 4 r.start r.a r.q hd.high r.first_read in
-        let last = tokens-test text r.e inside₂.high (is_kind close_kind) refl (eq-eqb _ _ r.closed) in
+        let p = parse_sound propositions_laws propositions_exact text _ 4 r.start r.a r.q hd.high r.first_read in
+        let last = tokens_test text r.e inside₂.high (is_kind close_kind) refl (eq-eqb _ _ r.closed) in
         let C = token_at text r.e in
         let end = tokens text C.next in
         second_cases text r.w r.start r.q r.s r.second_is
         (λ t c e.
         let I = token_at text r.q in
-        let p₂ = parse-sound propositions_laws propositions-exact text _ 4 r.s r.b r.e second-high r.second-read in
-        let mid = tokens-test text r.q inside₁.high (is_kind comma_kind) refl (eq-eqb _ _ c) in (
+        let p₂ = parse_sound propositions_laws propositions_exact text _ 4 r.s r.b r.e second_high r.second_read in
+        let mid = tokens_test text r.q inside₁.high (is_kind comma_kind) refl (eq-eqb _ _ c) in (
           hd.hs ++ (p.us ++ (I ∷ (p₂.us ++ (C ∷ [])))),
-          over-two I C hd.begins hd.numbered t p.derives c p₂.derives r.closed,
+          over_two I C hd.begins hd.numbered t p.derives c p₂.derives r.closed,
           hd.spells
               ∙ ap (λ ts. hd.hs ++ ts) (p.spells ∙ ap (λ ts. p.us ++ ts) (mid ∙ ap (λ k. I ∷ tokens text k) (sym e)
               ∙ ap (λ ts. I ∷ ts) (p₂.spells ∙ ap (λ ts. p₂.us ++ ts) last ∙ sym (append_assoc p₂.us (C ∷ []) end)))
@@ -196,10 +196,10 @@ module _ (text : List ℕ) (at : ℕ) (h : at ≤ length text) where
         ))
         (λ t e.
         let f = same_read e in
-        let q = some-two r.a r.b r.q r.e f in (
+        let q = some_two r.a r.b r.q r.e f in (
           hd.hs ++ (p.us ++ (C ∷ [])),
           subst (λ y. Plan (hd.hs ++ (p.us ++ (C ∷ []))) (plan r.w r.a y)) (some_one r.a r.b r.q r.e f)
-              (over-one C hd.begins hd.numbered t p.derives r.closed),
+              (over_one C hd.begins hd.numbered t p.derives r.closed),
           hd.spells
               ∙ ap (λ ts. hd.hs ++ ts) (p.spells ∙ ap (λ k. p.us ++ tokens text k) q ∙ ap (λ ts. p.us ++ ts) last
               ∙ sym (append_assoc p.us (C ∷ []) end))
@@ -208,16 +208,16 @@ module _ (text : List ℕ) (at : ℕ) (h : at ≤ length text) where
 
   plan_in : (x : Tree) (next : ℕ) → plan_at text at ≡ some x next → In eight text at x next
   plan_in x next e =
-      let r = plan-read x next e in
-      in_to text at (plan r.w r.a r.b) x (token_at text r.e).next next r.is (plan-inside r)
+      let r = plan_read x next e in
+      in_to text at (plan r.w r.a r.b) x (token_at text r.e).next next r.is (plan_inside r)
 
-  plan-sound : (x : Tree) (next : ℕ) → plan_at text at ≡ some x next
+  plan_sound : (x : Tree) (next : ℕ) → plan_at text at ≡ some x next
       → (us : List Token) × Plan us x × (tokens text at ≡ us ++ tokens text next)
-  plan-sound x next e =
-      let r = plan-read x next e in
+  plan_sound x next e =
+      let r = plan_read x next e in
       subst₂ (λ y k. (us : List Token) × Plan us y × (tokens text at ≡ us ++ tokens text k))
       (some_one (plan r.w r.a r.b) x (token_at text r.e).next next r.is)
-      (some-two (plan r.w r.a r.b) x (token_at text r.e).next next r.is) (plan-derives r)
+      (some_two (plan r.w r.a r.b) x (token_at text r.e).next next r.is) (plan_derives r)
 
 -- ---- a word that is derived is read
 
@@ -225,56 +225,56 @@ module _ (text : List ℕ) where
   -- an operand, with a token behind it that does not go on it
   operand : {us : List Token} {a : Tree} → Derives propositional 4 us a → (at : ℕ) (t : Token) (rest : List Token) → at ≤ length text
       → goes_on propositional 4 t.kind ≡ false → tokens text at ≡ us ++ (t ∷ rest)
-      → Found propositions_laws propositions-exact text (parse propositions text 4 at) a (t ∷ rest)
+      → Found propositions_laws propositions_exact text (parse propositions text 4 at) a (t ∷ rest)
   unfolding first
-  operand d at t rest h o e = complete propositions_laws propositions-exact text d at (t ∷ rest) h (omega arith) e o
+  operand d at t rest h o e = complete propositions_laws propositions_exact text d at (t ∷ rest) h (omega arith) e o
 
   stops : (t : Token) (c : ℕ) → goes_on propositional 4 c ≡ false → t.kind ≡ c → goes_on propositional 4 t.kind ≡ false
   stops t c o k = ap (goes_on propositional 4) k ∙ o
 
-  second-two : (w : PlanWord) (start q : ℕ) → takes_two w ≡ true → (token_at text q).kind ≡ comma_kind
+  second_two : (w : PlanWord) (start q : ℕ) → takes_two w ≡ true → (token_at text q).kind ≡ comma_kind
       → second_at w text start q ≡ place.At (token_at text q).next
   unfolding second_at
-  second-two w start q t c = rw (t, eq-eqb _ _ c)
+  second_two w start q t c = rw (t, eq-eqb _ _ c)
 
-  second-one : (w : PlanWord) (start q : ℕ) → takes_two w ≡ false → second_at w text start q ≡ place.At start
+  second_one : (w : PlanWord) (start q : ℕ) → takes_two w ≡ false → second_at w text start q ≡ place.At start
   unfolding second_at
-  second-one w start q t = rw t
+  second_one w start q t = rw t
 
   -- a word from its head, its operands and its `)`
-  word-found : {at : ℕ} {w : PlanWord} {ts rest : List Token} (hd : HeadFound text at w ts) {a b : Tree} {q s e : ℕ} (c : Token)
+  word_found : {at : ℕ} {w : PlanWord} {ts rest : List Token} (hd : HeadFound text at w ts) {a b : Tree} {q s e : ℕ} (c : Token)
       → parse propositions text 4 hd.first ≡ some a q → second_at w text hd.first q ≡ place.At s
       → parse propositions text 4 s ≡ some b e → e ≤ length text → tokens text e ≡ c ∷ rest → c.kind ≡ close_kind
       → OtherFound (reader true) text at (plan w a b) rest
   unfolding plan_at close
-  word-found {w = w} {rest = rest} hd {a} {b} {q} {s} {e} c first_read second_is second-read h z ck =
+  word_found {w = w} {rest = rest} hd {a} {b} {q} {s} {e} c first_read second_is second_read h z ck =
       record {
         next = (token_at text e).next;
-        found = ap (plan_from text) hd.found ∙ bind-some _ _ a q first_read ∙ ap (plan_second w text a) second_is
-            ∙ bind-some _ _ b e second-read ∙ on_true _ _ _ (eq-eqb _ _ (ap (λ (y : Token). y.kind) (head_is text e h c rest z) ∙ ck));
+        found = ap (plan_from text) hd.found ∙ bind_some _ _ a q first_read ∙ ap (plan_second w text a) second_is
+            ∙ bind_some _ _ b e second_read ∙ on_true _ _ _ (eq-eqb _ _ (ap (λ (y : Token). y.kind) (head_is text e h c rest z) ∙ ck));
         inside = (ends text e h).high;
-        after = tail-is text e h c rest z;
+        after = tail_is text e h c rest z;
         not_pre = hd.own.not_pre;
         not_leaf = hd.own.not_leaf;
         not_open = hd.own.not_open;
       }
 
-  plan-found : {us : List Token} {x : Tree} → Plan us x → (at : ℕ) (rest : List Token) → at ≤ length text → tokens text at ≡ us ++ rest
+  plan_found : {us : List Token} {x : Tree} → Plan us x → (at : ℕ) (rest : List Token) → at ≤ length text → tokens text at ≡ us ++ rest
       → OtherFound (reader true) text at x rest
-  plan-found (over-one {w = w} {hs = hs} {us = us} c b n t d ck) at rest h e =
+  plan_found (over_one {w = w} {hs = hs} {us = us} c b n t d ck) at rest h e =
       let hd = head_found text b n at (us ++ (c ∷ rest)) h
       (e ∙ append_assoc hs (us ++ (c ∷ [])) rest ∙ ap (λ ts. hs ++ ts) (append_assoc us (c ∷ []) rest)) in
       let f = operand d hd.first c rest hd.inside (stops c close_kind (kind_stops false).1 ck) hd.after in
-      word-found hd c f.found (second-one w hd.first f.next t) f.found f.inside f.after ck
-  plan-found (over-two {w = w} {hs = hs} {us = us} {vs = vs} i c b n t d ik d₂ ck) at rest h e =
+      word_found hd c f.found (second_one w hd.first f.next t) f.found f.inside f.after ck
+  plan_found (over_two {w = w} {hs = hs} {us = us} {vs = vs} i c b n t d ik d₂ ck) at rest h e =
       let hd = head_found text b n at (us ++ (i ∷ (vs ++ (c ∷ rest)))) h
       (e ∙ append_assoc hs (us ++ (i ∷ (vs ++ (c ∷ [])))) rest
       ∙ ap (λ ts. hs ++ ts) (append_assoc us (i ∷ (vs ++ (c ∷ []))) rest ∙ ap (λ ts. us ++ (i ∷ ts)) (append_assoc vs (c ∷ []) rest))) in
       let f = operand d hd.first i (vs ++ (c ∷ rest)) hd.inside (stops i comma_kind (kind_stops false).2 ik) hd.after in
       let it = head_is text f.next f.inside i (vs ++ (c ∷ rest)) f.after in
       let g = operand d₂ (token_at text f.next).next c rest (ends text f.next f.inside).high
-      (stops c close_kind (kind_stops false).1 ck) (tail-is text f.next f.inside i (vs ++ (c ∷ rest)) f.after) in
-      word-found hd c f.found (second-two w hd.first f.next t (ap (λ (y : Token). y.kind) it ∙ ik)) g.found g.inside
+      (stops c close_kind (kind_stops false).1 ck) (tail_is text f.next f.inside i (vs ++ (c ∷ rest)) f.after) in
+      word_found hd c f.found (second_two w hd.first f.next t (ap (λ (y : Token). y.kind) it ∙ ik)) g.found g.inside
       g.after ck
 
 -- ---- the reader of formulas
@@ -282,28 +282,28 @@ module _ (text : List ℕ) where
 others_in : (m : Bool) (text : List ℕ) (at : ℕ) (a : Tree) (next : ℕ) → at ≤ length text → others_at m text at ≡ some a next
     → In eight text at a next
 others_in true text at a next h e = plan_in text at h a next e
-others_in false text at a next h e = none-some a next e
+others_in false text at a next h e = none_some a next e
 
 pub formulas_laws : (m : Bool) → Laws eight (reader m)
 formulas_laws m =
     record {
       few = omega arith;
-      op-end = op-end m;
-      pre-end = pre-end m;
-      leaf-end = leaf-end;
+      op_end = op_end m;
+      pre_end = pre_end m;
+      leaf_end = leaf_end;
       steps = λ x y h. omega arith;
       other_in = others_in m;
     }
 
-pub formulas-exact : Exact (reader true)
-formulas-exact =
+pub formulas_exact : Exact (reader true)
+formulas_exact =
     record {
-      apart = op-apart true;
-      close-op = (kind_stops true).1;
-      end-op = (kind_stops true).0;
-      leaf-pre = leaf-pre true;
+      apart = op_apart true;
+      close_op = (kind_stops true).1;
+      end_op = (kind_stops true).0;
+      leaf_pre = leaf_pre true;
       open_pre = open_pre true;
       open_leaf = open_leaf;
-      other-sound = λ text at a next h e. plan-sound text at h a next e;
-      other-found = λ w text at rest h e. plan-found text w at rest h e;
+      other_sound = λ text at a next h e. plan_sound text at h a next e;
+      other_found = λ w text at rest h e. plan_found text w at rest h e;
     }

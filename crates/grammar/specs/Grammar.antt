@@ -47,9 +47,9 @@ pub record Grammar : Type 1 where
 -- `Derives G l ts a`: the tokens ts are a phrase of level l, and a is its tree
 pub data Derives (G : Grammar) : ℕ → List Token → Tree → Type 0 where
   tighter : {r : ℕ} {ts : List Token} {a : Tree} → Derives G r ts a → Derives G (suc r) ts a
-  to-left : {r : ℕ} {ts us : List Token} {a b : Tree} (t : Token) → G.leftward (suc r) ≡ true → G.is_op (suc r) t.kind ≡ true
+  to_left : {r : ℕ} {ts us : List Token} {a b : Tree} (t : Token) → G.leftward (suc r) ≡ true → G.is_op (suc r) t.kind ≡ true
       → Derives G (suc r) ts a → Derives G r us b → Derives G (suc r) (ts ++ t ∷ us) (bin t a b)
-  to-right : {r : ℕ} {ts us : List Token} {a b : Tree} (t : Token) → G.leftward (suc r) ≡ false → G.is_op (suc r) t.kind ≡ true
+  to_right : {r : ℕ} {ts us : List Token} {a b : Tree} (t : Token) → G.leftward (suc r) ≡ false → G.is_op (suc r) t.kind ≡ true
       → Derives G r ts a → Derives G (suc r) us b → Derives G (suc r) (ts ++ t ∷ us) (bin t a b)
   prefixed : {us : List Token} {a : Tree} (t : Token) → G.is_pre t.kind ≡ true → Derives G zero us a → Derives G zero (t ∷ us) (pre t a)
   plain : (t : Token) → G.is_leaf t.kind ≡ true → Derives G zero (t ∷ []) (leaf t)
@@ -87,9 +87,9 @@ takes_two (During first last) = false
 
 -- a whole word over one operand, or over two
 pub data Plan : List Token → Tree → Type 0 where
-  over-one : {w : PlanWord} {hs us : List Token} {a : Tree} (c : Token) → PlanHead hs w → InRange w → takes_two w ≡ false
+  over_one : {w : PlanWord} {hs us : List Token} {a : Tree} (c : Token) → PlanHead hs w → InRange w → takes_two w ≡ false
       → Derives propositional propositional.top us a → c.kind ≡ close_kind → Plan (hs ++ (us ++ (c ∷ []))) (plan w a a)
-  over-two : {w : PlanWord} {hs us vs : List Token} {a b : Tree} (i c : Token) → PlanHead hs w → InRange w → takes_two w ≡ true
+  over_two : {w : PlanWord} {hs us vs : List Token} {a b : Tree} (i c : Token) → PlanHead hs w → InRange w → takes_two w ≡ true
       → Derives propositional propositional.top us a → i.kind ≡ comma_kind → Derives propositional propositional.top vs b
       → c.kind ≡ close_kind → Plan (hs ++ (us ++ (i ∷ (vs ++ (c ∷ []))))) (plan w a b)
 

@@ -40,25 +40,25 @@ kinds_of_lem (q ∷ ps) =
 
 -- the cells from place i on, and whether the first of them counts
 module _ (cs : List ℕ) (i : ℕ) (h : i < length cs) (b : Bool) (e : b ≡ is_temporal (get_or cs i 0 % 256)) where
-  temporals-next : temporals (kinds_in (drop i cs)) ≡ digit b + temporals (kinds_in (drop (i + 1) cs))
+  temporals_next : temporals (kinds_in (drop i cs)) ≡ digit b + temporals (kinds_in (drop (i + 1) cs))
   unfolding temporals kinds_in
-  temporals-next = rw (e, add-one, drop-cons cs i 0)
+  temporals_next = rw (e, add-one, drop-cons cs i 0)
 
   pub temporals_hit : b ≡ true → temporals (kinds_in (drop i cs)) ≡ 1 + temporals (kinds_in (drop (i + 1) cs))
-  temporals_hit t = temporals-next ∙ ap (λ d. digit d + temporals (kinds_in (drop (i + 1) cs))) t
+  temporals_hit t = temporals_next ∙ ap (λ d. digit d + temporals (kinds_in (drop (i + 1) cs))) t
 
   pub temporals_miss : b ≡ false → temporals (kinds_in (drop i cs)) ≡ 0 + temporals (kinds_in (drop (i + 1) cs))
-  temporals_miss t = temporals-next ∙ ap (λ d. digit d + temporals (kinds_in (drop (i + 1) cs))) t
+  temporals_miss t = temporals_next ∙ ap (λ d. digit d + temporals (kinds_in (drop (i + 1) cs))) t
 
-pub temporals-end : (cs : List ℕ) (i : ℕ) → i ≡ length cs → temporals (kinds_in (drop i cs)) ≡ 0
+pub temporals_end : (cs : List ℕ) (i : ℕ) → i ≡ length cs → temporals (kinds_in (drop i cs)) ≡ 0
 unfolding temporals kinds_in
-temporals-end cs i e = rw (drop_of_length-le cs {i = i} (omega arith))
+temporals_end cs i e = rw (drop_of_length-le cs {i = i} (omega arith))
 
 -- at most as many count as there are
-pub temporals-few : (cs : List ℕ) → temporals (kinds_in cs) ≤ length cs
+pub temporals_few : (cs : List ℕ) → temporals (kinds_in cs) ≤ length cs
 unfolding temporals kinds_in
-temporals-few [] = omega arith
-temporals-few (c ∷ cs) = go (is_temporal (c % 256)) (temporals-few cs)
+temporals_few [] = omega arith
+temporals_few (c ∷ cs) = go (is_temporal (c % 256)) (temporals_few cs)
   where
     go : (b : Bool) → temporals (kinds_in cs) ≤ length cs → digit b + temporals (kinds_in cs) ≤ suc (length cs)
     go true h = omega arith

@@ -17,7 +17,7 @@ use Rattle.basics.specs.Bytes.{between, same_bytes}
 use Rattle.syntax.specs.Kinds.{name_kind}
 use Rattle.syntax.specs.Lex.{token_at, tokens}
 use Rattle.grammar.specs.Names.{Name, bits, index_of, names_in, leaf_value}
-use Rattle.syntax.proofs.Spelt.{tokens-end, tokens-more, falls}
+use Rattle.syntax.proofs.Spelt.{tokens_end, tokens_more, falls}
 use Rattle.lines.specs.Effect.{Signals, all_declared}
 use Rattle.basics.proofs.BytesLaws.{same_bytes_lem, same_refl}
 use Rattle.lines.proofs.SignalSpans.{length_names}
@@ -68,9 +68,9 @@ pub index_below : (source spans : List ℕ) (name : Name) (i : ℕ) → i ≡ in
 index_below source spans name i e n = omega (arith, index_of_le name (names_in source spans), length_names source spans)
 
 -- what leaves hold
-pub leaf-values : (names : List Name) (text : List ℕ) → length names ≡ bits → Values (leaf_value names text)
+pub leaf_values : (names : List Name) (text : List ℕ) → length names ≡ bits → Values (leaf_value names text)
 unfolding leaf_value
-leaf-values names text e =
+leaf_values names text e =
     record { small = λ t. go (eqb t.kind name_kind) _ (index_of_le (between text t.from t.next) names); constant = λ t e. rw e }
   where
     go : (b : Bool) (i : ℕ) → i ≤ length names → cond b i 0 < index_limit
@@ -80,27 +80,27 @@ leaf-values names text e =
 -- ---- the tokens from a place on
 
 module _ (text : List ℕ) (at : ℕ) (h : at ≤ length text) (tok : Token) (it : tok ≡ token_at text at) where
-  pub declared-end : (g : Signals) → tok.kind ≡ 0 → all_declared g text (tokens text at) ≡ true
+  pub declared_end : (g : Signals) → tok.kind ≡ 0 → all_declared g text (tokens text at) ≡ true
   unfolding all_declared
-  declared-end g z = rw (tokens-end text at h (ap (λ (x : Token). x.kind) (sym it) ∙ z))
+  declared_end g z = rw (tokens_end text at h (ap (λ (x : Token). x.kind) (sym it) ∙ z))
 
   module _ (f : tok.kind ≡ 0 → ⊥) where
     here : tokens text at ≡ tok ∷ tokens text tok.next
-    here = tokens-more text at h (λ z. f (ap (λ (x : Token). x.kind) it ∙ z)) ∙ ap (λ (x : Token). x ∷ tokens text x.next) (sym it)
+    here = tokens_more text at h (λ z. f (ap (λ (x : Token). x.kind) it ∙ z)) ∙ ap (λ (x : Token). x ∷ tokens text x.next) (sym it)
 
     pub token_past : at < tok.next
     token_past = subst (λ (x : Token). at < x.next) (sym it) (falls text at h (λ z. f (ap (λ (x : Token). x.kind) it ∙ z)))
 
     module _ (g : Signals) where
-      pub declared-other : (tok.kind ≡ name_kind → ⊥) → all_declared g text (tokens text at) ≡ all_declared g text (tokens text tok.next)
+      pub declared_other : (tok.kind ≡ name_kind → ⊥) → all_declared g text (tokens text at) ≡ all_declared g text (tokens text tok.next)
       unfolding all_declared
-      declared-other n = rw (here, ne_eqb tok.kind name_kind n)
+      declared_other n = rw (here, ne_eqb tok.kind name_kind n)
 
       module _ (i : ℕ) (e : i ≡ index_of (between text tok.from tok.next) g.names) (k : tok.kind ≡ name_kind) where
-        pub declared-name : i < bits → all_declared g text (tokens text at) ≡ all_declared g text (tokens text tok.next)
+        pub declared_name : i < bits → all_declared g text (tokens text at) ≡ all_declared g text (tokens text tok.next)
         unfolding all_declared
-        declared-name l = rw (here, eq-eqb tok.kind name_kind k, ← e, lt-ltb i bits l)
+        declared_name l = rw (here, eq-eqb tok.kind name_kind k, ← e, lt-ltb i bits l)
 
-        pub declared-none : i ≡ bits → all_declared g text (tokens text at) ≡ false
+        pub declared_none : i ≡ bits → all_declared g text (tokens text at) ≡ false
         unfolding all_declared
-        declared-none b = rw (here, eq-eqb tok.kind name_kind k, ← e, le-ltb i bits (omega arith))
+        declared_none b = rw (here, eq-eqb tok.kind name_kind k, ← e, le-ltb i bits (omega arith))

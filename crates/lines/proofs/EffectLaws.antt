@@ -42,27 +42,27 @@ module _ (line : ℕ) (bytes : List ℕ) (g : Signals) (n m : ℕ) (o : OrderSoF
       (λ _. cond_elim Passed (is_declared g second) _ _ (λ _. tt)
       (λ _. cond_elim Passed (is_full k g) _ _ (λ _. tt) (λ f. record { tab = tab; room = f; is = refl })))
 
-  read-passed : (res : Res) → Passed (read_effect line second res g n m)
-  read-passed none = tt
-  read-passed (some a next) =
+  read_passed : (res : Res) → Passed (read_effect line second res g n m)
+  read_passed none = tt
+  read_passed (some a next) =
       cond_elim Passed (not (all_declared g second (tokens second 0))) _ _ (λ _. tt)
       (λ _. cond_elim Passed (is_large n m (formula_of (leaf_value g.names second) a)) _ _ (λ _. tt) (λ l. l))
 
-  order-passed : (before named : OrderSoFar) → Passed (order_effect line before named)
-  order-passed (Fixed x) named = tt
-  order-passed Open Open = tt
-  order-passed Open (Fixed x) = tt
+  order_passed : (before named : OrderSoFar) → Passed (order_effect line before named)
+  order_passed (Fixed x) named = tt
+  order_passed Open Open = tt
+  order_passed Open (Fixed x) = tt
 
-  word-passed : has_tab bytes ≡ true → (w : Word) → Passed (by_word w line second g n m o)
+  word_passed : has_tab bytes ≡ true → (w : Word) → Passed (by_word w line second g n m o)
   unfolding state_effect
-  word-passed tab (Declare k) = declare_passed tab k
-  word-passed tab Rule = cond_elim Passed (not (is_text second)) _ _ (λ _. tt) (λ _. read-passed (parse_formula second))
-  word-passed tab OrderWord = order-passed o (order_named second)
-  word-passed tab Unknown = tt
+  word_passed tab (Declare k) = declare_passed tab k
+  word_passed tab Rule = cond_elim Passed (not (is_text second)) _ _ (λ _. tt) (λ _. read_passed (parse_formula second))
+  word_passed tab OrderWord = order_passed o (order_named second)
+  word_passed tab Unknown = tt
 
   passed : Passed (effect_of line bytes g n m o)
   unfolding effect_of
-  passed = cond_elim Passed (has_tab bytes) _ _ (λ b. word-passed b (word_of (first_field bytes))) (λ _. tt)
+  passed = cond_elim Passed (has_tab bytes) _ _ (λ b. word_passed b (word_of (first_field bytes))) (λ _. tt)
 
   pub declaring : (k : Kind) (name : Name) → effect_of line bytes g n m o ≡ declares k name → Declaring bytes g k name
   declaring k name e = subst Passed e passed

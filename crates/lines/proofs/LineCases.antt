@@ -48,25 +48,25 @@ declare_fields Output name = (lt-ltb 3 (suc (suc (suc (suc (length name))))) (om
 declare_fields Observed name = (lt-ltb 3 (suc (suc (suc (suc (length name))))) (omega arith), refl, refl)
 declare_fields Hidden name = (lt-ltb 3 (suc (suc (suc (suc (length name))))) (omega arith), refl, refl)
 
-rule-fields : (text : List ℕ) → (has_tab (rule_line text) ≡ true) × (word_of (first_field (rule_line text)) ≡ Rule) × (second_field (rule_line text) ≡ text)
+rule_fields : (text : List ℕ) → (has_tab (rule_line text) ≡ true) × (word_of (first_field (rule_line text)) ≡ Rule) × (second_field (rule_line text) ≡ text)
 unfolding tab_place run word_of same_bytes
-rule-fields text = (lt-ltb 4 (suc (suc (suc (suc (suc (length text)))))) (omega arith), refl, refl)
+rule_fields text = (lt-ltb 4 (suc (suc (suc (suc (suc (length text)))))) (omega arith), refl, refl)
 
-order-fields : (o : Order)
+order_fields : (o : Order)
     → (has_tab (order_line o) ≡ true) × (word_of (first_field (order_line o)) ≡ OrderWord) × (order_named (second_field (order_line o)) ≡ Fixed o)
 unfolding tab_place run word_of same_bytes order_named
-order-fields Set = (refl, refl, refl)
-order-fields Read = (refl, refl, refl)
+order_fields Set = (refl, refl, refl)
+order_fields Read = (refl, refl, refl)
 
 -- a line is written in one way
 pub same_name : (k j : Kind) (name other : List ℕ) → declare_line k name ≡ declare_line j other → name ≡ other
 same_name k j name other e = sym (declare_fields k name).2 ∙ ap second_field e ∙ (declare_fields j other).2
 
 pub same_text : (text other : List ℕ) → rule_line text ≡ rule_line other → text ≡ other
-same_text text other e = sym (rule-fields text).2 ∙ ap second_field e ∙ (rule-fields other).2
+same_text text other e = sym (rule_fields text).2 ∙ ap second_field e ∙ (rule_fields other).2
 
-pub same-order : (o x : Order) → order_line o ≡ order_line x → o ≡ x
-same-order o x e = go (sym (order-fields o).2 ∙ ap (λ l. order_named (second_field l)) e ∙ (order-fields x).2)
+pub same_order : (o x : Order) → order_line o ≡ order_line x → o ≡ x
+same_order o x e = go (sym (order_fields o).2 ∙ ap (λ l. order_named (second_field l)) e ∙ (order_fields x).2)
   where
     go : Fixed o ≡ Fixed x → o ≡ x
     go z = cc
@@ -82,13 +82,13 @@ apart : {a b : List ℕ} (v w : Word) → word_of (first_field a) ≡ v → word
 apart v w p q n e = n (ap place (sym p ∙ ap (λ l. word_of (first_field l)) e ∙ q))
 
 pub not_both : (k : Kind) (name text : List ℕ) → ¬ (declare_line k name ≡ rule_line text)
-not_both k name text = apart (Declare k) Rule (declare_fields k name).1 (rule-fields text).1 (λ z. omega arith)
+not_both k name text = apart (Declare k) Rule (declare_fields k name).1 (rule_fields text).1 (λ z. omega arith)
 
 pub declare_no_order : (k : Kind) (name : List ℕ) (o : Order) → ¬ (declare_line k name ≡ order_line o)
-declare_no_order k name o = apart (Declare k) OrderWord (declare_fields k name).1 (order-fields o).1 (λ z. omega arith)
+declare_no_order k name o = apart (Declare k) OrderWord (declare_fields k name).1 (order_fields o).1 (λ z. omega arith)
 
 pub rule_no_order : (text : List ℕ) (o : Order) → ¬ (rule_line text ≡ order_line o)
-rule_no_order text o = apart Rule OrderWord (rule-fields text).1 (order-fields o).1 (λ z. omega arith)
+rule_no_order text o = apart Rule OrderWord (rule_fields text).1 (order_fields o).1 (λ z. omega arith)
 
 -- ---- words
 
@@ -139,7 +139,7 @@ unnamed line (Fixed o) = refl
 
 pub line_case : (bytes : List ℕ) → LineCase bytes
 unfolding effect_of tab_place
-line_case bytes = by-tab (has_tab bytes) refl
+line_case bytes = by_tab (has_tab bytes) refl
   where
     first : (w : Word) → word_of (first_field bytes) ≡ w → Spelt (first_field bytes) w
     first w e = subst (Spelt (first_field bytes)) e (spelt (first_field bytes))
@@ -153,23 +153,23 @@ line_case bytes = by-tab (has_tab bytes) refl
         (split t ∙ ap₂ (λ w s. w ++ 9 ∷ s) (first OrderWord e) (subst (Named (second_field bytes)) i (named (second_field bytes))))
     by_order t e Open i =
         neither (λ k name q. apart OrderWord (Declare k) e (declare_fields k name).1 (λ z. omega arith) q)
-        (λ text q. apart OrderWord Rule e (rule-fields text).1 (λ z. omega arith) q)
-        (λ o q. open_fixed (sym i ∙ ap (λ l. order_named (second_field l)) q ∙ (order-fields o).2)) (λ line g n m o. rw (t, e, i) (unnamed line o))
+        (λ text q. apart OrderWord Rule e (rule_fields text).1 (λ z. omega arith) q)
+        (λ o q. open_fixed (sym i ∙ ap (λ l. order_named (second_field l)) q ∙ (order_fields o).2)) (λ line g n m o. rw (t, e, i) (unnamed line o))
 
-    by-word : has_tab bytes ≡ true → (w : Word) → word_of (first_field bytes) ≡ w → LineCase bytes
-    by-word t (Declare k) e = declares k (second_field bytes) (split t ∙ ap (λ w. w ++ 9 ∷ second_field bytes) (first (Declare k) e))
-    by-word t Rule e = states (second_field bytes) (split t ∙ ap (λ w. w ++ 9 ∷ second_field bytes) (first Rule e))
-    by-word t OrderWord e = by_order t e (order_named (second_field bytes)) refl
-    by-word t Unknown e =
+    by_word_lem : has_tab bytes ≡ true → (w : Word) → word_of (first_field bytes) ≡ w → LineCase bytes
+    by_word_lem t (Declare k) e = declares k (second_field bytes) (split t ∙ ap (λ w. w ++ 9 ∷ second_field bytes) (first (Declare k) e))
+    by_word_lem t Rule e = states (second_field bytes) (split t ∙ ap (λ w. w ++ 9 ∷ second_field bytes) (first Rule e))
+    by_word_lem t OrderWord e = by_order t e (order_named (second_field bytes)) refl
+    by_word_lem t Unknown e =
         neither (λ k name q. apart Unknown (Declare k) e (declare_fields k name).1 (λ z. omega arith) q)
-        (λ text q. apart Unknown Rule e (rule-fields text).1 (λ z. omega arith) q)
-        (λ o q. apart Unknown OrderWord e (order-fields o).1 (λ z. omega arith) q) (λ line g n m o. rw (t, e))
+        (λ text q. apart Unknown Rule e (rule_fields text).1 (λ z. omega arith) q)
+        (λ o q. apart Unknown OrderWord e (order_fields o).1 (λ z. omega arith) q) (λ line g n m o. rw (t, e))
 
-    by-tab : (t : Bool) → has_tab bytes ≡ t → LineCase bytes
-    by-tab true e = by-word e (word_of (first_field bytes)) refl
-    by-tab false e =
-        neither (λ k name q. clash (declare_fields k name).0 (sym (ap has_tab q) ∙ e)) (λ text q. clash (rule-fields text).0 (sym (ap has_tab q) ∙ e))
-        (λ o q. clash (order-fields o).0 (sym (ap has_tab q) ∙ e)) (λ line g n m o. rw e)
+    by_tab : (t : Bool) → has_tab bytes ≡ t → LineCase bytes
+    by_tab true e = by_word_lem e (word_of (first_field bytes)) refl
+    by_tab false e =
+        neither (λ k name q. clash (declare_fields k name).0 (sym (ap has_tab q) ∙ e)) (λ text q. clash (rule_fields text).0 (sym (ap has_tab q) ∙ e))
+        (λ o q. clash (order_fields o).0 (sym (ap has_tab q) ∙ e)) (λ line g n m o. rw e)
 
 -- the effect of a line that declares, of one that states, and of one that says an order
 module _ (line : ℕ) (g : Signals) (n m : ℕ) (o : OrderSoFar) where
@@ -177,10 +177,10 @@ module _ (line : ℕ) (g : Signals) (n m : ℕ) (o : OrderSoFar) where
   unfolding effect_of
   declare_line_lem k name = let f = declare_fields k name in rw (f.0, f.1, f.2)
 
-  pub rule-line : (text : List ℕ) → effect_of line (rule_line text) g n m o ≡ state_effect line text g n m
+  pub rule_line_lem : (text : List ℕ) → effect_of line (rule_line text) g n m o ≡ state_effect line text g n m
   unfolding effect_of
-  rule-line text = let f = rule-fields text in rw (f.0, f.1, f.2)
+  rule_line_lem text = let f = rule_fields text in rw (f.0, f.1, f.2)
 
-  pub order-line : (x : Order) → effect_of line (order_line x) g n m o ≡ order_effect line o (Fixed x)
+  pub order_line_lem : (x : Order) → effect_of line (order_line x) g n m o ≡ order_effect line o (Fixed x)
   unfolding effect_of
-  order-line x = let f = order-fields x in rw (f.0, f.1, f.2)
+  order_line_lem x = let f = order_fields x in rw (f.0, f.1, f.2)

@@ -46,8 +46,8 @@ module _ (source : List ℕ) (at end t : ℕ) (e : t ≡ past not_tab (between s
   pub tab_in : at ≤ end → end ≤ length source → (t ≤ length (between source at end)) × (length (between source at end) ≡ end - at)
   tab_in h k = (omega (arith, past_in not_tab (between source at end) 0 (omega arith), e), length_line source at end h k)
 
-  pub tab-below : (t ≡ length (between source at end) → ⊥) → t < length (between source at end)
-  tab-below n = omega (arith, past_in not_tab (between source at end) 0 (omega arith), e, n)
+  pub tab_below : (t ≡ length (between source at end) → ⊥) → t < length (between source at end)
+  tab_below n = omega (arith, past_in not_tab (between source at end) 0 (omega arith), e, n)
 
 -- a declaration leaves the parts, and a formula the spans
 declare_parts : (line : ℕ) (k : Kind) (name : List ℕ) (g : Signals) (s : Sizes) (p : List ℕ) → p ≡ parts_after (declare_effect line k name g) s p
@@ -72,42 +72,42 @@ module _ (line : ℕ) (text : List ℕ) (g : Signals) (n m : ℕ) (s : Sizes) (s
   state_spans = cond_elim Same (not (is_text text)) _ _ (λ _. refl) (λ _. read_spans (parse_formula text))
 
 -- an order leaves both
-order-left : (line : ℕ) (before named : OrderSoFar) (s : Sizes) (start end : ℕ) (spans p : List ℕ)
+order_left : (line : ℕ) (before named : OrderSoFar) (s : Sizes) (start end : ℕ) (spans p : List ℕ)
     → (spans ≡ spans_after (order_effect line before named) s start end spans) × (p ≡ parts_after (order_effect line before named) s p)
-order-left line (Fixed o) named s start end spans p = (refl, refl)
-order-left line Open Open s start end spans p = (refl, refl)
-order-left line Open (Fixed o) s start end spans p = (refl, refl)
+order_left line (Fixed o) named s start end spans p = (refl, refl)
+order_left line Open Open s start end spans p = (refl, refl)
+order_left line Open (Fixed o) s start end spans p = (refl, refl)
 
 module _ (source : List ℕ) (at end line : ℕ) (s : Sizes) (spans p : List ℕ) (t : ℕ) (it : t ≡ past not_tab (between source at end) 0) where
   abbrev bytes : List ℕ
   bytes = between source at end
 
-  tab-is : t ≡ tab_place bytes
+  tab_is : t ≡ tab_place bytes
   unfolding past tab_place
-  tab-is = omega arith
+  tab_is = omega arith
 
   made : (e : Effect) → line_effect source at end line s spans ≡ e → {spans' p' : List ℕ} {r : Reading} → r ≡ reading_after e s
       → spans' ≡ spans_after e s (at + t + 1) end spans → p' ≡ parts_after e s p → LineRead source at end line s spans p spans' p' r
   made e i a b c =
       record {
         reading = a ∙ ap (λ f. reading_after f s) (sym i);
-        spans_left = b ∙ ap (λ k. spans_after e s (at + k + 1) end spans) tab-is ∙ ap (λ f. spans_after f s (at + tab_place bytes + 1) end spans) (sym i);
-        parts-left = c ∙ ap (λ f. parts_after f s p) (sym i);
+        spans_left = b ∙ ap (λ k. spans_after e s (at + k + 1) end spans) tab_is ∙ ap (λ f. spans_after f s (at + tab_place bytes + 1) end spans) (sym i);
+        parts_left = c ∙ ap (λ f. parts_after f s p) (sym i);
       }
 
   pub no_tab : length bytes ≤ t → LineRead source at end line s spans p spans p (Refused (BadLine line))
   unfolding effect_of
-  no_tab h = made (refuses (BadLine line)) (rw (le-ltb (tab_place bytes) (length bytes) (subst (λ k. length bytes ≤ k) tab-is h))) refl refl refl
+  no_tab h = made (refuses (BadLine line)) (rw (le-ltb (tab_place bytes) (length bytes) (subst (λ k. length bytes ≤ k) tab_is h))) refl refl refl
 
   module _ (h : t < length bytes) where
-    by-word : (w : Word) → w ≡ word_of (take t bytes)
+    by_word_lem : (w : Word) → w ≡ word_of (take t bytes)
         → line_effect source at end line s spans
         ≡ by_word w line (drop (t + 1) bytes) (signals_in source s spans) s.parts s.operators s.order
     unfolding effect_of
-    by-word w e = rw (lt-ltb (tab_place bytes) (length bytes) (subst (λ k. k < length bytes) tab-is h), e, tab-is)
+    by_word_lem w e = rw (lt-ltb (tab_place bytes) (length bytes) (subst (λ k. k < length bytes) tab_is h), e, tab_is)
 
     pub unknown_word : (w : Word) → w ≡ word_of (take t bytes) → w ≡ Unknown → LineRead source at end line s spans p spans p (Refused (BadLine line))
-    unknown_word w e u = made (refuses (BadLine line)) (by-word Unknown (sym u ∙ e)) refl refl refl
+    unknown_word w e u = made (refuses (BadLine line)) (by_word_lem Unknown (sym u ∙ e)) refl refl refl
 
     module _ (w : Word) (e : w ≡ word_of (take t bytes)) (i : at ≤ end) (l : end ≤ length source) where
       pub declare_word : (k : Kind) → w ≡ Declare k → {spans' : List ℕ} {r : Reading}
@@ -117,24 +117,24 @@ module _ (source : List ℕ) (at end line : ℕ) (s : Sizes) (spans p : List ℕ
       declare_word k u a b =
           let f = field_is source at end t l (omega (arith, length_line source at end i l)) in
           made (declare_effect line k (between source (at + t + 1) end) (signals_in source s spans))
-          (by-word (Declare k) (sym u ∙ e) ∙ ap (λ x. declare_effect line k x (signals_in source s spans)) (sym f)) a b (declare_parts line k _ _ s p)
+          (by_word_lem (Declare k) (sym u ∙ e) ∙ ap (λ x. declare_effect line k x (signals_in source s spans)) (sym f)) a b (declare_parts line k _ _ s p)
 
-      pub rule-word : w ≡ Rule → {p' : List ℕ} {r : Reading}
+      pub rule_word : w ≡ Rule → {p' : List ℕ} {r : Reading}
           → r ≡ reading_after (state_effect line (between source (at + t + 1) end) (signals_in source s spans) s.parts s.operators) s
           → p' ≡ parts_after (state_effect line (between source (at + t + 1) end) (signals_in source s spans) s.parts s.operators) s p
           → LineRead source at end line s spans p spans p' r
-      rule-word u a b =
+      rule_word u a b =
           let f = field_is source at end t l (omega (arith, length_line source at end i l)) in
           let text = between source (at + t + 1) end in
           made (state_effect line text (signals_in source s spans) s.parts s.operators)
-          (by-word Rule (sym u ∙ e) ∙ ap (λ x. state_effect line x (signals_in source s spans) s.parts s.operators) (sym f)) a
+          (by_word_lem Rule (sym u ∙ e) ∙ ap (λ x. state_effect line x (signals_in source s spans) s.parts s.operators) (sym f)) a
           (state_spans line text (signals_in source s spans) s.parts s.operators s (at + t + 1) end spans) b
 
-      pub order-word : w ≡ OrderWord → {r : Reading}
+      pub order_word_lem : w ≡ OrderWord → {r : Reading}
           → r ≡ reading_after (order_effect line s.order (order_named (between source (at + t + 1) end))) s
           → LineRead source at end line s spans p spans p r
-      order-word u a =
+      order_word_lem u a =
           let f = field_is source at end t l (omega (arith, length_line source at end i l)) in
-          let left = order-left line s.order (order_named (between source (at + t + 1) end)) s (at + t + 1) end spans p in
+          let left = order_left line s.order (order_named (between source (at + t + 1) end)) s (at + t + 1) end spans p in
           made (order_effect line s.order (order_named (between source (at + t + 1) end)))
-          (by-word OrderWord (sym u ∙ e) ∙ ap (λ x. order_effect line s.order (order_named x)) (sym f)) a left.0 left.1
+          (by_word_lem OrderWord (sym u ∙ e) ∙ ap (λ x. order_effect line s.order (order_named x)) (sym f)) a left.0 left.1

@@ -60,9 +60,9 @@ module _ (source : List ℕ) (at end : ℕ) (e : end ≡ past not_line_end sourc
       split_unended (drop at source) (omega (arith, length-drop at source)) (omega (arith, length-drop at source, run_is))
 
 -- a name is short
-pub name-short : (name : List ℕ) → is_name name ≡ true → length name ≤ name_limit
+pub name_short : (name : List ℕ) → is_name name ≡ true → length name ≤ name_limit
 unfolding is_name
-name-short [] e = omega arith
-name-short (b ∷ s) e =
+name_short [] e = omega arith
+name_short (b ∷ s) e =
     leb-true (length (b ∷ s)) name_limit
     (and_left (leb (length (b ∷ s)) name_limit) _ (and_right (eqb (run word_byte s) (length s)) _ (and_right (lower b) _ e)))

@@ -17,7 +17,7 @@ stored_append ps qs n p =
     ∙ ap (λ k. sets (stored_from ps n p) (n + k) (codes_of qs)) (length-map ps code_of)
 
 -- what was stored at the front is there
-pub stored-front : (ps : List Part) (m : ℕ) (p : List ℕ) → length ps ≡ m → m ≤ length p → take m (stored_from ps 0 p) ≡ codes_of ps
-stored-front ps m p e h =
+pub stored_front : (ps : List Part) (m : ℕ) (p : List ℕ) → length ps ≡ m → m ≤ length p → take m (stored_from ps 0 p) ≡ codes_of ps
+stored_front ps m p e h =
     let k : length (codes_of ps) ≡ m = length-map ps code_of ∙ e in
     ap (λ t. take m t) (sets-eq (codes_of ps) p 0 (omega arith)) ∙ take_at (codes_of ps) _ m k

@@ -38,13 +38,13 @@ found BadObservation = refl
 found (BadTrace n) = refl
 found (BadText n) = refl
 
-pub same-told : (r q : Refusal) → number_of r ≡ number_of q → place_of r ≡ place_of q → r ≡ q
-same-told r q n p = sym (found r) ∙ ap₂ refusal_of n p ∙ found q
+pub same_told : (r q : Refusal) → number_of r ≡ number_of q → place_of r ≡ place_of q → r ≡ q
+same_told r q n p = sym (found r) ∙ ap₂ refusal_of n p ∙ found q
 
 -- ---- what is told is told apart
 
-pub told-apart : {C : Type 0} {number place : ℕ} {l : List ℕ} → refused number place ≡ values l → C
-told-apart e = let z : ◌≡◌ {A = ℕ} 0 1 = cc in absurd (omega arith)
+pub told_apart : {C : Type 0} {number place : ℕ} {l : List ℕ} → refused number place ≡ values l → C
+told_apart e = let z : ◌≡◌ {A = ℕ} 0 1 = cc in absurd (omega arith)
 
 pub one_value : {m n : ℕ} → values (m ∷ []) ≡ values (n ∷ []) → m ≡ n
 one_value e = cc

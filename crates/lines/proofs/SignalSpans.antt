@@ -42,16 +42,16 @@ module _ (source spans : List ℕ) (ok : Spans source spans) (b start end : ℕ)
   abbrev more : List ℕ
   more = set (set spans (2 * b) start) (2 * b + 1) end
 
-  more-start : get_or more (2 * b) 0 ≡ start
-  more-start =
+  more_start : get_or more (2 * b) 0 ≡ start
+  more_start =
       get_or-set_other (set spans (2 * b) start) (2 * b + 1) (2 * b) end 0 (λ e. omega arith)
       ∙ get_or-set_same spans (2 * b) start 0 (omega (arith, ok.all))
 
-  more-end : get_or more (2 * b + 1) 0 ≡ end
-  more-end = get_or-set_same (set spans (2 * b) start) (2 * b + 1) end 0 (simp length-set (omega (arith, ok.all)))
+  more_end : get_or more (2 * b + 1) 0 ≡ end
+  more_end = get_or-set_same (set spans (2 * b) start) (2 * b + 1) end 0 (simp length-set (omega (arith, ok.all)))
 
-  more-other : (i : ℕ) → (i ≡ 2 * b → ⊥) → (i ≡ 2 * b + 1 → ⊥) → get_or more i 0 ≡ get_or spans i 0
-  more-other i p q = get_or-set_other (set spans (2 * b) start) (2 * b + 1) i end 0 q ∙ get_or-set_other spans (2 * b) i start 0 p
+  more_other : (i : ℕ) → (i ≡ 2 * b → ⊥) → (i ≡ 2 * b + 1 → ⊥) → get_or more i 0 ≡ get_or spans i 0
+  more_other i p q = get_or-set_other (set spans (2 * b) start) (2 * b + 1) i end 0 q ∙ get_or-set_other spans (2 * b) i start 0 p
 
   names_more : names_in source more ≡ set (names_in source spans) b (between source start end)
   names_more =
@@ -62,11 +62,11 @@ module _ (source spans : List ℕ) (ok : Spans source spans) (b start end : ℕ)
       at : (i : ℕ) → i < bits → Dec (i ≡ b) → get_or (names_in source more) i [] ≡ get_or (set (names_in source spans) b (between source start end)) i []
       at i l (yes e) =
           get_d_names source more i l
-          ∙ rw (e, more-start, more-end)
+          ∙ rw (e, more_start, more_end)
           (sym (get_or-set_same (names_in source spans) b (between source start end) [] (rw length_names h)))
       at i l (no n) =
           get_d_names source more i l
-          ∙ rw (more-other (2 * i) (λ e. n (omega arith)) (λ e. omega arith), more-other (2 * i + 1) (λ e. omega arith) (λ e. n (omega arith)))
+          ∙ rw (more_other (2 * i) (λ e. n (omega arith)) (λ e. omega arith), more_other (2 * i + 1) (λ e. omega arith) (λ e. n (omega arith)))
           (sym (get_or-set_other (names_in source spans) b i (between source start end) [] n ∙ get_d_names source spans i l))
 
   pub spans_more : start ≤ end → end ≤ length source → Spans source more
@@ -78,16 +78,16 @@ module _ (source spans : List ℕ) (ok : Spans source spans) (b start end : ℕ)
       }
     where
       ordered : (i : ℕ) → i < bits → Dec (i ≡ b) → get_or more (2 * i) 0 ≤ get_or more (2 * i + 1) 0
-      ordered i l (yes q) = rw (q, more-start, more-end) o
+      ordered i l (yes q) = rw (q, more_start, more_end) o
       ordered i l (no n) =
-          rw (more-other (2 * i) (λ e. n (omega arith)) (λ e. omega arith), more-other (2 * i + 1) (λ e. omega arith) (λ e. n (omega arith))) (ok.ordered i l)
+          rw (more_other (2 * i) (λ e. n (omega arith)) (λ e. omega arith), more_other (2 * i + 1) (λ e. omega arith) (λ e. n (omega arith))) (ok.ordered i l)
 
       inside : (i : ℕ) → i < bits → Dec (i ≡ b) → get_or more (2 * i + 1) 0 ≤ length source
-      inside i l (yes q) = rw (q, more-end) e
-      inside i l (no n) = rw (more-other (2 * i + 1) (λ e. omega arith) (λ e. n (omega arith))) (ok.inside i l)
+      inside i l (yes q) = rw (q, more_end) e
+      inside i l (no n) = rw (more_other (2 * i + 1) (λ e. omega arith) (λ e. n (omega arith))) (ok.inside i l)
 
-pub signals-more : (source spans : List ℕ) → Spans source spans → (k : Kind) (s : Sizes) (start end : ℕ) → first_bit k + count_in k s < bits
+pub signals_more : (source spans : List ℕ) → Spans source spans → (k : Kind) (s : Sizes) (start end : ℕ) → first_bit k + count_in k s < bits
     → signals_in source (more_signals k s) (spanned k s start end spans) ≡ with_signal k (between source start end) (signals_in source s spans)
-signals-more source spans ok Output s start end h = rw (names_more source spans ok (0 + s.outputs) start end h)
-signals-more source spans ok Observed s start end h = rw (names_more source spans ok (4 + s.observed) start end h)
-signals-more source spans ok Hidden s start end h = rw (names_more source spans ok (8 + s.hidden) start end h)
+signals_more source spans ok Output s start end h = rw (names_more source spans ok (0 + s.outputs) start end h)
+signals_more source spans ok Observed s start end h = rw (names_more source spans ok (4 + s.observed) start end h)
+signals_more source spans ok Hidden s start end h = rw (names_more source spans ok (8 + s.hidden) start end h)

@@ -17,15 +17,15 @@ use Rattle.syntax.specs.Plans.{chain_cells, delay_cells, plan_cells}
 use Rattle.syntax.specs.Tree.{Tree, cells}
 use Rattle.syntax.proofs.CellsLaws.{leaf_code, prefix_code, infix_code, codes_append}
 use Rattle.syntax.proofs.PlansLaws.{prefix_length, infix_length}
-use Rattle.grammar.specs.Grammar.{is_op, is_pre, is_leaf, Derives, tighter, to-left, to-right, prefixed, plain, grouped, other}
-use Rattle.grammar.specs.Grammar.{table, propositional, Plan, over-one, over-two, Derived}
+use Rattle.grammar.specs.Grammar.{is_op, is_pre, is_leaf, Derives, tighter, to_left, to_right, prefixed, plain, grouped, other}
+use Rattle.grammar.specs.Grammar.{table, propositional, Plan, over_one, over_two, Derived}
 use Rattle.grammar.proofs.GrammarLaws.{leaf_cases, pre_cases, op_cases}
 use Rattle.formula.specs.Formula.{Formula, False, Not, And, Or, X, N, F, G, U, size, operators}
 use Rattle.formula.specs.Parts.{byte_of, op_of, temporals, one_part, unary_parts, binary_parts, parts_from, build}
 use Rattle.formula.specs.Codes.{code_of, codes_of}
 use Rattle.formula.specs.Constraints.{soon, hold, delay}
-use Rattle.formula.proofs.CodesLaws.{byte_small, Held, Coded, held_one, held-unary, held-binary}
-use Rattle.formula.proofs.TemporalCount.{temporals-from}
+use Rattle.formula.proofs.CodesLaws.{byte_small, Held, Coded, held_one, held_unary, held_binary}
+use Rattle.formula.proofs.TemporalCount.{temporals_from}
 use Rattle.lines.specs.Effect.{plan_formula, formula_of}
 use Rattle.lines.proofs.CellKinds.{kinds_from, kinds_of_lem}
 
@@ -79,10 +79,10 @@ pub record Stands (cs : List ℕ) (φ : Formula) : Type 0 where
   pub codes : size φ ≤ index_limit → (n : ℕ) → codes_from n cs ≡ codes_of (parts_from φ n)
   pub coded : Coded φ
 
-leaf-stands : (k v : ℕ) → Nullary k → v < index_limit → (eqb k name_kind ≡ false → v ≡ 0)
+leaf_stands : (k v : ℕ) → Nullary k → v < index_limit → (eqb k name_kind ≡ false → v ≡ 0)
     → Stands (cell k (v % 256) ∷ []) (build (op_of k) v False False)
 unfolding codes_from
-leaf-stands k v w small constant =
+leaf_stands k v w small constant =
     record {
       sized = sym (w.sized v);
       codes = λ h n. ap (λ m. m ∷ []) (leaf_code k v n (kind_small w.byte) small ∙ ap (λ k. k + 256 * v + 65536 * 0) (sym w.byte))
@@ -100,7 +100,7 @@ prefix_stands k w {cs} {φ} s =
           ∙ ap (λ m. codes_of (parts_from φ n) ++ (m ∷ [])) (prefix_code k (n + size φ) (kind_small w.byte)
           ∙ ap (λ k. k + 256 * (n + size φ - 1) + 65536 * 0) (sym w.byte))
           ∙ sym (map-append code_of (parts_from φ n) (one_part (op_of k) (n + size φ - 1) 0)) ∙ ap codes_of (sym (w.parts φ n));
-      coded = λ n h. subst Held (sym (w.parts φ n)) (held-unary (op_of k) φ s.coded n (omega (arith, w.sized φ)));
+      coded = λ n h. subst Held (sym (w.parts φ n)) (held_unary (op_of k) φ s.coded n (omega (arith, w.sized φ)));
     }
 
 infix_stands : (k : ℕ) → Binary k → {cs ds : List ℕ} {φ ψ : Formula} → Stands cs φ → Stands ds ψ
@@ -126,7 +126,7 @@ infix_stands k w {cs} {ds} {φ} {ψ} s t =
           ∙ sym (map-append code_of (ps ++ qs) top ∙ ap (λ xs. xs ++ codes_of top) (map-append code_of ps qs)
           ∙ append_assoc (codes_of ps) (codes_of qs) (codes_of top))
           ∙ ap codes_of (sym (w.parts φ ψ n));
-      coded = λ n h. subst Held (sym (w.parts φ ψ n)) (held-binary (op_of k) φ ψ s.coded t.coded n (omega (arith, z)));
+      coded = λ n h. subst Held (sym (w.parts φ ψ n)) (held_binary (op_of k) φ ψ s.coded t.coded n (omega (arith, z)));
     }
 
 -- ---- plan words
@@ -136,21 +136,21 @@ module _ {cs : List ℕ} {φ : Formula} where
   unfolding op_of is_pre
   not_stands = prefix_stands not_kind (unary true not_kind refl)
 
-  next-stands : Stands cs φ → Stands (prefix_cells next_kind cs) (X φ)
+  next_stands : Stands cs φ → Stands (prefix_cells next_kind cs) (X φ)
   unfolding op_of is_pre
-  next-stands = prefix_stands next_kind (unary true next_kind refl)
+  next_stands = prefix_stands next_kind (unary true next_kind refl)
 
   weak_stands : Stands cs φ → Stands (prefix_cells weak_next_kind cs) (N φ)
   unfolding op_of is_pre
   weak_stands = prefix_stands weak_next_kind (unary true weak_next_kind refl)
 
-  eventually-stands : Stands cs φ → Stands (prefix_cells eventually_kind cs) (F φ)
+  eventually_stands : Stands cs φ → Stands (prefix_cells eventually_kind cs) (F φ)
   unfolding op_of is_pre
-  eventually-stands = prefix_stands eventually_kind (unary true eventually_kind refl)
+  eventually_stands = prefix_stands eventually_kind (unary true eventually_kind refl)
 
-  always-stands : Stands cs φ → Stands (prefix_cells always_kind cs) (G φ)
+  always_stands : Stands cs φ → Stands (prefix_cells always_kind cs) (G φ)
   unfolding op_of is_pre
-  always-stands = prefix_stands always_kind (unary true always_kind refl)
+  always_stands = prefix_stands always_kind (unary true always_kind refl)
 
 module _ {cs ds : List ℕ} {φ ψ : Formula} where
   and_stands : Stands cs φ → Stands ds ψ → Stands (infix_cells and_kind cs ds) (And φ ψ)
@@ -161,33 +161,33 @@ module _ {cs ds : List ℕ} {φ ψ : Formula} where
   unfolding op_of is_op
   or_stands = infix_stands or_kind (binary true 3 or_kind refl)
 
-  until-stands : Stands cs φ → Stands ds ψ → Stands (infix_cells until_kind cs ds) (U φ ψ)
+  until_stands : Stands cs φ → Stands ds ψ → Stands (infix_cells until_kind cs ds) (U φ ψ)
   unfolding op_of is_op
-  until-stands = infix_stands until_kind (binary true 1 until_kind refl)
+  until_stands = infix_stands until_kind (binary true 1 until_kind refl)
 
 module _ {cs : List ℕ} {φ : Formula} (s : Stands cs φ) where
-  soon-stands : (n : ℕ) → Stands (chain_cells or_kind next_kind n cs) (soon n φ)
+  soon_stands : (n : ℕ) → Stands (chain_cells or_kind next_kind n cs) (soon n φ)
   unfolding chain_cells soon
-  soon-stands zero = s
-  soon-stands (suc n) = or_stands s (next-stands (soon-stands n))
+  soon_stands zero = s
+  soon_stands (suc n) = or_stands s (next_stands (soon_stands n))
 
-  hold-stands : (n : ℕ) → Stands (chain_cells and_kind weak_next_kind n cs) (hold n φ)
+  hold_stands : (n : ℕ) → Stands (chain_cells and_kind weak_next_kind n cs) (hold n φ)
   unfolding chain_cells hold
-  hold-stands zero = s
-  hold-stands (suc n) = and_stands s (weak_stands (hold-stands n))
+  hold_stands zero = s
+  hold_stands (suc n) = and_stands s (weak_stands (hold_stands n))
 
-  delay-stands : (n : ℕ) → Stands (delay_cells n cs) (delay n φ)
+  delay_stands : (n : ℕ) → Stands (delay_cells n cs) (delay n φ)
   unfolding delay_cells delay
-  delay-stands zero = s
-  delay-stands (suc n) = weak_stands (delay-stands n)
+  delay_stands zero = s
+  delay_stands (suc n) = weak_stands (delay_stands n)
 
-plan-stands : (w : PlanWord) {cs ds : List ℕ} {φ ψ : Formula} → Stands cs φ → Stands ds ψ → Stands (plan_cells w cs ds) (plan_formula w φ ψ)
+plan_stands : (w : PlanWord) {cs ds : List ℕ} {φ ψ : Formula} → Stands cs φ → Stands ds ψ → Stands (plan_cells w cs ds) (plan_formula w φ ψ)
 unfolding plan_cells
-plan-stands Once s t = not_stands (eventually-stands (and_stands s (eventually-stands (and_stands (not_stands s) (eventually-stands s)))))
-plan-stands Before s t = not_stands (until-stands (not_stands t) s)
-plan-stands After s t = always-stands (or_stands (not_stands s) (eventually-stands t))
-plan-stands (Within steps) s t = always-stands (or_stands (not_stands s) (soon-stands t steps))
-plan-stands (During first last) s t = delay-stands (hold-stands s (last - first)) (first - 1)
+plan_stands Once s t = not_stands (eventually_stands (and_stands s (eventually_stands (and_stands (not_stands s) (eventually_stands s)))))
+plan_stands Before s t = not_stands (until_stands (not_stands t) s)
+plan_stands After s t = always_stands (or_stands (not_stands s) (eventually_stands t))
+plan_stands (Within steps) s t = always_stands (or_stands (not_stands s) (soon_stands t steps))
+plan_stands (During first last) s t = delay_stands (hold_stands s (last - first)) (first - 1)
 
 -- ---- the tree of a text
 
@@ -201,32 +201,32 @@ module _ {val : Token → ℕ} (v : Values val) where
   TreeStands a = Stands (cells val a) (formula_of val a)
 
   -- with temporal operators and plan words or without, where the other atoms do
-  table-stands : (m : Bool) (O : List Token → Tree → Type 0) → ((us : List Token) (a : Tree) → O us a → TreeStands a)
+  table_stands : (m : Bool) (O : List Token → Tree → Type 0) → ((us : List Token) (a : Tree) → O us a → TreeStands a)
       → {l : ℕ} {us : List Token} {a : Tree} → Derives (table m O) l us a → TreeStands a
   unfolding cells formula_of
-  table-stands m O others (tighter d) = table-stands m O others d
-  table-stands m O others (to-left {r} t _ o d e) =
-      infix_stands t.kind (binary m (suc r) t.kind o) (table-stands m O others d) (table-stands m O others e)
-  table-stands m O others (to-right {r} t _ o d e) =
-      infix_stands t.kind (binary m (suc r) t.kind o) (table-stands m O others d) (table-stands m O others e)
-  table-stands m O others (prefixed t o d) = prefix_stands t.kind (unary m t.kind o) (table-stands m O others d)
-  table-stands m O others (plain t o) = leaf-stands t.kind (val t) (nullary t.kind o) (v.small t) (v.constant t)
-  table-stands m O others (grouped o c _ _ d) = table-stands m O others d
-  table-stands m O others (other {us = us} {a = a} x) = others us a x
+  table_stands m O others (tighter d) = table_stands m O others d
+  table_stands m O others (to_left {r} t _ o d e) =
+      infix_stands t.kind (binary m (suc r) t.kind o) (table_stands m O others d) (table_stands m O others e)
+  table_stands m O others (to_right {r} t _ o d e) =
+      infix_stands t.kind (binary m (suc r) t.kind o) (table_stands m O others d) (table_stands m O others e)
+  table_stands m O others (prefixed t o d) = prefix_stands t.kind (unary m t.kind o) (table_stands m O others d)
+  table_stands m O others (plain t o) = leaf_stands t.kind (val t) (nullary t.kind o) (v.small t) (v.constant t)
+  table_stands m O others (grouped o c _ _ d) = table_stands m O others d
+  table_stands m O others (other {us = us} {a = a} x) = others us a x
 
-  operand-stands : {us : List Token} {a : Tree} → Derives propositional 4 us a → TreeStands a
-  operand-stands d = table-stands false (λ ts a. ⊥) (λ us a x. absurd x) d
+  operand_stands : {us : List Token} {a : Tree} → Derives propositional 4 us a → TreeStands a
+  operand_stands d = table_stands false (λ ts a. ⊥) (λ us a x. absurd x) d
 
   derived_plan : {us : List Token} {a : Tree} → Plan us a → TreeStands a
   unfolding cells formula_of
-  derived_plan (over-one {w = w} c b n t d k) = plan-stands w (operand-stands d) (operand-stands d)
-  derived_plan (over-two {w = w} i c b n t d j e k) = plan-stands w (operand-stands d) (operand-stands e)
+  derived_plan (over_one {w = w} c b n t d k) = plan_stands w (operand_stands d) (operand_stands d)
+  derived_plan (over_two {w = w} i c b n t d j e k) = plan_stands w (operand_stands d) (operand_stands e)
 
   -- the cells that are written stand for the formula
   pub derived_stands : (text : List ℕ) {a : Tree} → Derived text a → TreeStands a
-  derived_stands text d = table-stands true Plan (λ us a x. derived_plan x) d
+  derived_stands text d = table_stands true Plan (λ us a x. derived_plan x) d
 
 -- the temporal operators among cells
-pub operators-standing : {cs : List ℕ} {φ : Formula} → Stands cs φ → size φ ≤ index_limit → temporals (kinds_in cs) ≡ operators φ
-operators-standing {cs} {φ} s h =
-    ap temporals (sym (kinds_from 0 cs) ∙ ap kinds_in (s.codes h 0) ∙ kinds_of_lem (parts_from φ 0)) ∙ temporals-from φ 0
+pub operators_standing : {cs : List ℕ} {φ : Formula} → Stands cs φ → size φ ≤ index_limit → temporals (kinds_in cs) ≡ operators φ
+operators_standing {cs} {φ} s h =
+    ap temporals (sym (kinds_from 0 cs) ∙ ap kinds_in (s.codes h 0) ∙ kinds_of_lem (parts_from φ 0)) ∙ temporals_from φ 0

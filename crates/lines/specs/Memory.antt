@@ -115,12 +115,12 @@ cells_stored cs s p = cond (cells_fit cs s) (sets p s.parts (codes_from s.parts 
 -- what holds between lines
 pub record Kept (source : List ℕ) (s : Sizes) (spans p : List ℕ) : Type 0 where
   pub spans_in : Spans source spans
-  pub outputs-few : s.outputs ≤ kind_limit
-  pub observed-few : s.observed ≤ kind_limit
-  pub hidden-few : s.hidden ≤ kind_limit
-  pub parts-few : s.parts ≤ part_limit
-  pub operators-few : s.operators ≤ operator_limit
-  pub parts-long : length p ≡ part_limit
+  pub outputs_few : s.outputs ≤ kind_limit
+  pub observed_few : s.observed ≤ kind_limit
+  pub hidden_few : s.hidden ≤ kind_limit
+  pub parts_few : s.parts ≤ part_limit
+  pub operators_few : s.operators ≤ operator_limit
+  pub parts_long : length p ≡ part_limit
 
 abbrev pub line_effect : List ℕ → ℕ → ℕ → ℕ → Sizes → List ℕ → Effect
 line_effect source at end line s spans = effect_of line (between source at end) (signals_in source s spans) s.parts s.operators s.order
@@ -129,4 +129,4 @@ line_effect source at end line s spans = effect_of line (between source at end) 
 pub record LineRead (source : List ℕ) (at end line : ℕ) (s : Sizes) (spans p spans' p' : List ℕ) (r : Reading) : Type 0 where
   pub reading : r ≡ reading_after (line_effect source at end line s spans) s
   pub spans_left : spans' ≡ spans_after (line_effect source at end line s spans) s (at + tab_place (between source at end) + 1) end spans
-  pub parts-left : p' ≡ parts_after (line_effect source at end line s spans) s p
+  pub parts_left : p' ≡ parts_after (line_effect source at end line s spans) s p

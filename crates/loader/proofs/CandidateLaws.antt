@@ -24,12 +24,12 @@ use Rattle.basics.proofs.NumbersLaws.{below_lt, below_le}
 use Rattle.basics.proofs.SaysLaws.{says_false}
 use Rattle.play.specs.Limits.{belief_limit, side_limit}
 use Rattle.play.specs.Cells.{rank_at, row_size, cell_limit, stop_cell, stop_row}
-use Rattle.play.proofs.CellsLaws.{rank-last, first-before, before-inside, stop_length, stop-first, stop-rest, rank_length, rank-there, rank-other}
+use Rattle.play.proofs.CellsLaws.{rank_last, first_before, before_inside, stop_length, stop_first, stop_rest, rank_length, rank_there, rank_other}
 use Rattle.printer.specs.Text.{shown_from, shown_count, table_word}
 use Rattle.wellformed.proofs.WellFormedLaws.{side_le}
 use Rattle.tables.specs.declared.shape.Shape.{Shape}
 use Rattle.loader.specs.Candidate.{says_stop, rank_in, limit_at, move_in, row_in, observed_in, order_in, rows_in, cells_in}
-use Rattle.loader.proofs.ShownCells.{Shown, shown-says}
+use Rattle.loader.proofs.ShownCells.{Shown, shown_says}
 
 -- ---- a row, from its line
 
@@ -45,8 +45,8 @@ module _ (o : Order) (rows i : ℕ) where
   pub set_next : o ≡ Set → (i ≡ 0 → ⊥) → rows ≡ limit_at o rows i
   set_next e m = rw (e, ne_eqb i 0 m) refl
 
-  pub read-choice : o ≡ Read → i % 2 ≡ 1 → side_limit ≡ limit_at o rows i
-  read-choice e z = rw (e, z) refl
+  pub read_choice : o ≡ Read → i % 2 ≡ 1 → side_limit ≡ limit_at o rows i
+  read_choice e z = rw (e, z) refl
 
   pub read_next : o ≡ Read → (i % 2 ≡ 1 → ⊥) → rows ≡ limit_at o rows i
   read_next e m = rw (e, ne_eqb (i % 2) 1 m) refl
@@ -56,39 +56,39 @@ pub size_small : (o : Order) → row_size o ≤ 2 + 2 * side_limit
 size_small Set = omega arith
 size_small Read = omega arith
 
-pub shown-small : (o : Order) (n : ℕ) → n ≤ side_limit → shown_from o + shown_count o n ≤ 1 + 2 * side_limit
-shown-small Set n h = omega arith
-shown-small Read n h = omega arith
+pub shown_small : (o : Order) (n : ℕ) → n ≤ side_limit → shown_from o + shown_count o n ≤ 1 + 2 * side_limit
+shown_small Set n h = omega arith
+shown_small Read n h = omega arith
 
 module _ (o : Order) (n rows : ℕ) (line : List ℕ) (i : ℕ) where
   -- a cell that is printed, and one that is not
-  pub move-shown : Shown o n i → move_in o n rows line i ≡ number_below (limit_at o rows i) (field_at (3 + (i - shown_from o)) line)
+  pub move_shown : Shown o n i → move_in o n rows line i ≡ number_below (limit_at o rows i) (field_at (3 + (i - shown_from o)) line)
   unfolding move_in
-  move-shown h = rw ((shown-says o n i).1 h) refl
+  move_shown h = rw ((shown_says o n i).1 h) refl
 
-  pub move-hidden : ¬ Shown o n i → move_in o n rows line i ≡ 0
+  pub move_hidden : ¬ Shown o n i → move_in o n rows line i ≡ 0
   unfolding move_in
-  move-hidden h = rw (says_false (shown-says o n i) h) refl
+  move_hidden h = rw (says_false (shown_says o n i) h) refl
 
   -- by the test of the code
   module _ (from count : ℕ) (f : from ≡ shown_from o) (c : count ≡ shown_count o n) where
     pub move_zero : (ltb i from || leb (from + count) i) ≡ true → 0 ≡ move_in o n rows line i
-    move_zero e = sym (move-hidden (out (or_cases (ltb i from) (leb (from + count) i) e)))
+    move_zero e = sym (move_hidden (out (or_cases (ltb i from) (leb (from + count) i) e)))
       where
         out : (ltb i from ≡ true) ⊎ (leb (from + count) i ≡ true) → ¬ Shown o n i
         out (inl l) (a, b) = omega (arith, ltb-true i from l)
         out (inr l) (a, b) = omega (arith, leb-true (from + count) i l)
 
-    pub move-inside : (ltb i from || leb (from + count) i) ≡ false → Shown o n i
-    move-inside e =
+    pub move_inside : (ltb i from || leb (from + count) i) ≡ false → Shown o n i
+    move_inside e =
         let a = ltb-false i from (or_left (ltb i from) (leb (from + count) i) e) in
         let b = leb-false (from + count) i (or_right (ltb i from) (leb (from + count) i) e) in
         (omega arith, omega arith)
 
-    pub move-number : (ltb i from || leb (from + count) i) ≡ false → (limit : ℕ) → limit ≡ limit_at o rows i
+    pub move_number : (ltb i from || leb (from + count) i) ≡ false → (limit : ℕ) → limit ≡ limit_at o rows i
         → number_below limit (field_at (3 + (i - from)) line) ≡ move_in o n rows line i
-    move-number e limit q =
-        ap₂ (λ (m k : ℕ). number_below m (field_at (3 + (i - k)) line)) q f ∙ sym (move-shown (move-inside e))
+    move_number e limit q =
+        ap₂ (λ (m k : ℕ). number_below m (field_at (3 + (i - k)) line)) q f ∙ sym (move_shown (move_inside e))
 
 module _ (shape : Shape) (line : List ℕ) where
   abbrev o : Order
@@ -111,33 +111,33 @@ module _ (shape : Shape) (line : List ℕ) where
   row_length = rank_length o (rank_in line) unranked ∙ unranked_length
 
   -- the last is the rank
-  pub row-rank : get_or (row_in shape line) (rank_at o) 0 ≡ rank_in line
+  pub row_rank : get_or (row_in shape line) (rank_at o) 0 ≡ rank_in line
   unfolding row_in
-  row-rank = rank-there o (rank_in line) unranked unranked_length
+  row_rank = rank_there o (rank_in line) unranked unranked_length
 
   -- the others, by whether it stops
   row_other : (i : ℕ) → i < rank_at o → get_or (row_in shape line) i 0 ≡ get_or unranked i 0
   unfolding row_in
-  row_other i h = rank-other o (rank_in line) unranked i h
+  row_other i h = rank_other o (rank_in line) unranked i h
 
-  pub row-stop : says_stop line ≡ true → get_or (row_in shape line) 0 0 ≡ stop_cell
-  row-stop e = row_other 0 (first-before o) ∙ rw e (stop-first o)
+  pub row_stop : says_stop line ≡ true → get_or (row_in shape line) 0 0 ≡ stop_cell
+  row_stop e = row_other 0 (first_before o) ∙ rw e (stop_first o)
 
-  pub row-rest : says_stop line ≡ true → (i : ℕ) → 0 < i → i < rank_at o → get_or (row_in shape line) i 0 ≡ 0
-  row-rest e zero some h = absurd (omega arith)
-  row-rest e (suc i) some h = row_other (suc i) h ∙ rw e (stop-rest o i)
+  pub row_rest : says_stop line ≡ true → (i : ℕ) → 0 < i → i < rank_at o → get_or (row_in shape line) i 0 ≡ 0
+  row_rest e zero some h = absurd (omega arith)
+  row_rest e (suc i) some h = row_other (suc i) h ∙ rw e (stop_rest o i)
 
   pub row_move : says_stop line ≡ false → (i : ℕ) → i < rank_at o → get_or (row_in shape line) i 0 ≡ moves i
-  row_move e i h = row_other i h ∙ rw e (get_d_tabulate (row_size o) moves i 0 (before-inside o i h))
+  row_move e i h = row_other i h ∙ rw e (get_d_tabulate (row_size o) moves i 0 (before_inside o i h))
 
   -- by the test of the code
   module _ (i at : ℕ) (is : at ≡ rank_at o) where
-    pub rank-here : i ≡ at → number_below cell_limit (field_at 2 line) ≡ get_or (row_in shape line) i 0
+    pub rank_here : i ≡ at → number_below cell_limit (field_at 2 line) ≡ get_or (row_in shape line) i 0
     unfolding rank_in
-    rank-here e = sym (ap (λ (k : ℕ). get_or (row_in shape line) k 0) (e ∙ is) ∙ row-rank)
+    rank_here e = sym (ap (λ (k : ℕ). get_or (row_in shape line) k 0) (e ∙ is) ∙ row_rank)
 
-    pub rank-behind : (i ≡ at → ⊥) → i < row_size o → i < rank_at o
-    rank-behind m h = omega (arith, rank-last o, is, m)
+    pub rank_behind : (i ≡ at → ⊥) → i < row_size o → i < rank_at o
+    rank_behind m h = omega (arith, rank_last o, is, m)
 
 -- ---- the number of observed signals, tried from the greatest down
 
@@ -149,16 +149,16 @@ module _ (o : Order) where
   pub tried_small : (k : ℕ) → k ≤ kind_limit → 1 * 2 ^ k % 18446744073709551616 ≤ side_limit
   tried_small k h = omega (arith, shl_one k (omega arith), side_le k h)
 
-  pub observed-none : (k : ℕ) (line : List ℕ) → k ≤ 0 → 0 ≡ observed_in o k line
+  pub observed_none : (k : ℕ) (line : List ℕ) → k ≤ 0 → 0 ≡ observed_in o k line
   unfolding observed_in
-  observed-none zero line h = refl
-  observed-none (suc k) line h = absurd (omega arith)
+  observed_none zero line h = refl
+  observed_none (suc k) line h = absurd (omega arith)
 
-  pub observed-here : (k : ℕ) (line f : List ℕ) → k ≤ kind_limit → 0 < k → (m : ℕ) → m ≡ shown_count o (1 * 2 ^ k % 18446744073709551616)
+  pub observed_here : (k : ℕ) (line f : List ℕ) → k ≤ kind_limit → 0 < k → (m : ℕ) → m ≡ shown_count o (1 * 2 ^ k % 18446744073709551616)
       → f ≡ field_at (2 + m) line → 0 < length f → k ≡ observed_in o k line
   unfolding observed_in
-  observed-here zero line f h some m q e l = absurd (omega arith)
-  observed-here (suc k) line f h some m q e l =
+  observed_here zero line f h some m q e l = absurd (omega arith)
+  observed_here (suc k) line f h some m q e l =
       let t : ltb 0 (length (field_at (2 + shown_count o (2 ^ suc k)) line)) ≡ true =
       ap (λ u. ltb 0 (length u)) (sym (field_tried (suc k) line f h m q e)) ∙ lt-ltb 0 (length f) l in
       rw t refl
@@ -176,9 +176,9 @@ module _ (o : Order) where
 -- ---- the order
 
 module _ (line : List ℕ) (r : Bool) (e : r ≡ same_bytes (field_at 0 line) (table_word Read)) where
-  pub order-read : r ≡ true → Read ≡ order_in line
+  pub order_read : r ≡ true → Read ≡ order_in line
   unfolding order_in
-  order-read t = rw (← e, t) refl
+  order_read t = rw (← e, t) refl
 
   pub order_set : r ≡ false → Set ≡ order_in line
   unfolding order_in
@@ -191,9 +191,9 @@ module _ (line : List ℕ) (n : ℕ) (e : n ≡ number_below (suc belief_limit) 
   unfolding rows_in
   rows_none z = rw (← e, z) refl
 
-  pub rows-some : (n ≡ 0 → ⊥) → n ≡ rows_in line
+  pub rows_some : (n ≡ 0 → ⊥) → n ≡ rows_in line
   unfolding rows_in
-  rows-some z = rw (← e, ne_eqb n 0 z) refl
+  rows_some z = rw (← e, ne_eqb n 0 z) refl
 
 -- ---- the cells
 

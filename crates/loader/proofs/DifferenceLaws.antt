@@ -74,20 +74,20 @@ Differs n s t m = (k : ℕ) × (m ≡ n + k) × Common k s t × (Common (suc k) 
 here : (n : ℕ) (s t : List ℕ) (m : ℕ) → n ≡ m → (Common 1 s t → ⊥) → Differs n s t m
 here n s t m e most = (0, omega arith, none_common s t, most)
 
-pub first-difference : (n : ℕ) (s t : List ℕ) (m : ℕ) → difference n s t ≡ suc m → Differs n s t (suc m)
+pub first_difference : (n : ℕ) (s t : List ℕ) (m : ℕ) → difference n s t ≡ suc m → Differs n s t (suc m)
 unfolding difference
-first-difference n [] [] m e = absurd (omega arith)
-first-difference n [] (b ∷ t) m e = here n [] (b ∷ t) (suc m) e (empty_left 0 (b ∷ t))
-first-difference n (a ∷ s) [] m e = here n (a ∷ s) [] (suc m) e (λ c. empty_left 0 (a ∷ s) (common_sym 1 (a ∷ s) [] c))
-first-difference n (a ∷ s) (b ∷ t) m e =
+first_difference n [] [] m e = absurd (omega arith)
+first_difference n [] (b ∷ t) m e = here n [] (b ∷ t) (suc m) e (empty_left 0 (b ∷ t))
+first_difference n (a ∷ s) [] m e = here n (a ∷ s) [] (suc m) e (λ c. empty_left 0 (a ∷ s) (common_sym 1 (a ∷ s) [] c))
+first_difference n (a ∷ s) (b ∷ t) m e =
     elim (test (eqb a b)) [
-      | inl q ↦ by-line (eqb-true a b q) (test (eqb a 10)) (rw q at e) (λ n. first-difference n s t m)
+      | inl q ↦ by_line (eqb-true a b q) (test (eqb a 10)) (rw q at e) (λ n. first_difference n s t m)
       | inr q ↦ here n (a ∷ s) (b ∷ t) (suc m) (rw q at e) (λ c. eqb-false a b q (common_head 0 a b s t c).0)
     ]
   where
-    by-line : a ≡ b → (eqb a 10 ≡ true) ⊎ (eqb a 10 ≡ false) → difference (cond (eqb a 10) (suc n) n) s t ≡ suc m
+    by_line : a ≡ b → (eqb a 10 ≡ true) ⊎ (eqb a 10 ≡ false) → difference (cond (eqb a 10) (suc n) n) s t ≡ suc m
         → ((n : ℕ) → difference n s t ≡ suc m → Differs n s t (suc m)) → Differs n (a ∷ s) (b ∷ t) (suc m)
-    by-line ab (inl l) e ih =
+    by_line ab (inl l) e ih =
         let (k, h, c, most) = ih (suc n) (rw l at e) in
         let ten = eqb-true a 10 l in
         let made : Common (suc k) (a ∷ s) (b ∷ t) =
@@ -97,7 +97,7 @@ first-difference n (a ∷ s) (b ∷ t) m e =
           made,
           λ d. elim (common_head (suc k) a b s t d).1 [ inl (x, y) ↦ most y | inr (x, y) ↦ clash l (not-true (eqb a 10) x) ],
         )
-    by-line ab (inr l) e ih =
+    by_line ab (inr l) e ih =
         let (k, h, c, most) = ih n (rw l at e) in
         let byte : not_line_end a ≡ true = rw l refl in
         let made : Common k (a ∷ s) (b ∷ t) = subst (λ x. Common k (a ∷ s) (x ∷ t)) ab (common_byte k a s t byte c) in (
@@ -115,11 +115,11 @@ same_text n [] (b ∷ t) e = absurd (omega arith)
 same_text n (a ∷ s) [] e = absurd (omega arith)
 same_text n (a ∷ s) (b ∷ t) e =
     elim (test (eqb a b)) [
-      | inl q ↦ ap₂ (λ x y. x ∷ y) (eqb-true a b q) (by-line (test (eqb a 10)) (rw q at e) (λ n. same_text n s t))
+      | inl q ↦ ap₂ (λ x y. x ∷ y) (eqb-true a b q) (by_line (test (eqb a 10)) (rw q at e) (λ n. same_text n s t))
       | inr q ↦ absurd (let z : suc n ≡ 0 = rw q at e in omega arith)
     ]
   where
-    by-line : (eqb a 10 ≡ true) ⊎ (eqb a 10 ≡ false) → difference (cond (eqb a 10) (suc (suc n)) (suc n)) s t ≡ 0
+    by_line : (eqb a 10 ≡ true) ⊎ (eqb a 10 ≡ false) → difference (cond (eqb a 10) (suc (suc n)) (suc n)) s t ≡ 0
         → ((n : ℕ) → difference (suc n) s t ≡ 0 → s ≡ t) → s ≡ t
-    by-line (inl l) e ih = ih (suc n) (rw l at e)
-    by-line (inr l) e ih = ih n (rw l at e)
+    by_line (inl l) e ih = ih (suc n) (rw l at e)
+    by_line (inr l) e ih = ih n (rw l at e)

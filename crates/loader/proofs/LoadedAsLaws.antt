@@ -15,7 +15,7 @@ use Rattle.basics.specs.Lists.{written}
 use Rattle.basics.specs.declared.order.Order.{Order}
 use Rattle.basics.specs.declared.order.Order.TheVariants.{Set, Read}
 use Rattle.basics.proofs.Booleans.{cond_elim}
-use Rattle.basics.proofs.ListsLaws.{front_in, front-taken, taken_length}
+use Rattle.basics.proofs.ListsLaws.{front_in, front_taken, taken_length}
 use Rattle.lines.specs.declared.refusal.Refusal.TheVariants.{ShortMemory, BadText}
 use Rattle.play.specs.Limits.{belief_limit}
 use Rattle.play.specs.Cells.{row_size, table_size}
@@ -28,7 +28,7 @@ use Rattle.loader.specs.Candidate.{shape_in, worst_in, cells_in, print_in}
 use Rattle.loader.specs.Difference.{difference}
 use Rattle.loader.specs.LoadedAs.{first_fault, fault_in, loaded_at, cells_at, loaded_by, cells_by, table_after, told_loaded, used_rows, LoadedAs}
 use Rattle.loader.proofs.CandidateLaws.{cells_length}
-use Rattle.loader.proofs.CandidatePrint.{candidate-shaped}
+use Rattle.loader.proofs.CandidatePrint.{candidate_shaped}
 use Rattle.loader.proofs.LoadedIffDue.{load_told}
 
 module _ (s table : List ℕ) where
@@ -46,46 +46,46 @@ module _ (s table : List ℕ) where
 
 -- by the line of the first fault
 module _ (place : ℕ) (shape : Shape) (worst : ℕ) where
-  pub answer-bad : 0 < place → Refused (BadText place) ≡ loaded_at place shape worst
-  answer-bad h = by place h
+  pub answer_bad : 0 < place → Refused (BadText place) ≡ loaded_at place shape worst
+  answer_bad h = by place h
     where
       by : (k : ℕ) → 0 < k → Refused (BadText k) ≡ loaded_at k shape worst
       by zero h = absurd (omega arith)
       by (suc k) h = refl
 
-  pub answer-good : place ≡ 0 → Table shape worst ≡ loaded_at place shape worst
-  answer-good z = ap (λ k. loaded_at k shape worst) (sym z)
+  pub answer_good : place ≡ 0 → Table shape worst ≡ loaded_at place shape worst
+  answer_good z = ap (λ k. loaded_at k shape worst) (sym z)
 
 pub count_none : (place n : ℕ) → 0 < place → 0 ≡ cond (eqb place 0) n 0
 count_none place n h = rw (ne_eqb place 0 (λ e. omega arith)) refl
 
-pub count-all : (place n : ℕ) → place ≡ 0 → n ≡ cond (eqb place 0) n 0
-count-all place n z = rw z refl
+pub count_all : (place n : ℕ) → place ≡ 0 → n ≡ cond (eqb place 0) n 0
+count_all place n z = rw z refl
 
 -- the first k of some cells
-pub taken-long : (k : ℕ) (l : List ℕ) → k ≤ length l → k ≡ length (take k l)
-taken-long k l h = sym (length-take-le k l h)
+pub taken_long : (k : ℕ) (l : List ℕ) → k ≤ length l → k ≡ length (take k l)
+taken_long k l h = sym (length-take-le k l h)
 
 -- the cells of all rows
-few-cells : (o : Order) (rows : ℕ) → rows ≤ belief_limit → rows * row_size o ≤ table_size
-few-cells Set rows h = omega arith
-few-cells Read rows h = omega arith
+few_cells : (o : Order) (rows : ℕ) → rows ≤ belief_limit → rows * row_size o ≤ table_size
+few_cells Set rows h = omega arith
+few_cells Read rows h = omega arith
 
 -- the candidate of a text, as it is found
 module _ (s : List ℕ) {shape : Shape} (is-shape : shape ≡ shape_in s) where
   shaped : (worst : ℕ) → worst ≡ worst_in shape.rows s → Shaped (cells_in shape s) shape worst
   shaped worst is-worst =
       subst (Shaped (cells_in shape s) shape) (sym is-worst)
-      (subst (λ h. Shaped (cells_in h s) h (worst_in h.rows s)) (sym is-shape) (candidate-shaped s))
+      (subst (λ h. Shaped (cells_in h s) h (worst_in h.rows s)) (sym is-shape) (candidate_shaped s))
 
   -- what the writing of its cells asks
   pub cells_ask : (shape.observed ≤ kind_limit) × ((shape.rows ≤ belief_limit) × (shape.rows * row_size shape.order ≤ table_size))
   cells_ask =
       let z = (shaped (worst_in shape.rows s) refl).sized in
-      (z.seen, (z.few, few-cells shape.order shape.rows z.few))
+      (z.seen, (z.few, few_cells shape.order shape.rows z.few))
 
   -- its cells stand in a memory, rows of k
-  module _ (memory : List ℕ) {cells : List ℕ} (are-cells : cells ≡ written (cells_in shape s) memory) {k : ℕ} (is_row : k ≡ row_size shape.order) where
+  module _ (memory : List ℕ) {cells : List ℕ} (are_cells : cells ≡ written (cells_in shape s) memory) {k : ℕ} (is_row : k ≡ row_size shape.order) where
     abbrev size : ℕ
     size = shape.rows * k
 
@@ -96,13 +96,13 @@ module _ (s : List ℕ) {shape : Shape} (is-shape : shape ≡ shape_in s) where
     size_few = omega (arith, size_is, cells_length shape s, cells_ask.1.1)
 
     pub cells_in_lem : size ≤ length cells
-    cells_in_lem = front_in (cells_in shape s) memory cells size size_is are-cells
+    cells_in_lem = front_in (cells_in shape s) memory cells size size_is are_cells
 
-    cells-taken : take size cells ≡ cells_in shape s
-    cells-taken = front-taken (cells_in shape s) memory cells size size_is are-cells
+    cells_taken : take size cells ≡ cells_in shape s
+    cells_taken = front_taken (cells_in shape s) memory cells size size_is are_cells
 
-    pub cells-long : size ≡ length (take size cells)
-    cells-long = taken_length (cells_in shape s) memory cells size size_is are-cells
+    pub cells_long : size ≡ length (take size cells)
+    cells_long = taken_length (cells_in shape s) memory cells size size_is are_cells
 
     -- so many of them are copied, and these are the cells that are to be written
     module _ (place : ℕ) {n : ℕ} (is-count : n ≡ cond (eqb place 0) size 0) where
@@ -115,13 +115,13 @@ module _ (s : List ℕ) {shape : Shape} (is-shape : shape ≡ shape_in s) where
       copied = ap (λ k. take k cells) is-count ∙ at place
         where
           at : (k : ℕ) → take (cond (eqb k 0) size 0) cells ≡ cells_at k (cells_in shape s)
-          at zero = cells-taken
+          at zero = cells_taken
           at (suc k) = rw (ne_eqb (suc k) 0 (λ e. omega arith)) refl
 
     module _ {worst : ℕ} (is-worst : worst ≡ worst_in shape.rows s) where
       -- what the search for the first fault asks
       pub fault_asks : Shaped (take size cells) shape worst
-      fault_asks = subst (λ t. Shaped t shape worst) (sym cells-taken) (shaped worst is-worst)
+      fault_asks = subst (λ t. Shaped t shape worst) (sym cells_taken) (shaped worst is-worst)
 
       module _ (table : List ℕ) (room : table_size ≤ length table) {place : ℕ}
           (is-place : place ≡ first_fault (difference 1 s (table_text (take size cells) shape worst)) (take size cells) shape worst) where
@@ -129,7 +129,7 @@ module _ (s : List ℕ) {shape : Shape} (is-shape : shape ≡ shape_in s) where
         unfolding fault_in print_in
         place_is =
             sym
-            (is-place ∙ ap (λ t. first_fault (difference 1 s (table_text t shape worst)) t shape worst) cells-taken
+            (is-place ∙ ap (λ t. first_fault (difference 1 s (table_text t shape worst)) t shape worst) cells_taken
             ∙ ap (λ w. first_fault (difference 1 s (table_text (cells_in shape s) shape w)) (cells_in shape s) shape w) is-worst
             ∙ ap (λ (h : Shape). let w = worst_in h.rows s in first_fault (difference 1 s (table_text (cells_in h s) h w)) (cells_in h s) h w) is-shape)
 

@@ -14,11 +14,11 @@ use Rattle.basics.specs.Lists.{written}
 use Rattle.basics.specs.Order.{order_number}
 use Rattle.basics.specs.declared.order.Order.{Order}
 use Rattle.basics.proofs.Booleans.{test}
-use Rattle.basics.proofs.ListsLaws.{written-rest}
-use Rattle.basics.proofs.OrderLaws.{one-order}
+use Rattle.basics.proofs.ListsLaws.{written_rest}
+use Rattle.basics.proofs.OrderLaws.{one_order}
 use Rattle.lines.specs.declared.refusal.Refusal.TheVariants.{BadText}
 use Rattle.lines.specs.Refusal.{Told, values, refused}
-use Rattle.lines.proofs.RefusalLaws.{told-apart, one_place as told-place}
+use Rattle.lines.proofs.RefusalLaws.{told_apart, one_place as told-place}
 use Rattle.play.specs.Cells.{row_size, stop_cell, table_size, first_cell}
 use Rattle.tables.specs.declared.shape.Shape.{Shape}
 use Rattle.loader.specs.declared.loading.Loaded.{Loaded}
@@ -26,14 +26,14 @@ use Rattle.loader.specs.declared.loading.Loaded.TheVariants.{Table, Refused}
 use Rattle.loader.specs.Candidate.{shape_in, worst_in, cells_in, print_in}
 use Rattle.loader.specs.Difference.{difference}
 use Rattle.loader.specs.LoadedAs.{fault_in, loaded_at, cells_at, loaded_by, cells_by, table_after, told_loaded, used_rows, IsPrint, TextOf, TableOf}
-use Rattle.loader.specs.LoadedAs.{Begins, FaultAt, bad-line, bad-worst, bad-rank, LoadedAs, short_memory, bad-text, table}
+use Rattle.loader.specs.LoadedAs.{Begins, FaultAt, bad_line, bad_worst, bad_rank, LoadedAs, short_memory, bad_text, table}
 use Rattle.loader.proofs.CandidateLaws.{cells_length}
-use Rattle.loader.proofs.CandidatePrint.{candidate-shaped}
-use Rattle.loader.proofs.DifferenceLaws.{Common, Differs, first-difference, same_text}
-use Rattle.loader.proofs.SameRows.{Said, table-said, said-table}
+use Rattle.loader.proofs.CandidatePrint.{candidate_shaped}
+use Rattle.loader.proofs.DifferenceLaws.{Common, Differs, first_difference, same_text}
+use Rattle.loader.proofs.SameRows.{Said, table_said, said_table}
 use Rattle.loader.proofs.WholeLines.{lines_fewer}
-use Rattle.loader.proofs.ReadBack.{begins_so, none_told, worst-is, shape_is, cells_are}
-use Rattle.loader.proofs.FaultLaws.{Ranks, all_right, worst-wrong, row-wrong, ranks-found, fault_line, fault_rank, text_same, fault_of}
+use Rattle.loader.proofs.ReadBack.{begins_so, none_told, worst_is, shape_is, cells_are}
+use Rattle.loader.proofs.FaultLaws.{Ranks, all_right, worst_wrong, row_wrong, ranks_found, fault_line, fault_rank, text_same, fault_of}
 
 -- the answer and the cells to write, by the line of the first fault
 abbrev answer : List ℕ → ℕ → Loaded
@@ -54,18 +54,18 @@ module _ (s : List ℕ) where
   -- what is compared with is itself one
   candidate : TextOf (print_in s) cells' (shape_in s) worst'
   unfolding print_in
-  candidate = record { shaped = candidate-shaped s; text = refl }
+  candidate = record { shaped = candidate_shaped s; text = refl }
 
   module _ (e : difference 1 s (print_in s) ≡ 0) where
-    text-said : TextOf s cells' (shape_in s) worst'
-    text-said = subst (λ x. TextOf x cells' (shape_in s) worst') (sym (same_text 0 s (print_in s) e)) candidate
+    text_said : TextOf s cells' (shape_in s) worst'
+    text_said = subst (λ x. TextOf x cells' (shape_in s) worst') (sym (same_text 0 s (print_in s) e)) candidate
 
     all_said : Said s (shape_in s) worst' cells'
     all_said =
         record {
-          is = text-said;
+          is = text_said;
           exact = cells_length (shape_in s) s;
-          untold = λ stop. none_told s (shape_in s) worst' cells' text-said
+          untold = λ stop. none_told s (shape_in s) worst' cells' text_said
               (λ i h. eq-eqb (first_cell (shape_in s).order cells' i) stop_cell (stop i h));
         }
 
@@ -97,7 +97,7 @@ module _ (s : List ℕ) where
 
   module _ (m : ℕ) (e : difference 1 s (print_in s) ≡ suc m) where
     differs : Differs 1 s (print_in s) (suc m)
-    differs = first-difference 1 s (print_in s) m e
+    differs = first_difference 1 s (print_in s) m e
 
     most : (j : ℕ) → Begins j s → j ≤ m
     most j b =
@@ -107,14 +107,14 @@ module _ (s : List ℕ) where
           | no l ↦ absurd (last (common_fewer (suc k) j (omega arith) (begins_common j b)))
         ]
 
-    begins-here : Begins m s
-    begins-here =
+    begins_here : Begins m s
+    begins_here =
         let (k, line, c, last) = differs in
         let same : k ≡ m = omega arith in
         subst (λ j. Begins j s) same (common_begins k c)
 
     line_fault : FaultAt s (suc m)
-    line_fault = bad-line (λ (t, shape, worst, is). let z : 0 ≡ suc m = sym (text_same s t shape worst is) ∙ e in omega arith) m begins-here most
+    line_fault = bad_line (λ (t, shape, worst, is). let z : 0 ≡ suc m = sym (text_same s t shape worst is) ∙ e in omega arith) m begins_here most
 
   -- ---- the first fault
 
@@ -127,69 +127,69 @@ module _ (s : List ℕ) where
   due_fault zero h f = absurd (omega arith)
   due_fault (suc m) h f = f
 
-  ranks-due : difference 1 s (print_in s) ≡ 0 → (n : ℕ) → Ranks cells' (shape_in s) worst' n → Due n
-  ranks-due z n (all_right e f) =
-      said-table s (shape_in s) worst' cells' (all_said z) (record { shaped = candidate-shaped s; first = e; ranked = f })
-  ranks-due z n (worst-wrong m) = bad-worst cells' (shape_in s) worst' (text-said z) m
-  ranks-due z n (row-wrong e i h m before) =
-      due_fault (2 + i) (omega arith) (bad-rank cells' (shape_in s) worst' (text-said z) e i h m before)
+  ranks_due : difference 1 s (print_in s) ≡ 0 → (n : ℕ) → Ranks cells' (shape_in s) worst' n → Due n
+  ranks_due z n (all_right e f) =
+      said_table s (shape_in s) worst' cells' (all_said z) (record { shaped = candidate_shaped s; first = e; ranked = f })
+  ranks_due z n (worst_wrong m) = bad_worst cells' (shape_in s) worst' (text_said z) m
+  ranks_due z n (row_wrong e i h m before) =
+      due_fault (2 + i) (omega arith) (bad_rank cells' (shape_in s) worst' (text_said z) e i h m before)
 
   fault_due : (d : ℕ) → fault_in s ≡ d → Due d
   fault_due d q = subst Due q (go (difference 1 s (print_in s)) refl)
     where
       go : (k : ℕ) → difference 1 s (print_in s) ≡ k → Due (fault_in s)
-      go zero e = subst Due (sym (fault_rank s e)) (ranks-due e _ (ranks-found cells' (shape_in s) worst'))
+      go zero e = subst Due (sym (fault_rank s e)) (ranks_due e _ (ranks_found cells' (shape_in s) worst'))
       go (suc m) e = subst Due (sym (fault_line s m e)) (line_fault m e)
 
   no_fault : IsPrint s → fault_in s ≡ 0
   no_fault (t, shape, worst, p, e) = fault_of s t shape worst (record { shaped = p.shaped; text = e }) 0 (all_right p.first p.ranked)
 
-  table-good : (shape : Shape) (worst : ℕ) (cells : List ℕ) → TableOf s shape worst cells → fault_in s ≡ 0
-  table-good shape worst cells is = no_fault (cells, shape, worst, is.printable, is.prints)
+  table_good : (shape : Shape) (worst : ℕ) (cells : List ℕ) → TableOf s shape worst cells → fault_in s ≡ 0
+  table_good shape worst cells is = no_fault (cells, shape, worst, is.printable, is.prints)
 
   fault_some : (place : ℕ) → FaultAt s place → 0 < place
-  fault_some place (bad-line untold good begins greatest) = omega arith
-  fault_some place (bad-worst t shape worst is m) = omega arith
-  fault_some place (bad-rank t shape worst is e i h m before) = omega arith
+  fault_some place (bad_line untold good begins greatest) = omega arith
+  fault_some place (bad_worst t shape worst is m) = omega arith
+  fault_some place (bad_rank t shape worst is e i h m before) = omega arith
 
   fault_is : (place : ℕ) → FaultAt s place → fault_in s ≡ place
-  fault_is place (bad-line untold good begins greatest) = go (difference 1 s (print_in s)) refl
+  fault_is place (bad_line untold good begins greatest) = go (difference 1 s (print_in s)) refl
     where
       go : (k : ℕ) → difference 1 s (print_in s) ≡ k → fault_in s ≡ suc good
-      go zero e = absurd (untold (cells', shape_in s, worst', text-said e))
+      go zero e = absurd (untold (cells', shape_in s, worst', text_said e))
       go (suc m) e =
-          let same : m ≡ good = omega (arith, most m e good begins, greatest m (begins-here m e)) in
+          let same : m ≡ good = omega (arith, most m e good begins, greatest m (begins_here m e)) in
           fault_line s m e ∙ ap suc same
-  fault_is place (bad-worst t shape worst is m) = fault_of s t shape worst is 1 (worst-wrong m)
-  fault_is place (bad-rank t shape worst is e i h m before) = fault_of s t shape worst is (2 + i) (row-wrong e i h m before)
+  fault_is place (bad_worst t shape worst is m) = fault_of s t shape worst is 1 (worst_wrong m)
+  fault_is place (bad_rank t shape worst is e i h m before) = fault_of s t shape worst is (2 + i) (row_wrong e i h m before)
 
   -- ---- the answer
 
   module _ (room : ℕ) where
-    at-due : table_size ≤ room → (d : ℕ) → fault_in s ≡ d → LoadedAs room s (told_loaded (answer s d)) (to_write s d)
-    at-due h zero e = table h (shape_in s) worst' cells' (fault_due zero e)
-    at-due h (suc m) e = bad-text h (suc m) (fault_due (suc m) e)
+    at_due : table_size ≤ room → (d : ℕ) → fault_in s ≡ d → LoadedAs room s (told_loaded (answer s d)) (to_write s d)
+    at_due h zero e = table h (shape_in s) worst' cells' (fault_due zero e)
+    at_due h (suc m) e = bad_text h (suc m) (fault_due (suc m) e)
 
     pub load_due : LoadedAs room s (told_loaded (loaded_by room s)) (cells_by room s)
     unfolding loaded_by cells_by
     load_due =
         elim (test (ltb room table_size)) [
           | inl e ↦ rw e (short_memory (ltb-true room table_size e))
-          | inr e ↦ rw e (at-due (ltb-false room table_size e) (fault_in s) refl)
+          | inr e ↦ rw e (at_due (ltb-false room table_size e) (fault_in s) refl)
         ]
 
     answered : (a : Told) (cells : List ℕ) → LoadedAs room s a cells → (told_loaded (loaded_by room s) ≡ a) × (cells_by room s ≡ cells)
     unfolding loaded_by cells_by
     answered a cells (short_memory h) = rw (lt-ltb room table_size h) (refl, refl)
-    answered a cells (bad-text h place f) = rw (le-ltb room table_size h, fault_is place f) (go place (fault_some place f))
+    answered a cells (bad_text h place f) = rw (le-ltb room table_size h, fault_is place f) (go place (fault_some place f))
       where
         go : (d : ℕ) → 0 < d → (told_loaded (answer s d) ≡ refused 17 d) × (to_write s d ≡ [])
         go zero l = absurd (omega arith)
         go (suc m) l = (refl, refl)
     answered a c (table h shape worst cells is) =
-        let said = table-said s shape worst cells is in
-        rw (le-ltb room table_size h, table-good shape worst cells is) (
-          ap₂ (λ (x : Shape) r. told_loaded (Table x r)) (shape_is s shape worst cells said) (worst-is s shape worst cells said),
+        let said = table_said s shape worst cells is in
+        rw (le-ltb room table_size h, table_good shape worst cells is) (
+          ap₂ (λ (x : Shape) r. told_loaded (Table x r)) (shape_is s shape worst cells said) (worst_is s shape worst cells said),
           cells_are s shape worst cells said,
         )
 
@@ -204,13 +204,13 @@ module _ (s : List ℕ) where
       loads : TableOf s shape worst cells → (loaded_by room s ≡ Table shape worst) × (cells_by room s ≡ cells)
       unfolding loaded_by cells_by
       loads is =
-          let said = table-said s shape worst cells is in
-          rw (le-ltb room table_size h, table-good shape worst cells is)
-          (ap₂ Table (shape_is s shape worst cells said) (worst-is s shape worst cells said), cells_are s shape worst cells said)
+          let said = table_said s shape worst cells is in
+          rw (le-ltb room table_size h, table_good shape worst cells is)
+          (ap₂ Table (shape_is s shape worst cells said) (worst_is s shape worst cells said), cells_are s shape worst cells said)
 
-      is-loaded : (loaded_by room s ≡ Table shape worst) × (cells_by room s ≡ cells) → TableOf s shape worst cells
+      is_loaded : (loaded_by room s ≡ Table shape worst) × (cells_by room s ≡ cells) → TableOf s shape worst cells
       unfolding loaded_by cells_by
-      is-loaded e = go (fault_in s) refl (rw (le-ltb room table_size h) at e)
+      is_loaded e = go (fault_in s) refl (rw (le-ltb room table_size h) at e)
         where
           go : (d : ℕ) → fault_in s ≡ d → (answer s (fault_in s) ≡ Table shape worst) × (to_write s (fault_in s) ≡ cells) → TableOf s shape worst cells
           go zero z q =
@@ -219,10 +219,10 @@ module _ (s : List ℕ) where
               let y : worst' ≡ worst = cc in
               subst (λ w. TableOf s shape w cells) y
               (subst (λ b. TableOf s shape worst' b) c (subst (λ b. TableOf s b worst' cells') x (fault_due zero z)))
-          go (suc m) z q = let (a, c) : (Refused (BadText (suc m)) ≡ Table shape worst) × ([] ≡ cells) = rw z at q in told-apart (ap told_loaded a)
+          go (suc m) z q = let (a, c) : (Refused (BadText (suc m)) ≡ Table shape worst) × ([] ≡ cells) = rw z at q in told_apart (ap told_loaded a)
 
       pub loaded_iff : ((loaded_by room s ≡ Table shape worst) × (cells_by room s ≡ cells)) ↔ TableOf s shape worst cells
-      loaded_iff = (is-loaded, loads)
+      loaded_iff = (is_loaded, loads)
 
     -- a text is accepted just where it is a print, and is 17 at just the line that is at fault
     module _ (h : table_size ≤ room) where
@@ -238,22 +238,22 @@ module _ (s : List ℕ) where
       )
 
       pub fault_iff : (place : ℕ) → (told_loaded (loaded_by room s) ≡ refused 17 place) ↔ FaultAt s place
-      fault_iff place = (to, λ f. (answered (refused 17 place) [] (bad-text h place f)).0)
+      fault_iff place = (to, λ f. (answered (refused 17 place) [] (bad_text h place f)).0)
         where
           to : told_loaded (loaded_by room s) ≡ refused 17 place → FaultAt s place
           to e = go (fault_in s) refl (sym told_at ∙ e)
             where
               go : (d : ℕ) → fault_in s ≡ d → told_loaded (answer s (fault_in s)) ≡ refused 17 place → FaultAt s place
-              go zero z q = told-apart (sym (rw z at q))
+              go zero z q = told_apart (sym (rw z at q))
               go (suc m) z q = subst (FaultAt s) (told-place (rw z at q)) (fault_due (suc m) z)
 
 -- there is only one table
 pub one_table : (s : List ℕ) (a b : Shape) (v w : ℕ) (c d : List ℕ) → TableOf s a v c → TableOf s b w d → (a ≡ b) × (v ≡ w) × (c ≡ d)
 one_table s a b v w c d x y =
-    let l = table-said s a v c x in
-    let r = table-said s b w d y in (
+    let l = table_said s a v c x in
+    let r = table_said s b w d y in (
       sym (shape_is s a v c l) ∙ shape_is s b w d r,
-      sym (worst-is s a v c l) ∙ worst-is s b w d r,
+      sym (worst_is s a v c l) ∙ worst_is s b w d r,
       sym (cells_are s a v c l) ∙ cells_are s b w d r,
     )
 
@@ -264,13 +264,13 @@ abbrev OwnCells : Told → List ℕ → Type 0
 OwnCells (values l) cells = (n observed r : ℕ) (o : Order) → l ≡ n ∷ observed ∷ order_number o ∷ r ∷ [] → length cells ≡ n * row_size o
 OwnCells (refused number place) cells = cells ≡ []
 
-own-cells : (room : ℕ) (s : List ℕ) (a : Told) (cells : List ℕ) → LoadedAs room s a cells → OwnCells a cells
-own-cells room s a cells (short_memory h) = refl
-own-cells room s a cells (bad-text h place f) = refl
-own-cells room s a c (table h shape worst cells is) =
+own_cells : (room : ℕ) (s : List ℕ) (a : Told) (cells : List ℕ) → LoadedAs room s a cells → OwnCells a cells
+own_cells room s a cells (short_memory h) = refl
+own_cells room s a cells (bad_text h place f) = refl
+own_cells room s a c (table h shape worst cells is) =
     λ n observed r o e.
     let is-n : shape.rows ≡ n = cc in
-    let is-o = one-order shape.order o cc in
+    let is-o = one_order shape.order o cc in
     rw (← is-n, ← is-o) is.exact
 
 module _ (s t : List ℕ) where
@@ -278,18 +278,18 @@ module _ (s t : List ℕ) where
   room = length t
 
   -- what stands at the front of the table
-  used-at : (d : ℕ) → used_rows (answer s d) (written (to_write s d) t) ≡ to_write s d
-  used-at zero =
+  used_at : (d : ℕ) → used_rows (answer s d) (written (to_write s d) t) ≡ to_write s d
+  used_at zero =
       let cells = cells_in (shape_in s) s in
       take_at cells (drop (length cells) t) ((shape_in s).rows * row_size (shape_in s).order) (cells_length (shape_in s) s)
-  used-at (suc m) = refl
+  used_at (suc m) = refl
 
   load_used : used_rows (loaded_by room s) (table_after s t) ≡ cells_by room s
   unfolding loaded_by cells_by
   load_used =
       elim (test (ltb room table_size)) [
         | inl e ↦ rw e refl
-        | inr e ↦ rw e (used-at (fault_in s))
+        | inr e ↦ rw e (used_at (fault_in s))
       ]
 
   pub load_told : (r : Loaded) (after : List ℕ) → (r ≡ loaded_by room s) × (after ≡ table_after s t)
@@ -297,13 +297,13 @@ module _ (s t : List ℕ) where
   load_told r after e = rw (e.0, e.1, load_used) (load_due s room)
 
   own : (a : Told) → told_loaded (loaded_by room s) ≡ a → OwnCells a (cells_by room s)
-  own a e = subst (λ b. OwnCells b (cells_by room s)) e (own-cells room s (told_loaded (loaded_by room s)) (cells_by room s) (load_due s room))
+  own a e = subst (λ b. OwnCells b (cells_by room s)) e (own_cells room s (told_loaded (loaded_by room s)) (cells_by room s) (load_due s room))
 
   -- a refusal leaves the table as it was, and an answer all behind its rows
   pub table_kept : (number place : ℕ) → told_loaded (loaded_by room s) ≡ refused number place → table_after s t ≡ t
   table_kept number place e = ap (λ c. written c t) (own (refused number place) e)
 
-  pub table-rest : (n observed r : ℕ) (o : Order) → told_loaded (loaded_by room s) ≡ values (n ∷ observed ∷ order_number o ∷ r ∷ [])
+  pub table_rest : (n observed r : ℕ) (o : Order) → told_loaded (loaded_by room s) ≡ values (n ∷ observed ∷ order_number o ∷ r ∷ [])
       → drop (n * row_size o) (table_after s t) ≡ drop (n * row_size o) t
-  table-rest n observed r o e =
-      written-rest (cells_by room s) t (n * row_size o) (own (values (n ∷ observed ∷ order_number o ∷ r ∷ [])) e n observed r o refl)
+  table_rest n observed r o e =
+      written_rest (cells_by room s) t (n * row_size o) (own (values (n ∷ observed ∷ order_number o ∷ r ∷ [])) e n observed r o refl)

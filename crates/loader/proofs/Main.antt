@@ -35,28 +35,28 @@ module _ (s : List ℕ) (room : ℕ) (enough : table_size ≤ room) where
   loaded = LoadedIffDue.loaded_iff s room enough
 
   -- 17 is at the line at fault: the first that no table's text has, else the first whose ranks are not as they must be
-  pub bad-text : (place : ℕ) → (told_loaded (loaded_by room s) ≡ refused 17 place) ↔ FaultAt s place
-  bad-text = LoadedIffDue.fault_iff s room enough
+  pub bad_text : (place : ℕ) → (told_loaded (loaded_by room s) ≡ refused 17 place) ↔ FaultAt s place
+  bad_text = LoadedIffDue.fault_iff s room enough
 
 -- a text is the print of one table only
 pub one_table : (s : List ℕ) (a b : Shape) (v w : ℕ) (c d : List ℕ) → TableOf s a v c → TableOf s b w d → (a ≡ b) × (v ≡ w) × (c ≡ d)
 one_table = LoadedIffDue.one_table
 
 -- the print of a table is that of its rows, and of no more cells; it tells the shape, the order with it, but for signals that no row shows
-pub printed-table : (t : List ℕ) (shape : Shape) (worst : ℕ) → Printable t shape worst
+pub printed_table : (t : List ℕ) (shape : Shape) (worst : ℕ) → Printable t shape worst
     → TableOf (table_text t shape worst) (told_shape t shape) worst (take (shape.rows * row_size shape.order) t)
-printed-table = SameRows.table-of-print
+printed_table = SameRows.table_of_print
 
 -- a refusal leaves the table as it was, and an answer all behind its rows
 pub table_kept : (s t : List ℕ) (number place : ℕ) → told_loaded (loaded_by (length t) s) ≡ refused number place → table_after s t ≡ t
 table_kept = LoadedIffDue.table_kept
 
-pub table-rest : (s t : List ℕ) (n observed r : ℕ) (o : Order)
+pub table_rest : (s t : List ℕ) (n observed r : ℕ) (o : Order)
     → told_loaded (loaded_by (length t) s) ≡ values (n ∷ observed ∷ order_number o ∷ r ∷ [])
     → drop (n * row_size o) (table_after s t) ≡ drop (n * row_size o) t
-table-rest = LoadedIffDue.table-rest
+table_rest = LoadedIffDue.table_rest
 
 -- a text that is longer than a print can be is answered as its beginning is, one byte more than that
-pub longer-text : (s : List ℕ) → text_size < length s → (room : ℕ)
+pub longer_text : (s : List ℕ) → text_size < length s → (room : ℕ)
     → (told_loaded (loaded_by room (take (suc text_size) s)) ≡ told_loaded (loaded_by room s)) × (cells_by room (take (suc text_size) s) ≡ cells_by room s)
-longer-text = LongerText.longer_alike
+longer_text = LongerText.longer_alike

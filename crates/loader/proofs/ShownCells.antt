@@ -27,33 +27,33 @@ use Rattle.loader.specs.Candidate.{is_shown, limit_at}
 abbrev pub Shown : Order → ℕ → ℕ → Type 0
 Shown o n i = (shown_from o ≤ i) × (i < shown_from o + shown_count o n)
 
-pub shown-says : (o : Order) (n i : ℕ) → Says (is_shown o n i) (Shown o n i)
-shown-says o n i = says_and (le_says (shown_from o) i) (lt_says i (shown_from o + shown_count o n))
+pub shown_says : (o : Order) (n i : ℕ) → Says (is_shown o n i) (Shown o n i)
+shown_says o n i = says_and (le_says (shown_from o) i) (lt_says i (shown_from o + shown_count o n))
 
-pub choice-shown : (o : Order) (n s : ℕ) → s < n → Shown o n (choice_at o s)
-choice-shown Set n s h = (omega arith, omega arith)
-choice-shown Read n s h = (omega arith, omega arith)
+pub choice_shown : (o : Order) (n s : ℕ) → s < n → Shown o n (choice_at o s)
+choice_shown Set n s h = (omega arith, omega arith)
+choice_shown Read n s h = (omega arith, omega arith)
 
-pub next-shown : (o : Order) (n s : ℕ) → s < n → Shown o n (next_at o s)
-next-shown Set n s h = (omega arith, omega arith)
-next-shown Read n s h = (omega arith, omega arith)
+pub next_shown : (o : Order) (n s : ℕ) → s < n → Shown o n (next_at o s)
+next_shown Set n s h = (omega arith, omega arith)
+next_shown Read n s h = (omega arith, omega arith)
 
 -- a row of pairs: the first cell, a choice, or a next row
-pair-at : (i : ℕ) → (i ≡ 0) ⊎ ((s : ℕ) × ((i ≡ choice_at Read s) ⊎ (i ≡ next_at Read s)))
-pair-at zero = inl refl
-pair-at (suc i) =
-    elim (pair-at i) [
+pair_at : (i : ℕ) → (i ≡ 0) ⊎ ((s : ℕ) × ((i ≡ choice_at Read s) ⊎ (i ≡ next_at Read s)))
+pair_at zero = inl refl
+pair_at (suc i) =
+    elim (pair_at i) [
       | inl z ↦ inr (0, inl (omega arith))
       | inr (s, inl e) ↦ inr (s, inr (omega arith))
       | inr (s, inr e) ↦ inr (suc s, inl (omega arith))
     ]
 
 -- a printed cell is the choice or the next row for one of the observations
-pub shown-at : (o : Order) (n i : ℕ) → 0 < n → Shown o n i → (s : ℕ) × (s < n) × ((i ≡ choice_at o s) ⊎ (i ≡ next_at o s))
-shown-at Set n zero some h = (0, some, inl refl)
-shown-at Set n (suc s) some (l, b) = (s, omega arith, inr (omega arith))
-shown-at Read n i some (l, b) =
-    elim (pair-at i) [
+pub shown_at : (o : Order) (n i : ℕ) → 0 < n → Shown o n i → (s : ℕ) × (s < n) × ((i ≡ choice_at o s) ⊎ (i ≡ next_at o s))
+shown_at Set n zero some h = (0, some, inl refl)
+shown_at Set n (suc s) some (l, b) = (s, omega arith, inr (omega arith))
+shown_at Read n i some (l, b) =
+    elim (pair_at i) [
       | inl z ↦ absurd (omega arith)
       | inr (s, inl e) ↦ (s, omega arith, inl e)
       | inr (s, inr e) ↦ (s, omega arith, inr e)
@@ -65,20 +65,20 @@ abbrev pub OwnAt : Order → ℕ → ℕ → Type 0
 OwnAt Set s i = i ≡ next_at Set s
 OwnAt Read s i = (i ≡ choice_at Read s) ⊎ (i ≡ next_at Read s)
 
-pub own-before : (o : Order) (s i : ℕ) → s < side_limit → OwnAt o s i → i < rank_at o
-own-before Set s i h e = omega arith
-own-before Read s i h (inl e) = omega arith
-own-before Read s i h (inr e) = omega arith
+pub own_before : (o : Order) (s i : ℕ) → s < side_limit → OwnAt o s i → i < rank_at o
+own_before Set s i h e = omega arith
+own_before Read s i h (inl e) = omega arith
+own_before Read s i h (inr e) = omega arith
 
-pub own-some : (o : Order) (s i : ℕ) → OwnAt o s i → 0 < i
-own-some Set s i e = omega arith
-own-some Read s i (inl e) = omega arith
-own-some Read s i (inr e) = omega arith
+pub own_some : (o : Order) (s i : ℕ) → OwnAt o s i → 0 < i
+own_some Set s i e = omega arith
+own_some Read s i (inl e) = omega arith
+own_some Read s i (inr e) = omega arith
 
-pub own-hidden : (o : Order) (n s i : ℕ) → n ≤ s → OwnAt o s i → ¬ Shown o n i
-own-hidden Set n s i h e (l, b) = omega arith
-own-hidden Read n s i h (inl e) (l, b) = omega arith
-own-hidden Read n s i h (inr e) (l, b) = omega arith
+pub own_hidden : (o : Order) (n s i : ℕ) → n ≤ s → OwnAt o s i → ¬ Shown o n i
+own_hidden Set n s i h e (l, b) = omega arith
+own_hidden Read n s i h (inl e) (l, b) = omega arith
+own_hidden Read n s i h (inr e) (l, b) = omega arith
 
 -- a cell that is not printed, and not the rank, is the first, or an own cell of another observation
 hidden_at : (o : Order) (n i : ℕ) → i < rank_at o → ¬ Shown o n i → (i ≡ 0) ⊎ ((s : ℕ) × (s < side_limit) × (n ≤ s) × OwnAt o s i)
@@ -89,7 +89,7 @@ hidden_at Set n (suc s) b h =
       | no m ↦ absurd (h (omega arith, omega arith))
     ]
 hidden_at Read n i b h =
-    elim (pair-at i) [
+    elim (pair_at i) [
       | inl z ↦ inl z
       | inr (s, e) ↦
           elim (dec_le n s) [
@@ -107,16 +107,16 @@ hidden_at Read n i b h =
     within s (inr e) l = (omega arith, omega arith)
 
 module _ (o : Order) (t : List ℕ) (row s : ℕ) where
-  pub blank-own : (i : ℕ) → Blank o t row s → OwnAt o s i → cell o t row i ≡ 0
-  blank-own i = go o
+  pub blank_own : (i : ℕ) → Blank o t row s → OwnAt o s i → cell o t row i ≡ 0
+  blank_own i = go o
     where
       go : (o : Order) → Blank o t row s → OwnAt o s i → cell o t row i ≡ 0
       go Set b e = ap (cell Set t row) e ∙ b
       go Read b (inl e) = ap (cell Read t row) e ∙ b.0
       go Read b (inr e) = ap (cell Read t row) e ∙ b.1
 
-  pub blank-by : ((i : ℕ) → OwnAt o s i → cell o t row i ≡ 0) → Blank o t row s
-  blank-by = go o
+  pub blank_by : ((i : ℕ) → OwnAt o s i → cell o t row i ≡ 0) → Blank o t row s
+  blank_by = go o
     where
       go : (o : Order) → ((i : ℕ) → OwnAt o s i → cell o t row i ≡ 0) → Blank o t row s
       go Set f = f (next_at Set s) refl
@@ -161,7 +161,7 @@ module _ (t : List ℕ) (shape : Shape) (row : ℕ) (p : ShapedRow t shape row) 
   stop_zero e i b some =
       elim (hidden_at o 0 i b (none i some)) [
         | inl z ↦ absurd (omega arith)
-        | inr (s, h, l, own) ↦ blank-own o t row s i (p.blank s h (inl e)) own
+        | inr (s, h, l, own) ↦ blank_own o t row s i (p.blank s h (inl e)) own
       ]
     where
       none : (i : ℕ) → 0 < i → ¬ Shown shape.order 0 i
@@ -172,9 +172,9 @@ module _ (t : List ℕ) (shape : Shape) (row : ℕ) (p : ShapedRow t shape row) 
           go Read some (l, b) = omega arith
 
   module _ (goes : ¬ (first_cell o t row ≡ stop_cell)) (i : ℕ) where
-    pub shown-low : Shown o n i → cell o t row i < limit_at o shape.rows i
-    shown-low h =
-        let (s, b, at) = shown-at o n i (pow_pos shape.observed) h in
+    pub shown_low : Shown o n i → cell o t row i < limit_at o shape.rows i
+    shown_low h =
+        let (s, b, at) = shown_at o n i (pow_pos shape.observed) h in
         let g = p.formed.goes s (goes, b) in
         elim at [
           | inl e ↦ subst (λ (k : ℕ). cell o t row k < limit_at o shape.rows k) (sym e) (rw (choice_limit o shape.rows s) g.choice)
@@ -185,5 +185,5 @@ module _ (t : List ℕ) (shape : Shape) (row : ℕ) (p : ShapedRow t shape row) 
     hidden_zero b h =
         elim (hidden_at o n i b h) [
           | inl z ↦ ap (cell o t row) z ∙ first_zero o n (first_cell o t row) (λ x. h (subst (Shown o n) (sym z) x)) p.formed.first goes
-          | inr (s, l, m, own) ↦ blank-own o t row s i (p.blank s l (inr m)) own
+          | inr (s, l, m, own) ↦ blank_own o t row s i (p.blank s l (inr m)) own
         ]

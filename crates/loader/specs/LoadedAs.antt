@@ -120,16 +120,16 @@ pub record Begins (k : ℕ) (s : List ℕ) : Type 0 where
 -- the line at fault, counted from 1
 pub data FaultAt (s : List ℕ) : ℕ → Type 0 where
   -- first in the text, whatever the ranks: one more than the greatest number of leading lines that also begin the text of some table
-  bad-line : (¬ IsText s) → (good : ℕ) → Begins good s → ((j : ℕ) → Begins j s → j ≤ good) → FaultAt s (suc good)
+  bad_line : (¬ IsText s) → (good : ℕ) → Begins good s → ((j : ℕ) → Begins j s → j ≤ good) → FaultAt s (suc good)
   -- then in the ranks: line 1 where the worst case is not the rank of row 0 ..
-  bad-worst : (t : List ℕ) (shape : Shape) (worst : ℕ) → TextOf s t shape worst → (¬ (rank_cell shape.order t 0 ≡ worst)) → FaultAt s 1
+  bad_worst : (t : List ℕ) (shape : Shape) (worst : ℕ) → TextOf s t shape worst → (¬ (rank_cell shape.order t 0 ≡ worst)) → FaultAt s 1
   -- .. else the line of the first row whose ranks are not as they must be
-  bad-rank : (t : List ℕ) (shape : Shape) (worst : ℕ) → TextOf s t shape worst → rank_cell shape.order t 0 ≡ worst
+  bad_rank : (t : List ℕ) (shape : Shape) (worst : ℕ) → TextOf s t shape worst → rank_cell shape.order t 0 ≡ worst
       → (i : ℕ) → i < shape.rows → (¬ RankedRow t shape i) → ((j : ℕ) → j < i → RankedRow t shape j) → FaultAt s (2 + i)
 
 -- for a text to be loaded into so many cells: the answer, and the cells that are written
 pub data LoadedAs (room : ℕ) (s : List ℕ) : Told → List ℕ → Type 0 where
   short_memory : room < table_size → LoadedAs room s (refused 12 0) []
-  bad-text : table_size ≤ room → (place : ℕ) → FaultAt s place → LoadedAs room s (refused 17 place) []
+  bad_text : table_size ≤ room → (place : ℕ) → FaultAt s place → LoadedAs room s (refused 17 place) []
   table : table_size ≤ room → (shape : Shape) (worst : ℕ) (cells : List ℕ) → TableOf s shape worst cells
       → LoadedAs room s (values (shape.rows ∷ shape.observed ∷ order_number shape.order ∷ worst ∷ [])) cells

@@ -17,9 +17,9 @@ use Rattle.formula.specs.Parts.{byte_of, is_temporal, last_of, part_at}
 use Rattle.formula.specs.Values.{owed}
 use Rattle.formula.proofs.ValuesLaws.{with_same}
 use Rattle.obligations.specs.Obligation.{is_operator, operators_of, number_of, spots, value_at, owed_at, back}
-use Rattle.basics.proofs.BitsLaws.{bit-from_bits, from_bits_lt, bit_mod, bit-out}
+use Rattle.basics.proofs.BitsLaws.{bit-from_bits, from_bits_lt, bit_mod, bit_out}
 use Rattle.basics.proofs.ListsLaws.{get_d_map_in, map_ext_in}
-use Rattle.obligations.proofs.OperatorSpots.{number_lt, spot-at, length_spots}
+use Rattle.obligations.proofs.OperatorSpots.{number_lt, spot_at, length_spots}
 
 module _ (ps : List Part) where
   -- ---- the operators
@@ -34,14 +34,14 @@ module _ (ps : List Part) where
           absurd (false≢true (sym (ap (λ q. is_temporal (byte_of q.kind)) (get_or-eq_default ps _ {n = i} (ltb-false i (length ps) e))) ∙ t))
 
   -- an operator's obligation has a number below that of the whole formula's
-  number-below : (i : ℕ) → is_operator ps i ≡ true → number_of ps i < operators_of ps
+  number_below_lem : (i : ℕ) → is_operator ps i ≡ true → number_of ps i < operators_of ps
   unfolding operators_of
-  number-below i t = number_lt ps i (length ps) (operator_in i t) t
+  number_below_lem i t = number_lt ps i (length ps) (operator_in i t) t
 
   -- where it stands among the operators
-  spot-number : (i d : ℕ) → is_operator ps i ≡ true → get_or (spots ps) (number_of ps i) d ≡ i
+  spot_number : (i d : ℕ) → is_operator ps i ≡ true → get_or (spots ps) (number_of ps i) d ≡ i
   unfolding spots
-  spot-number i d t = spot-at ps (length ps) i d (operator_in i t) t
+  spot_number i d t = spot_at ps (length ps) i d (operator_in i t) t
 
   -- ---- patterns with a bit for each operator and one on top
 
@@ -59,10 +59,10 @@ module _ (ps : List Part) where
         bit-from_bits _ k ∙ get_or-append (map f (spots ps)) (b ∷ []) false k (rw length-map l) ∙ get_d_map_in f (spots ps) k 0 false l
 
     pub pattern_own : (i : ℕ) → is_operator ps i ≡ true → bit (from_bits (map f (spots ps) ++ (b ∷ []))) (number_of ps i) ≡ f i
-    pattern_own i t = pattern_low (number_of ps i) (number-below i t) ∙ ap f (spot-number i 0 t)
+    pattern_own i t = pattern_low (number_of ps i) (number_below_lem i t) ∙ ap f (spot_number i 0 t)
 
     pub pattern_above : (k : ℕ) → operators_of ps < k → bit (from_bits (map f (spots ps) ++ (b ∷ []))) k ≡ false
-    pattern_above k h = bit-out _ k (lt_of_lt_of_le pattern_lt (pow_mono {i = suc (operators_of ps)} {j = k} h))
+    pattern_above k h = bit_out _ k (lt_of_lt_of_le pattern_lt (pow_mono {i = suc (operators_of ps)} {j = k} h))
 
     pub pattern_whole : bit (from_bits (map f (spots ps) ++ (b ∷ []))) (operators_of ps) ≡ b
     pattern_whole =
@@ -80,7 +80,7 @@ module _ (ps : List Part) where
   -- values read only the operators' bits
   value_low : (a p q i : ℕ) → p % 2 ^ operators_of ps ≡ q % 2 ^ operators_of ps → value_at ps a p i ≡ value_at ps a q i
   unfolding value_at
-  value_low a p q i e = with_same ps a _ _ i (λ n l t. own n (number-below n t))
+  value_low a p q i e = with_same ps a _ _ i (λ n l t. own n (number_below_lem n t))
     where
       own : (n : ℕ) → number_of ps n < operators_of ps → bit p (number_of ps n) ≡ bit q (number_of ps n)
       own n h =

@@ -52,8 +52,8 @@ low_field x y z a = omega arith
 middle_field : (x y z : ℕ) → x < kind_size → y < kind_size → letter_from x y z / kind_size % kind_size ≡ y
 middle_field x y z a b = omega arith
 
-high-field : (x y z : ℕ) → x < kind_size → y < kind_size → letter_from x y z / (kind_size * kind_size) ≡ z
-high-field x y z a b = omega arith
+high_field : (x y z : ℕ) → x < kind_size → y < kind_size → letter_from x y z / (kind_size * kind_size) ≡ z
+high_field x y z a b = omega arith
 
 -- ---- the number of a letter
 
@@ -69,36 +69,36 @@ module _ (c : Counts) (x y z : ℕ) (a : x < 2 ^ c.outputs) (b : y < 2 ^ c.obser
       (λ k. 2 ^ k) (omega arith) in
       subst (λ n. (z * 2 ^ c.observed + y) * 2 ^ c.outputs + x < n) e (digits_lt (digits_lt d b) a)
 
-  number-high : number / 2 ^ (c.outputs + c.observed) ≡ z
+  number_high : number / 2 ^ (c.outputs + c.observed) ≡ z
   unfolding number
-  number-high =
+  number_high =
       sym (shr-shr number c.outputs c.observed)
       ∙ ap (λ n. n / 2 ^ c.observed) (digits_div (z * 2 ^ c.observed + y) a)
       ∙ digits_div z b
 
-  number-letter : letter_of c number ≡ letter_from x y z
+  number_letter : letter_of c number ≡ letter_from x y z
   unfolding number
-  number-letter =
-      rw (number-high, digits_mod (z * 2 ^ c.observed + y) a, digits_div (z * 2 ^ c.observed + y) a, digits_mod z b) refl
+  number_letter =
+      rw (number_high, digits_mod (z * 2 ^ c.observed + y) a, digits_div (z * 2 ^ c.observed + y) a, digits_mod z b) refl
 
   -- the letter of three values that the signals can have is listed
-  pub letter-listed : letter_from x y z ∈ letters_of c
+  pub letter_listed : letter_from x y z ∈ letters_of c
   unfolding letters_of
-  letter-listed = (in_tabulate (letter_count c) (letter_of c) (letter_from x y z)).1 (number, number_lt, number-letter)
+  letter_listed = (in_tabulate (letter_count c) (letter_of c) (letter_from x y z)).1 (number, number_lt, number_letter)
 
 -- ---- few signals of each kind
 
 module _ (c : Counts) (ho : c.outputs ≤ kind_limit) (hs : c.observed ≤ kind_limit) (hh : c.hidden ≤ kind_limit) where
   -- the letter of three values that the signals can have has no other bit
-  letter-is : (x y z : ℕ) → x < 2 ^ c.outputs → y < 2 ^ c.observed → z < 2 ^ c.hidden → is_letter c (letter_from x y z) ≡ true
+  letter_is : (x y z : ℕ) → x < 2 ^ c.outputs → y < 2 ^ c.observed → z < 2 ^ c.hidden → is_letter c (letter_from x y z) ≡ true
   unfolding is_letter
-  letter-is x y z a b d =
+  letter_is x y z a b d =
       let p = lt_of_lt_of_le a (field_le c.outputs ho) in
       let q = lt_of_lt_of_le b (field_le c.observed hs) in
       rw (
         low_field x y z p,
         middle_field x y z p q,
-        high-field x y z p q,
+        high_field x y z p q,
         lt-ltb x (2 ^ c.outputs) a,
         lt-ltb y (2 ^ c.observed) b,
         lt-ltb z (2 ^ c.hidden) d,
@@ -118,8 +118,8 @@ module _ (c : Counts) (ho : c.outputs ≤ kind_limit) (hs : c.observed ≤ kind_
     first_small : i % 2 ^ c.outputs < kind_size
     first_small = lt_of_lt_of_le first_lt (field_le c.outputs ho)
 
-    second-small : i / 2 ^ c.outputs % 2 ^ c.observed < kind_size
-    second-small = lt_of_lt_of_le second_lt (field_le c.observed hs)
+    second_small : i / 2 ^ c.outputs % 2 ^ c.observed < kind_size
+    second_small = lt_of_lt_of_le second_lt (field_le c.observed hs)
 
     third_small : i / 2 ^ (c.outputs + c.observed) < kind_size
     third_small = lt_of_lt_of_le third_lt (field_le c.hidden hh)
@@ -134,19 +134,19 @@ module _ (c : Counts) (ho : c.outputs ≤ kind_limit) (hs : c.observed ≤ kind_
     pub letter_code : coded ≡ letter_of c i
     letter_code =
         rw (shl_one c.outputs (omega arith), shl_one c.observed (omega arith), and_mask i c.outputs, and_mask (i / 2 ^ c.outputs) c.observed)
-        (join_fields (i % 2 ^ c.outputs) (i / 2 ^ c.outputs % 2 ^ c.observed) (i / 2 ^ (c.outputs + c.observed)) first_small second-small third_small)
+        (join_fields (i % 2 ^ c.outputs) (i / 2 ^ c.outputs % 2 ^ c.observed) (i / 2 ^ (c.outputs + c.observed)) first_small second_small third_small)
 
     letter_lt : letter_of c i < kind_size * kind_size * kind_size
-    letter_lt = omega (arith, first_small, second-small, third_small)
+    letter_lt = omega (arith, first_small, second_small, third_small)
 
     -- it fits two bytes
-    pub letter-fits : coded < 2 ^ 16
-    letter-fits = subst (λ n. n < 2 ^ 16) (sym letter_code) (lt_of_lt_of_le letter_lt (lit≤ tt))
+    pub letter_fits : coded < 2 ^ 16
+    letter_fits = subst (λ n. n < 2 ^ 16) (sym letter_code) (lt_of_lt_of_le letter_lt (lit≤ tt))
 
   -- the letters by number are those that pass the test ..
-  letters-exact : (a : ℕ) → (a ∈ letters_of c) ↔ (is_letter c a ≡ true)
+  letters_exact : (a : ℕ) → (a ∈ letters_of c) ↔ (is_letter c a ≡ true)
   unfolding letters_of is_letter
-  letters-exact a = (to, λ e. from (all_true (ltb low (2 ^ c.outputs)) (ltb middle (2 ^ c.observed)) (ltb high (2 ^ c.hidden)) e))
+  letters_exact a = (to, λ e. from (all_true (ltb low (2 ^ c.outputs)) (ltb middle (2 ^ c.observed)) (ltb high (2 ^ c.hidden)) e))
     where
       low : ℕ
       low = a % kind_size
@@ -160,18 +160,18 @@ module _ (c : Counts) (ho : c.outputs ≤ kind_limit) (hs : c.observed ≤ kind_
       to : a ∈ tabulate (letter_count c) (letter_of c) → is_letter c a ≡ true
       to m =
           let r = (in_tabulate (letter_count c) (letter_of c) a).0 m in
-          subst (λ n. is_letter c n ≡ true) r.2 (letter-is _ _ _ (first_lt r.0 r.1) (second_lt r.0 r.1) (third_lt r.0 r.1))
+          subst (λ n. is_letter c n ≡ true) r.2 (letter_is _ _ _ (first_lt r.0 r.1) (second_lt r.0 r.1) (third_lt r.0 r.1))
 
       from : (ltb low (2 ^ c.outputs) ≡ true) × (ltb middle (2 ^ c.observed) ≡ true) × (ltb high (2 ^ c.hidden) ≡ true) → a ∈ letters_of c
       from t =
           let whole : letter_from (a % kind_size) (a / kind_size % kind_size) (a / (kind_size * kind_size)) ≡ a = omega arith in
           subst (λ n. n ∈ letters_of c) whole
-          (letter-listed c low middle high (ltb-true low (2 ^ c.outputs) t.0) (ltb-true middle (2 ^ c.observed) t.1)
+          (letter_listed c low middle high (ltb-true low (2 ^ c.outputs) t.0) (ltb-true middle (2 ^ c.observed) t.1)
           (ltb-true high (2 ^ c.hidden) t.2))
 
   -- .. so those of the declared signals, and no others
-  pub letters-are : (a : ℕ) → (a ∈ letters_of c) ↔ IsLetter c a
-  letters-are a =
-      let (to, from) = letters-exact a in
+  pub letters_are : (a : ℕ) → (a ∈ letters_of c) ↔ IsLetter c a
+  letters_are a =
+      let (to, from) = letters_exact a in
       let (is, was) = letter_iff c (ho, hs, hh) a in
       (λ m. is (to m), λ l. from (was l))

@@ -38,9 +38,9 @@ module _ (ps : List Part) where
   number_lt i n h t = omega (arith, number_le (suc i) n h, ap digit t)
 
   -- so all numbers are small if there are few operators
-  pub number-few : (i : ℕ) → i ≤ length ps → number_of ps i ≤ operators_of ps
+  pub number_few : (i : ℕ) → i ≤ length ps → number_of ps i ≤ operators_of ps
   unfolding operators_of
-  number-few i h = number_le i (length ps) h
+  number_few i h = number_le i (length ps) h
 
   -- as many places as operators
   pub length_spots_to : (n : ℕ) → length (spots_to ps n) ≡ number_of ps n
@@ -53,10 +53,10 @@ module _ (ps : List Part) where
   length_spots = length_spots_to (length ps)
 
   -- an operator's place stands at its number
-  pub spot-at : (n i d : ℕ) → i < n → is_operator ps i ≡ true → get_or (spots_to ps n) (number_of ps i) d ≡ i
+  pub spot_at : (n i d : ℕ) → i < n → is_operator ps i ≡ true → get_or (spots_to ps n) (number_of ps i) d ≡ i
   unfolding spots_to
-  spot-at zero i d l t = absurd (omega arith)
-  spot-at (suc n) i d l t = at (λ k. spot-at n i d k t) (eq-or-lt_of_le (le_of_suc-le-suc l))
+  spot_at zero i d l t = absurd (omega arith)
+  spot_at (suc n) i d l t = at (λ k. spot_at n i d k t) (eq-or-lt_of_le (le_of_suc-le-suc l))
     where
       at : (i < n → get_or (spots_to ps n) (number_of ps i) d ≡ i) → (i ≡ n) ⊎ (i < n) → get_or (spots_to ps (suc n)) (number_of ps i) d ≡ i
       at ih (inl e) =
@@ -66,10 +66,10 @@ module _ (ps : List Part) where
           get_or-append (spots_to ps n) _ d (number_of ps i) (rw (length_spots_to n) (number_lt i n k t)) ∙ ih k
 
   -- what stands at a place is an operator
-  spot-to : (n i : ℕ) → i ∈ spots_to ps n → (i < n) × (is_operator ps i ≡ true)
+  spot_to : (n i : ℕ) → i ∈ spots_to ps n → (i < n) × (is_operator ps i ≡ true)
   unfolding spots_to
-  spot-to zero i m = absurd (Memᴰ.not-nil m)
-  spot-to (suc n) i m = at (λ k. spot-to n i k) (is_operator ps n) refl (Memᴰ.append_cases (spots_to ps n) m)
+  spot_to zero i m = absurd (Memᴰ.not-nil m)
+  spot_to (suc n) i m = at (λ k. spot_to n i k) (is_operator ps n) refl (Memᴰ.append_cases (spots_to ps n) m)
     where
       at : (i ∈ spots_to ps n → (i < n) × (is_operator ps i ≡ true)) → (b : Bool) → is_operator ps n ≡ b
           → (i ∈ spots_to ps n) ⊎ (i ∈ only_if b n) → (i < suc n) × (is_operator ps i ≡ true)
@@ -81,20 +81,20 @@ module _ (ps : List Part) where
 
   pub spot_is : (i : ℕ) → i ∈ spots ps → (i < length ps) × (is_operator ps i ≡ true)
   unfolding spots
-  spot_is i m = spot-to (length ps) i m
+  spot_is i m = spot_to (length ps) i m
 
 -- ---- a list that begins with all places
 
 module _ (ps : List Part) (listed : List ℕ) (d : ℕ) (count : d ≡ operators_of ps) (front : take d listed ≡ spots ps) (k : ℕ) (h : k < d) where
-  pub listed-is : get_or listed k 0 ≡ get_or (spots ps) k 0
-  listed-is = sym (get_or-take d listed k 0 h) ∙ ap (λ l. get_or l k 0) front
+  pub listed_is : get_or listed k 0 ≡ get_or (spots ps) k 0
+  listed_is = sym (get_or-take d listed k 0 h) ∙ ap (λ l. get_or l k 0) front
 
-  pub listed-held : k < length listed
-  listed-held = omega (arith, length_spots ps, ap length front, length-take d listed, min-le_right d (length listed))
+  pub listed_held : k < length listed
+  listed_held = omega (arith, length_spots ps, ap length front, length-take d listed, min-le_right d (length listed))
 
-  pub listed-spot : (get_or listed k 0 < length ps) × (is_operator ps (get_or listed k 0) ≡ true)
-  listed-spot =
-      subst (λ i. (i < length ps) × (is_operator ps i ≡ true)) (sym listed-is)
+  pub listed_spot : (get_or listed k 0 < length ps) × (is_operator ps (get_or listed k 0) ≡ true)
+  listed_spot =
+      subst (λ i. (i < length ps) × (is_operator ps i ≡ true)) (sym listed_is)
       (spot_is ps _ (get_d_in (spots ps) k 0 (omega (arith, length_spots ps))))
 
 -- ---- the operators of a formula
@@ -105,7 +105,7 @@ number_cons q ps zero = omega arith
 number_cons q ps (suc n) = omega (arith, number_cons q ps n)
 
 -- as many as there are bytes that stand for one
-pub operators-are : (ps : List Part) → operators_of ps ≡ temporals (kinds_of ps)
+pub operators_are : (ps : List Part) → operators_of ps ≡ temporals (kinds_of ps)
 unfolding operators_of number_of temporals
-operators-are [] = refl
-operators-are (q ∷ ps) = number_cons q ps (length ps) ∙ ap (λ m. digit (is_temporal (byte_of q.kind)) + m) (operators-are ps)
+operators_are [] = refl
+operators_are (q ∷ ps) = number_cons q ps (length ps) ∙ ap (λ m. digit (is_temporal (byte_of q.kind)) + m) (operators_are ps)

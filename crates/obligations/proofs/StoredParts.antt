@@ -18,7 +18,7 @@ use Rattle.formula.proofs.CodesLaws.{length_in}
 use Rattle.basics.proofs.ListsLaws.{length_tabulate, get_d_tabulate}
 use Rattle.obligations.specs.Obligation.{is_operator, number_of, operators_of}
 use Rattle.obligations.specs.Values.{Stored, numbers_of}
-use Rattle.obligations.proofs.OperatorSpots.{number-few}
+use Rattle.obligations.proofs.OperatorSpots.{number_few}
 
 -- the operator of a temporal part has an operand
 temporal_arity : (k : Op) → is_temporal (byte_of k) ≡ true → 1 ≤ arity k
@@ -40,18 +40,18 @@ module _ (codes : List ℕ) (s : Stored codes) where
   abbrev ps : List Part
   ps = parts_in codes
 
-  pub operators-few : (d : ℕ) → d ≡ operators_of ps → d ≤ operator_limit
-  operators-few d e = subst (λ n. n ≤ operator_limit) (sym e) s.operators
+  pub operators_few : (d : ℕ) → d ≡ operators_of ps → d ≤ operator_limit
+  operators_few d e = subst (λ n. n ≤ operator_limit) (sym e) s.operators
 
   -- an operator's operand is one of the parts
-  pub left-inside : (i : ℕ) → i < length codes → is_operator ps i ≡ true → (part_at ps i).left < length codes
-  left-inside i h t = s.inside i h (temporal_arity (part_at ps i).kind t)
+  pub left_inside : (i : ℕ) → i < length codes → is_operator ps i ≡ true → (part_at ps i).left < length codes
+  left_inside i h t = s.inside i h (temporal_arity (part_at ps i).kind t)
 
   -- the numbers of the parts as code keeps them
   module _ (ns : List ℕ) (numbered : take (length codes) ns ≡ numbers_of ps) (i : ℕ) (h : i < length codes) where
-    pub number-there : i < length ns
+    pub number_there : i < length ns
     unfolding numbers_of
-    number-there =
+    number_there =
         let e : length (take (length codes) ns) ≡ length ps = ap length numbered ∙ length_tabulate (length ps) (number_of ps) in
         omega (arith, length_in codes, length-take (length codes) ns, min-le_right (length codes) (length ns))
 
@@ -62,4 +62,4 @@ module _ (codes : List ℕ) (s : Stored codes) where
         ∙ get_d_tabulate (length ps) (number_of ps) i 0 (subst (λ n. i < n) (sym (length_in codes)) h)
 
     pub number_small : get_or ns i 0 < word_size
-    number_small = omega (arith, number_at, number-few ps i (omega (arith, length_in codes)), s.operators)
+    number_small = omega (arith, number_at, number_few ps i (omega (arith, length_in codes)), s.operators)

@@ -14,7 +14,7 @@ use Rattle.basics.specs.Bits.{bit}
 use Rattle.basics.specs.Limits.{word_bits, word_size}
 use Rattle.formula.specs.Values.{combine, owed}
 use Rattle.obligations.specs.Words.{lanes, all_lanes, obligation_lanes, combine_lanes, owed_lanes}
-use Rattle.basics.proofs.BitsLaws.{bit-low, bit_high, bit_zero, bit_mod, bit-table, table_lt, table_unique}
+use Rattle.basics.proofs.BitsLaws.{bit_low, bit_high, bit_zero, bit_mod, bit_table, table_lt, table_unique}
 
 -- ---- single bits
 
@@ -55,7 +55,7 @@ bit_not zero x j h l = absurd (omega arith)
 bit_not (suc n) x zero h l =
     let e : 2 ^ suc n ≡ 2 ^ n * 2 = pow-suc 2 n in
     let p : (2 ^ suc n - 1 - x) % 2 ≡ 1 - x % 2 = omega arith in
-    bit-low (2 ^ suc n - 1 - x) ∙ ap (λ m. eqb m 1) p ∙ odd_not (x % 2) (odd_lt x) ∙ ap not (sym (bit-low x))
+    bit_low (2 ^ suc n - 1 - x) ∙ ap (λ m. eqb m 1) p ∙ odd_not (x % 2) (odd_lt x) ∙ ap not (sym (bit_low x))
 bit_not (suc n) x (suc j) h l =
     let e : 2 ^ suc n ≡ 2 ^ n * 2 = pow-suc 2 n in
     let p : (2 ^ suc n - 1 - x) / 2 ≡ 2 ^ n - 1 - x / 2 = omega arith in
@@ -64,9 +64,9 @@ bit_not (suc n) x (suc j) h l =
 
 -- ---- words of answers
 
-pub bit-lanes : (f : ℕ → Bool) (j : ℕ) → j < word_size → bit (lanes f) j ≡ f j
+pub bit_lanes : (f : ℕ → Bool) (j : ℕ) → j < word_size → bit (lanes f) j ≡ f j
 unfolding lanes
-bit-lanes f = bit-table word_size f
+bit_lanes f = bit_table word_size f
 
 lanes_lt : (f : ℕ → Bool) → lanes f < 2 ^ word_size
 unfolding lanes
@@ -77,7 +77,7 @@ unfolding lanes
 lanes_unique f = table_unique word_size f
 
 pub lanes_ext : (f g : ℕ → Bool) → ((j : ℕ) → j < word_size → f j ≡ g j) → lanes f ≡ lanes g
-lanes_ext f g e = lanes_unique g (lanes f) (lanes_lt f) (λ j h. bit-lanes f j h ∙ e j h)
+lanes_ext f g e = lanes_unique g (lanes f) (lanes_lt f) (λ j h. bit_lanes f j h ∙ e j h)
 
 -- the number x has a word's bits, and they are the answers of f
 pub record Carries (x : ℕ) (f : ℕ → Bool) : Type 0 where
@@ -114,8 +114,8 @@ all = nots none
 bit_below : (n w j k : ℕ) → k < n → bit (w * 2 ^ n + j) k ≡ bit j k
 bit_below n w j k h = sym (bit_mod (w * 2 ^ n + j) n k h) ∙ ap (λ x. bit x k) (mul-add-mod_self_right w (2 ^ n) j) ∙ bit_mod j n k h
 
-bit-above : (n w j k : ℕ) → n ≤ k → j < 2 ^ n → bit (w * 2 ^ n + j) k ≡ bit w (k - n)
-bit-above n w j k h l =
+bit_above : (n w j k : ℕ) → n ≤ k → j < 2 ^ n → bit (w * 2 ^ n + j) k ≡ bit w (k - n)
+bit_above n w j k h l =
     let e : k ≡ n + (k - n) = omega arith in
     ap (λ m. eqb (m % 2) 1)
     (ap (λ m. (w * 2 ^ n + j) / 2 ^ m) e ∙ sym (shr-shr (w * 2 ^ n + j) n (k - n)) ∙ ap (λ m. m / 2 ^ (k - n)) (digits_div w l))
@@ -133,7 +133,7 @@ pub obligation_high : (x k w : ℕ) → word_bits ≤ k → x ≡ all_lanes (eqb
 unfolding all_lanes obligation_lanes
 obligation_high x k w h r =
     r ∙ ap (λ m. all_lanes (eqb m 1)) (and_mask (w / 2 ^ (k - word_bits)) 1)
-    ∙ lanes_ext (λ j. bit w (k - word_bits)) (λ j. bit (w * word_size + j) k) (λ j l. sym (bit-above word_bits w j k h l))
+    ∙ lanes_ext (λ j. bit w (k - word_bits)) (λ j. bit (w * word_size + j) k) (λ j l. sym (bit_above word_bits w j k h l))
 
 -- ---- a part, lane by lane
 

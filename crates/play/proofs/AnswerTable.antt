@@ -20,19 +20,19 @@ use Rattle.play.specs.History.{History}
 use Rattle.play.specs.Table.{followers, rows, table_cells}
 use Rattle.play.specs.IsTable.{RankIs, IsTable}
 use Rattle.play.specs.Answer.{start_rank, solved, unrealizable, verdict_of}
-use Rattle.basics.proofs.BoundedLaws.{first_passes, first-least}
+use Rattle.basics.proofs.BoundedLaws.{first_passes, first_least}
 use Rattle.play.proofs.StepOrder.{StepOrder, order_of}
 use Rattle.play.proofs.RankLaws.{In}
 use Rattle.play.proofs.Optimality.{descends}
 use Rattle.play.proofs.FiniteArena.{Closed}
-use Rattle.play.proofs.RankedRows.{rows-listed}
+use Rattle.play.proofs.RankedRows.{rows_listed}
 use Rattle.play.proofs.HistoryLaws.{Tells}
-use Rattle.play.proofs.TableIs.{table_is, start-rank-is, only-table, only-rank}
+use Rattle.play.proofs.TableIs.{table_is, start_rank_is, only_table, only_rank}
 
 -- for a list of positions that has the start and is closed under moves
 module _ (o : Order) (A : Arena) (same : A.K → A.K → Bool) (says : (a b : A.K) → Says (same a b) (a ≡ b)) (choices observations : ℕ)
-    (some-observation : 0 < observations) (few-choices : choices < stop_cell) (few-observations : observations ≤ side_limit)
-    (all : List A.K) (closed_all : Closed (order_of o choices observations) A some-observation all) (start_in : A.start ∈ all)
+    (some_observation : 0 < observations) (few_choices : choices < stop_cell) (few_observations : observations ≤ side_limit)
+    (all : List A.K) (closed_all : Closed (order_of o choices observations) A some_observation all) (start_in : A.start ∈ all)
     (Same : History → History → Type 0) (Final : History → Type 0) (tells : Tells A choices observations Same Final) where
   abbrev n : ℕ
   n = length all
@@ -45,14 +45,14 @@ module _ (o : Order) (A : Arena) (same : A.K → A.K → Bool) (says : (a b : A.
 
   listed : r < n → (ks : List A.K) × (reachable same (followers o A same choices observations n) A.start n ≡ closed ks)
   listed ranked =
-      rows-listed O A same says some-observation all closed_all start_in n (le_refl n)
+      rows_listed O A same says some_observation all closed_all start_in n (le_refl n)
       (best_answer o A choices observations n) (descends o A choices observations n)
-      r ranked (first_passes (λ q. In O A q A.start) n ranked, first-least (λ q. In O A q A.start) n)
+      r ranked (first_passes (λ q. In O A q A.start) n ranked, first_least (λ q. In O A q A.start) n)
 
   -- a verdict with a table: the start has a rank, and the table is the one of the best answers
-  solved-is : (m q : ℕ) (cells : List ℕ) → verdict_of o A same choices observations n ≡ solved m q cells
+  solved_is : (m q : ℕ) (cells : List ℕ) → verdict_of o A same choices observations n ≡ solved m q cells
       → (r < n) × (m ≡ length (rows o A same choices observations n)) × (q ≡ r) × (cells ≡ table_cells o A same choices observations n)
-  solved-is m q cells = at (ltb r n) refl
+  solved_is m q cells = at (ltb r n) refl
     where
       no_table : unrealizable ≡ solved m q cells → ⊥
       no_table e = let z : ◌≡◌ {A = ℕ} 0 1 = cc in absurd (omega arith)
@@ -63,14 +63,14 @@ module _ (o : Order) (A : Arena) (same : A.K → A.K → Bool) (says : (a b : A.
       at true e f = (ltb-true r n e, cc, cc, cc)
       at false e f = absurd (no_table f)
 
-  pub answer-table : (m q : ℕ) (cells : List ℕ) → verdict_of o A same choices observations n ≡ solved m q cells
+  pub answer_table : (m q : ℕ) (cells : List ℕ) → verdict_of o A same choices observations n ≡ solved m q cells
       → IsTable o choices observations Same Final m cells × RankIs o choices observations Final [] q
-  answer-table m q cells e =
-      let (ranked, is_m, is-q, is-cells) = solved-is m q cells e in
+  answer_table m q cells e =
+      let (ranked, is_m, is-q, is-cells) = solved_is m q cells e in
       let (ks, l) = listed ranked in
       rw (is_m, is-q, is-cells) (
-        table_is o A same says choices observations n some-observation few-choices few-observations ks l ranked Same Final tells,
-        start-rank-is o A same says choices observations n some-observation few-choices few-observations ks l ranked Same Final tells,
+        table_is o A same says choices observations n some_observation few_choices few_observations ks l ranked Same Final tells,
+        start_rank_is o A same says choices observations n some_observation few_choices few_observations ks l ranked Same Final tells,
       )
 
   -- there is no other
@@ -78,9 +78,9 @@ module _ (o : Order) (A : Arena) (same : A.K → A.K → Bool) (says : (a b : A.
       → (k s : ℕ) (t : List ℕ) → IsTable o choices observations Same Final k t → RankIs o choices observations Final [] s
       → (k ≡ m) × (s ≡ q) × (t ≡ cells)
   one_answer m q cells e k s t T R =
-      let (ranked, is_m, is-q, is-cells) = solved-is m q cells e in
+      let (ranked, is_m, is-q, is-cells) = solved_is m q cells e in
       let (ks, l) = listed ranked in
       let (same-k, same-t) =
-      only-table o A same says choices observations n some-observation few-choices few-observations ks l ranked Same Final tells k t T in
-      let same_s = only-rank o A same says choices observations n some-observation few-choices few-observations ks l ranked Same Final tells s R in
+      only_table o A same says choices observations n some_observation few_choices few_observations ks l ranked Same Final tells k t T in
+      let same_s = only_rank o A same says choices observations n some_observation few_choices few_observations ks l ranked Same Final tells s R in
       (same-k ∙ sym is_m, same_s ∙ sym is-q, same-t ∙ sym is-cells)

@@ -26,48 +26,48 @@ use Rattle.play.specs.Cells.{Blank, stop_row, pair_cell, choice_row, with_rank}
 
 -- ---- where cells stand: the rank behind all others
 
-pub choice-before : (o : Order) (s : ℕ) → s < side_limit → choice_at o s < rank_at o
-choice-before Set s h = omega arith
-choice-before Read s h = omega arith
+pub choice_before : (o : Order) (s : ℕ) → s < side_limit → choice_at o s < rank_at o
+choice_before Set s h = omega arith
+choice_before Read s h = omega arith
 
-pub next-before : (o : Order) (s : ℕ) → s < side_limit → next_at o s < rank_at o
-next-before Set s h = omega arith
-next-before Read s h = omega arith
+pub next_before : (o : Order) (s : ℕ) → s < side_limit → next_at o s < rank_at o
+next_before Set s h = omega arith
+next_before Read s h = omega arith
 
-pub first-before : (o : Order) → 0 < rank_at o
-first-before Set = omega arith
-first-before Read = omega arith
+pub first_before : (o : Order) → 0 < rank_at o
+first_before Set = omega arith
+first_before Read = omega arith
 
-pub rank-last : (o : Order) → row_size o ≡ suc (rank_at o)
-rank-last Set = refl
-rank-last Read = refl
+pub rank_last : (o : Order) → row_size o ≡ suc (rank_at o)
+rank_last Set = refl
+rank_last Read = refl
 
-pub before-inside : (o : Order) (i : ℕ) → i < rank_at o → i < row_size o
-before-inside o i h = omega (arith, rank-last o)
+pub before_inside : (o : Order) (i : ℕ) → i < rank_at o → i < row_size o
+before_inside o i h = omega (arith, rank_last o)
 
-pub choice-inside : (o : Order) (s : ℕ) → s < side_limit → choice_at o s < row_size o
-choice-inside o s h = before-inside o (choice_at o s) (choice-before o s h)
+pub choice_inside : (o : Order) (s : ℕ) → s < side_limit → choice_at o s < row_size o
+choice_inside o s h = before_inside o (choice_at o s) (choice_before o s h)
 
-pub next-inside : (o : Order) (s : ℕ) → s < side_limit → next_at o s < row_size o
-next-inside o s h = before-inside o (next_at o s) (next-before o s h)
+pub next_inside : (o : Order) (s : ℕ) → s < side_limit → next_at o s < row_size o
+next_inside o s h = before_inside o (next_at o s) (next_before o s h)
 
-pub first-inside : (o : Order) → 0 < row_size o
-first-inside o = before-inside o 0 (first-before o)
+pub first_inside : (o : Order) → 0 < row_size o
+first_inside o = before_inside o 0 (first_before o)
 
-pub rank-inside : (o : Order) → rank_at o < row_size o
-rank-inside o = omega (arith, rank-last o)
+pub rank_inside : (o : Order) → rank_at o < row_size o
+rank_inside o = omega (arith, rank_last o)
 
 -- a row's cells lie among those of the rows
-pub inside-rows : (o : Order) (n i j : ℕ) → i < n → j < row_size o → i * row_size o + j < n * row_size o
-inside-rows Set n i j h b = omega arith
-inside-rows Read n i j h b = omega arith
+pub inside_rows : (o : Order) (n i j : ℕ) → i < n → j < row_size o → i * row_size o + j < n * row_size o
+inside_rows Set n i j h b = omega arith
+inside_rows Read n i j h b = omega arith
 
 -- their places, as numbers
-choice-read : (s : ℕ) → choice_at Read s ≡ suc (s * 2 + 0)
-choice-read s = omega arith
+choice_read : (s : ℕ) → choice_at Read s ≡ suc (s * 2 + 0)
+choice_read s = omega arith
 
-next-read : (s : ℕ) → next_at Read s ≡ suc (s * 2 + 1)
-next-read s = omega arith
+next_read : (s : ℕ) → next_at Read s ≡ suc (s * 2 + 1)
+next_read s = omega arith
 
 next_set : (s : ℕ) → next_at Set s ≡ suc s
 next_set s = omega arith
@@ -79,16 +79,16 @@ unfolding stop_row
 stop_length Set = refl
 stop_length Read = refl
 
-pub stop-first : (o : Order) → get_or (stop_row o) 0 0 ≡ stop_cell
+pub stop_first : (o : Order) → get_or (stop_row o) 0 0 ≡ stop_cell
 unfolding stop_row
-stop-first Set = refl
-stop-first Read = refl
+stop_first Set = refl
+stop_first Read = refl
 
 -- all other cells are 0
-pub stop-rest : (o : Order) (i : ℕ) → get_or (stop_row o) (suc i) 0 ≡ 0
+pub stop_rest : (o : Order) (i : ℕ) → get_or (stop_row o) (suc i) 0 ≡ 0
 unfolding stop_row
-stop-rest Set i = get_d_zeros (1 + side_limit) i
-stop-rest Read i = get_d_zeros (1 + 2 * side_limit) i
+stop_rest Set i = get_d_zeros (1 + side_limit) i
+stop_rest Read i = get_d_zeros (1 + 2 * side_limit) i
 
 -- ---- with choices
 
@@ -98,45 +98,45 @@ module _ (observations : ℕ) (answer next : ℕ → ℕ) where
   choice_length Set = refl
   choice_length Read = refl
 
-  pub choice-first : (o : Order) → get_or (choice_row o observations answer next) 0 0 ≡ first_of o answer
+  pub choice_first : (o : Order) → get_or (choice_row o observations answer next) 0 0 ≡ first_of o answer
   unfolding choice_row
-  choice-first Set = refl
-  choice-first Read = refl
+  choice_first Set = refl
+  choice_first Read = refl
 
-  pair-entry : (s i : ℕ) → s < side_limit → i < 2 → get_or (choice_row Read observations answer next) (suc (s * 2 + i)) 0
+  pair_entry : (s i : ℕ) → s < side_limit → i < 2 → get_or (choice_row Read observations answer next) (suc (s * 2 + i)) 0
       ≡ cond (ltb s observations) (cond (eqb i 0) (answer s) (next s)) 0
   unfolding choice_row
-  pair-entry s i h b =
+  pair_entry s i h b =
       get_d_tabulate (1 + 2 * side_limit) (pair_cell observations answer next) (s * 2 + i) 0 (omega arith)
       ∙ ap₂ (λ (q m : ℕ). cond (ltb q observations) (cond (eqb m 0) (answer q) (next q)) 0) (digits_div s b) (digits_mod s b)
 
   -- the choice for an observation
-  pub choice-at : (o : Order) (s : ℕ) → s < side_limit → s < observations
+  pub choice_at_lem : (o : Order) (s : ℕ) → s < side_limit → s < observations
       → get_or (choice_row o observations answer next) (choice_at o s) 0 ≡ chosen o (answer_of o answer) s
-  choice-at Set s h b = choice-first Set
-  choice-at Read s h b =
-      ap (λ (i : ℕ). get_or (choice_row Read observations answer next) i 0) (choice-read s)
-      ∙ pair-entry s 0 h (omega arith) ∙ rw (lt-ltb s observations b)
+  choice_at_lem Set s h b = choice_first Set
+  choice_at_lem Read s h b =
+      ap (λ (i : ℕ). get_or (choice_row Read observations answer next) i 0) (choice_read s)
+      ∙ pair_entry s 0 h (omega arith) ∙ rw (lt-ltb s observations b)
 
-  pub next-at : (o : Order) (s : ℕ) → s < side_limit
+  pub next_at_lem : (o : Order) (s : ℕ) → s < side_limit
       → get_or (choice_row o observations answer next) (next_at o s) 0 ≡ cond (ltb s observations) (next s) 0
   unfolding choice_row
-  next-at Set s h =
+  next_at_lem Set s h =
       ap (λ (i : ℕ). get_or (choice_row Set observations answer next) i 0) (next_set s)
       ∙ get_d_tabulate (1 + side_limit) (λ s. cond (ltb s observations) (next s) 0) s 0 (omega arith)
-  next-at Read s h = ap (λ (i : ℕ). get_or (choice_row Read observations answer next) i 0) (next-read s) ∙ pair-entry s 1 h (omega arith)
+  next_at_lem Read s h = ap (λ (i : ℕ). get_or (choice_row Read observations answer next) i 0) (next_read s) ∙ pair_entry s 1 h (omega arith)
 
-  pub choice-next : (o : Order) (s : ℕ) → s < side_limit → s < observations
+  pub choice_next : (o : Order) (s : ℕ) → s < side_limit → s < observations
       → get_or (choice_row o observations answer next) (next_at o s) 0 ≡ next s
-  choice-next o s h b = next-at o s h ∙ rw (lt-ltb s observations b)
+  choice_next o s h b = next_at_lem o s h ∙ rw (lt-ltb s observations b)
 
-  pub next-unused : (o : Order) (s : ℕ) → s < side_limit → observations ≤ s → get_or (choice_row o observations answer next) (next_at o s) 0 ≡ 0
-  next-unused o s h b = next-at o s h ∙ rw (le-ltb s observations b)
+  pub next_unused : (o : Order) (s : ℕ) → s < side_limit → observations ≤ s → get_or (choice_row o observations answer next) (next_at o s) 0 ≡ 0
+  next_unused o s h b = next_at_lem o s h ∙ rw (le-ltb s observations b)
 
-  pub choice-unused : (s : ℕ) → s < side_limit → observations ≤ s → get_or (choice_row Read observations answer next) (choice_at Read s) 0 ≡ 0
-  choice-unused s h b =
-      ap (λ (i : ℕ). get_or (choice_row Read observations answer next) i 0) (choice-read s)
-      ∙ pair-entry s 0 h (omega arith) ∙ rw (le-ltb s observations b)
+  pub choice_unused : (s : ℕ) → s < side_limit → observations ≤ s → get_or (choice_row Read observations answer next) (choice_at Read s) 0 ≡ 0
+  choice_unused s h b =
+      ap (λ (i : ℕ). get_or (choice_row Read observations answer next) i 0) (choice_read s)
+      ∙ pair_entry s 0 h (omega arith) ∙ rw (le-ltb s observations b)
 
 -- a row is known by its choices and next rows at the observations that can occur
 pub choice_ext : (o : Order) (observations : ℕ) (answer answer' next next' : ℕ → ℕ) → 0 < observations
@@ -167,61 +167,61 @@ module _ (o : Order) (r : ℕ) (row : List ℕ) where
   rank_length = length-set row (rank_at o) r
 
   -- the last cell, and the others
-  pub rank-there : length row ≡ row_size o → get_or (with_rank o r row) (rank_at o) 0 ≡ r
+  pub rank_there : length row ≡ row_size o → get_or (with_rank o r row) (rank_at o) 0 ≡ r
   unfolding with_rank
-  rank-there e = get_or-set_same row (rank_at o) r 0 (subst (λ (n : ℕ). rank_at o < n) (sym e) (rank-inside o))
+  rank_there e = get_or-set_same row (rank_at o) r 0 (subst (λ (n : ℕ). rank_at o < n) (sym e) (rank_inside o))
 
-  pub rank-other : (i : ℕ) → i < rank_at o → get_or (with_rank o r row) i 0 ≡ get_or row i 0
+  pub rank_other : (i : ℕ) → i < rank_at o → get_or (with_rank o r row) i 0 ≡ get_or row i 0
   unfolding with_rank
-  rank-other i h = get_or-set_other row (rank_at o) i r 0 (λ e. omega arith)
+  rank_other i h = get_or-set_other row (rank_at o) i r 0 (λ e. omega arith)
 
 -- ---- the first n rows of a table
 
 module _ (o : Order) (n : ℕ) (t : List ℕ) (i : ℕ) (h : i < n) where
-  pub cell-taken : (j : ℕ) → j < row_size o → cell o (take (n * row_size o) t) i j ≡ cell o t i j
-  cell-taken j b = get_or-take (n * row_size o) t (i * row_size o + j) 0 (inside-rows o n i j h b)
+  pub cell_taken : (j : ℕ) → j < row_size o → cell o (take (n * row_size o) t) i j ≡ cell o t i j
+  cell_taken j b = get_or-take (n * row_size o) t (i * row_size o + j) 0 (inside_rows o n i j h b)
 
   pub first_taken : first_cell o (take (n * row_size o) t) i ≡ first_cell o t i
-  first_taken = cell-taken 0 (first-inside o)
+  first_taken = cell_taken 0 (first_inside o)
 
-  pub choice-taken : (s : ℕ) → s < side_limit → choice_cell o (take (n * row_size o) t) i s ≡ choice_cell o t i s
-  choice-taken s b = cell-taken (choice_at o s) (choice-inside o s b)
+  pub choice_taken : (s : ℕ) → s < side_limit → choice_cell o (take (n * row_size o) t) i s ≡ choice_cell o t i s
+  choice_taken s b = cell_taken (choice_at o s) (choice_inside o s b)
 
-  pub next-taken : (s : ℕ) → s < side_limit → next_cell o (take (n * row_size o) t) i s ≡ next_cell o t i s
-  next-taken s b = cell-taken (next_at o s) (next-inside o s b)
+  pub next_taken : (s : ℕ) → s < side_limit → next_cell o (take (n * row_size o) t) i s ≡ next_cell o t i s
+  next_taken s b = cell_taken (next_at o s) (next_inside o s b)
 
-  pub rank-taken : rank_cell o (take (n * row_size o) t) i ≡ rank_cell o t i
-  rank-taken = cell-taken (rank_at o) (rank-inside o)
+  pub rank_taken : rank_cell o (take (n * row_size o) t) i ≡ rank_cell o t i
+  rank_taken = cell_taken (rank_at o) (rank_inside o)
 
-  pub stop-taken : is_stop o (take (n * row_size o) t) i ≡ is_stop o t i
-  stop-taken = ap (λ c. eqb c stop_cell) first_taken
+  pub stop_taken : is_stop o (take (n * row_size o) t) i ≡ is_stop o t i
+  stop_taken = ap (λ c. eqb c stop_cell) first_taken
 
 -- ---- blank cells
 
-pub blank-next : (o : Order) (t : List ℕ) (i s : ℕ) → Blank o t i s → next_cell o t i s ≡ 0
-blank-next Set t i s b = b
-blank-next Read t i s b = b.1
+pub blank_next : (o : Order) (t : List ℕ) (i s : ℕ) → Blank o t i s → next_cell o t i s ≡ 0
+blank_next Set t i s b = b
+blank_next Read t i s b = b.1
 
 pub blank_of : (o : Order) (t : List ℕ) (i s : ℕ) → ((j : ℕ) → suc j < rank_at o → cell o t i (suc j) ≡ 0) → s < side_limit → Blank o t i s
 blank_of Set t i s zeros b = subst (λ (p : ℕ). cell Set t i p ≡ 0) (sym (next_set s)) (zeros s (omega arith))
 blank_of Read t i s zeros b = (
-  subst (λ (p : ℕ). cell Read t i p ≡ 0) (sym (choice-read s)) (zeros (s * 2 + 0) (omega arith)),
-  subst (λ (p : ℕ). cell Read t i p ≡ 0) (sym (next-read s)) (zeros (s * 2 + 1) (omega arith)),
+  subst (λ (p : ℕ). cell Read t i p ≡ 0) (sym (choice_read s)) (zeros (s * 2 + 0) (omega arith)),
+  subst (λ (p : ℕ). cell Read t i p ≡ 0) (sym (next_read s)) (zeros (s * 2 + 1) (omega arith)),
 )
 
 -- those of a row with choices, behind the observations that can occur
 pub blank_in : (o : Order) (observations : ℕ) (answer next : ℕ → ℕ) (t : List ℕ) (i : ℕ)
     → ((j : ℕ) → j < rank_at o → cell o t i j ≡ get_or (choice_row o observations answer next) j 0) → (s : ℕ) → s < side_limit → observations ≤ s → Blank o t i s
-blank_in Set observations answer next t i is s h b = is (next_at Set s) (next-before Set s h) ∙ next-unused observations answer next Set s h b
+blank_in Set observations answer next t i is s h b = is (next_at Set s) (next_before Set s h) ∙ next_unused observations answer next Set s h b
 blank_in Read observations answer next t i is s h b = (
-  is (choice_at Read s) (choice-before Read s h) ∙ choice-unused observations answer next s h b,
-  is (next_at Read s) (next-before Read s h) ∙ next-unused observations answer next Read s h b,
+  is (choice_at Read s) (choice_before Read s h) ∙ choice_unused observations answer next s h b,
+  is (next_at Read s) (next_before Read s h) ∙ next_unused observations answer next Read s h b,
 )
 
 -- the first cell goes by the first choice
-pub first-same : (o : Order) (f g : ℕ → ℕ) → f 0 ≡ g 0 → first_of o f ≡ first_of o g
-first-same Set f g e = e
-first-same Read f g e = refl
+pub first_same : (o : Order) (f g : ℕ → ℕ) → f 0 ≡ g 0 → first_of o f ≡ first_of o g
+first_same Set f g e = e
+first_same Read f g e = refl
 
 -- ---- tables of n rows, and no more cells, whose rows say the same
 
@@ -238,13 +238,13 @@ pair_place (suc i) h =
     parity (suc m) q = let e = div-add-mod' i 2 in let b : i % 2 < 2 = mod-lt i (omega arith) in inr (omega arith)
 
 -- cells of row i that say the same are the same
-same-before : (o : Order) (t u : List ℕ) (i : ℕ) → first_cell o t i ≡ first_cell o u i
+same_before : (o : Order) (t u : List ℕ) (i : ℕ) → first_cell o t i ≡ first_cell o u i
     → ((s : ℕ) → s < side_limit → choice_cell o t i s ≡ choice_cell o u i s) → ((s : ℕ) → s < side_limit → next_cell o t i s ≡ next_cell o u i s)
     → (p : ℕ) → p < rank_at o → cell o t i p ≡ cell o u i p
-same-before Set t u i first choice next zero l = first
-same-before Set t u i first choice next (suc s) l =
+same_before Set t u i first choice next zero l = first
+same_before Set t u i first choice next (suc s) l =
     subst (λ (p : ℕ). cell Set t i p ≡ cell Set u i p) (next_set s) (next s (omega arith))
-same-before Read t u i first choice next p l =
+same_before Read t u i first choice next p l =
     elim (pair_place p l) [
       | inl z ↦ subst (λ (p : ℕ). cell Read t i p ≡ cell Read u i p) (sym z) first
       | inr (s, b, inl e) ↦ subst (λ (p : ℕ). cell Read t i p ≡ cell Read u i p) (sym e) (choice s b)
@@ -256,18 +256,18 @@ same_row : (o : Order) (t u : List ℕ) (i : ℕ) → first_cell o t i ≡ first
     → rank_cell o t i ≡ rank_cell o u i → (p : ℕ) → p < row_size o → cell o t i p ≡ cell o u i p
 same_row o t u i first choice next rank p l =
     elim (dec_le (suc p) (rank_at o)) [
-      | yes b ↦ same-before o t u i first choice next p b
+      | yes b ↦ same_before o t u i first choice next p b
       | no b ↦
-          let e : rank_at o ≡ p = omega (arith, rank-last o) in
+          let e : rank_at o ≡ p = omega (arith, rank_last o) in
           subst (λ (p : ℕ). cell o t i p ≡ cell o u i p) e rank
     ]
 
-pub same-cells : (o : Order) (n : ℕ) (t u : List ℕ) → length t ≡ n * row_size o → length u ≡ n * row_size o
+pub same_cells : (o : Order) (n : ℕ) (t u : List ℕ) → length t ≡ n * row_size o → length u ≡ n * row_size o
     → ((i : ℕ) → i < n → first_cell o t i ≡ first_cell o u i)
     → ((i : ℕ) → i < n → (s : ℕ) → s < side_limit → choice_cell o t i s ≡ choice_cell o u i s)
     → ((i : ℕ) → i < n → (s : ℕ) → s < side_limit → next_cell o t i s ≡ next_cell o u i s)
     → ((i : ℕ) → i < n → rank_cell o t i ≡ rank_cell o u i) → t ≡ u
-same-cells o n t u long short first choice next rank =
+same_cells o n t u long short first choice next rank =
     ext_get_or 0 t u (long ∙ sym short) (λ y l.
     let (i, p) = row_at (row_size o) n y (subst (λ (k : ℕ). y < k) long l) in
     let q : ℕ = y / row_size o in

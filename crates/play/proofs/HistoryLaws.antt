@@ -10,14 +10,14 @@ use lib.ListN.{length, get_or, drop, length-append}
 use Rattle.play.specs.Rank.{Arena}
 use Rattle.play.specs.History.{History, Possible, onward, ProperPrefix, know}
 
-pub possible-onward : (choices observations : ℕ) (h : History) (c s : ℕ) → Possible choices observations h → c < choices → s < observations
+pub possible_onward : (choices observations : ℕ) (h : History) (c s : ℕ) → Possible choices observations h → c < choices → s < observations
     → Possible choices observations (onward h c s)
-possible-onward choices observations [] c s p cb sb = (cb, sb, tt)
-possible-onward choices observations (m ∷ h) c s (mc, ms, p) cb sb = (mc, ms, possible-onward choices observations h c s p cb sb)
+possible_onward choices observations [] c s p cb sb = (cb, sb, tt)
+possible_onward choices observations (m ∷ h) c s (mc, ms, p) cb sb = (mc, ms, possible_onward choices observations h c s p cb sb)
 
-pub know-onward : (A : Arena) (k : A.K) (h : History) (c s : ℕ) → know A k (onward h c s) ≡ A.move (know A k h) c s
-know-onward A k [] c s = refl
-know-onward A k (m ∷ h) c s = know-onward A (A.move k m.0 m.1) h c s
+pub know_onward : (A : Arena) (k : A.K) (h : History) (c s : ℕ) → know A k (onward h c s) ≡ A.move (know A k h) c s
+know_onward A k [] c s = refl
+know_onward A k (m ∷ h) c s = know_onward A (A.move k m.0 m.1) h c s
 
 -- ---- proper beginnings
 
@@ -43,14 +43,14 @@ prefix_onward (a ∷ k) (b ∷ h) c s (m, l, e) =
 pub prefix_later : (m : ℕ × ℕ) (k h : History) → ProperPrefix k h → ProperPrefix (m ∷ k) (m ∷ h)
 prefix_later m k h (n, l, e) = (n, l, ap (λ t. m ∷ t) e)
 
-possible-front : (choices observations : ℕ) (k l : History) → Possible choices observations (k ++ l) → Possible choices observations k
-possible-front choices observations [] l v = tt
-possible-front choices observations (m ∷ k) l (c, s, v) = (c, s, possible-front choices observations k l v)
+possible_front : (choices observations : ℕ) (k l : History) → Possible choices observations (k ++ l) → Possible choices observations k
+possible_front choices observations [] l v = tt
+possible_front choices observations (m ∷ k) l (c, s, v) = (c, s, possible_front choices observations k l v)
 
 -- one of a history that can be can be
 pub possible_prefix : (choices observations : ℕ) (k h : History) → ProperPrefix k h → Possible choices observations h → Possible choices observations k
 possible_prefix choices observations k h (m, l, e) v =
-    possible-front choices observations k (m ∷ l) (subst (Possible choices observations) (sym e) v)
+    possible_front choices observations k (m ∷ l) (subst (Possible choices observations) (sym e) v)
 
 -- ---- what is said of histories
 

@@ -12,14 +12,14 @@ use Rattle.basics.proofs.Booleans.{test, clash, or_cases, or_intro_left, or_intr
 use Rattle.play.specs.Rank.{Arena, can, RankOf, leads_within, next_rank, best_answer}
 use Rattle.play.specs.History.{History, Possible, onward, know}
 use Rattle.play.specs.IsTable.{RankBelow, RankIs, Takes}
-use Rattle.play.proofs.HistoryLaws.{possible-onward, know-onward}
+use Rattle.play.proofs.HistoryLaws.{possible_onward, know_onward}
 use Rattle.play.proofs.StepOrder.{StepOrder, order_of}
 use Rattle.play.proofs.RankLaws.{In}
-use Rattle.play.proofs.CanChoose.{good-choice, choose_map, can_iff}
+use Rattle.play.proofs.CanChoose.{good_choice, choose_map, can_iff}
 use Rattle.play.proofs.SmallestChoice.{RankedBelow, ranked_iff, takes_below, takes_best_next}
 
 -- where final histories are those of final positions
-module _ (o : Order) (A : Arena) (choices observations : ℕ) (some-observation : 0 < observations) (Final : History → Type 0)
+module _ (o : Order) (A : Arena) (choices observations : ℕ) (some_observation : 0 < observations) (Final : History → Type 0)
     (finals : (h : History) → Possible choices observations h → Final h ↔ (A.final (know A A.start h) ≡ true)) where
   abbrev O : StepOrder choices observations
   O = order_of o choices observations
@@ -39,7 +39,7 @@ module _ (o : Order) (A : Arena) (choices observations : ℕ) (some-observation 
     where
       to : RankBelow o choices observations Final 1 h → A.final (position h) ≡ true
       to (inl f) = (finals h p).0 f
-      to (inr c) = absurd (good-choice o choices observations (λ c s. ⊥) c 0 some-observation).2
+      to (inr c) = absurd (good_choice o choices observations (λ c s. ⊥) c 0 some_observation).2
 
   -- and so with one step more
   module _ (r : ℕ) (h : History) (next : (c s : ℕ) → AtMost r (onward h c s)) (p : Can h) where
@@ -51,8 +51,8 @@ module _ (o : Order) (A : Arena) (choices observations : ℕ) (some-observation 
 
     leads_iff : (c s : ℕ) → c < choices → s < observations → Leads c s ↔ (leads c s ≡ true)
     leads_iff c s cb sb =
-        subst (λ (k : A.K). Leads c s ↔ (In O A r k ≡ true)) (know-onward A A.start h c s)
-        (next c s (possible-onward choices observations h c s p cb sb))
+        subst (λ (k : A.K). Leads c s ↔ (In O A r k ≡ true)) (know_onward A A.start h c s)
+        (next c s (possible_onward choices observations h c s p cb sb))
 
     at_most_suc : RankBelow o choices observations Final (suc (suc r)) h ↔ (In O A (suc r) (position h) ≡ true)
     at_most_suc = (to, from)
@@ -100,45 +100,45 @@ module _ (o : Order) (A : Arena) (choices observations : ℕ) (some-observation 
   -- the same one step on
   module _ (h : History) (p : Can h) (c s : ℕ) (cb : c < choices) (sb : s < observations) where
     abbrev p' : Can (onward h c s)
-    p' = possible-onward choices observations h c s p cb sb
+    p' = possible_onward choices observations h c s p cb sb
 
-    next-below : (r : ℕ) → RankBelow o choices observations Final r (onward h c s) ↔ RankedBelow o A choices observations r (A.move (position h) c s)
-    next-below r =
+    next_below : (r : ℕ) → RankBelow o choices observations Final r (onward h c s) ↔ RankedBelow o A choices observations r (A.move (position h) c s)
+    next_below r =
         subst (λ (k : A.K). RankBelow o choices observations Final r (onward h c s) ↔ RankedBelow o A choices observations r k)
-        (know-onward A A.start h c s) (below_iff r (onward h c s) p')
+        (know_onward A A.start h c s) (below_iff r (onward h c s) p')
 
-    next-rank : (r : ℕ) → RankIs o choices observations Final (onward h c s) r ↔ RankOf o A choices observations (A.move (position h) c s) r
-    next-rank r =
+    next_rank_lem : (r : ℕ) → RankIs o choices observations Final (onward h c s) r ↔ RankOf o A choices observations (A.move (position h) c s) r
+    next_rank_lem r =
         subst (λ (k : A.K). RankIs o choices observations Final (onward h c s) r ↔ RankOf o A choices observations k r)
-        (know-onward A A.start h c s) (rank_iff (onward h c s) p' r)
+        (know_onward A A.start h c s) (rank_iff (onward h c s) p' r)
 
 -- the choices taken are the position's best
-pub takes_best : (o : Order) (A : Arena) (choices observations : ℕ) (some-observation : 0 < observations) (Final : History → Type 0)
+pub takes_best : (o : Order) (A : Arena) (choices observations : ℕ) (some_observation : 0 < observations) (Final : History → Type 0)
     (finals : (h : History) → Possible choices observations h → Final h ↔ (A.final (know A A.start h) ≡ true))
     (n : ℕ) (h : History) → Possible choices observations h → (r : ℕ) → r < n → A.final (know A A.start h) ≡ false
     → RankOf o A choices observations (know A A.start h) r
     → Takes o choices observations Final h (best_answer o A choices observations n (know A A.start h))
-takes_best Set A choices observations some-observation Final finals n h p r b f a =
+takes_best Set A choices observations some_observation Final finals n h p r b f a =
     let k = know A A.start h in
     let (cb, l, least) = takes_below A choices observations n k r b f a in
-    let below = next-below Set A choices observations some-observation Final finals h p in
+    let below = next_below Set A choices observations some_observation Final finals h p in
     record {
       choice = best_answer Set A choices observations n k 0;
       taken = λ s sb. refl;
       is_choice = cb;
       rank = r;
-      is_rank = (rank_iff Set A choices observations some-observation Final finals h p r).1 a;
+      is_rank = (rank_iff Set A choices observations some_observation Final finals h p r).1 a;
       leads = λ s sb. (below (best_answer Set A choices observations n k 0) s cb sb r).1 (l s sb);
       smallest = λ d db m. least d db (λ s sb. (below d s (omega arith) sb r).0 (m s sb));
     }
-takes_best Read A choices observations some-observation Final finals n h p r b f a =
+takes_best Read A choices observations some_observation Final finals n h p r b f a =
     λ s sb.
     let k = know A A.start h in
     let q = next_rank Read A choices observations n k s in
     let c = best_answer Read A choices observations n k s in
     let (cb, qb, d, low, least) = takes_best_next A choices observations n k r b f a s sb in
-    let below = next-below Read A choices observations some-observation Final finals h p in
-    let rank = next-rank Read A choices observations some-observation Final finals h p in
+    let below = next_below Read A choices observations some_observation Final finals h p in
+    let rank = next_rank_lem Read A choices observations some_observation Final finals h p in
     record {
       is_choice = cb;
       rank = q;

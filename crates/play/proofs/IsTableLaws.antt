@@ -10,7 +10,7 @@ use mathlib.Core.Logic.{◌↔◌, inl, inr}
 use Rattle.basics.specs.declared.order.Order.{Order}
 use Rattle.play.specs.History.{History, onward}
 use Rattle.play.specs.IsTable.{RankBelow, RankIs, HasAnswer}
-use Rattle.play.proofs.CanChoose.{good-choice, choose_map}
+use Rattle.play.proofs.CanChoose.{good_choice, choose_map}
 
 module _ (o : Order) (choices observations : ℕ) (Final : History → Type 0) where
   abbrev Below : ℕ → History → Type 0
@@ -32,23 +32,23 @@ module _ (o : Order) (choices observations : ℕ) (Final : History → Type 0) w
       ]
 
   -- with a rank, and not final, it has an answer
-  pub has-answer : (h : History) → (¬ Final h) → (r : ℕ) → Below (suc r) h → HasAnswer o choices observations Final r h
-  has-answer h n r (inl f) = absurd (n f)
-  has-answer h n r (inr a) = a
+  pub has_answer : (h : History) → (¬ Final h) → (r : ℕ) → Below (suc r) h → HasAnswer o choices observations Final r h
+  has_answer h n r (inl f) = absurd (n f)
+  has_answer h n r (inr a) = a
 
-  module _ (some-observation : 0 < observations) (h : History) where
-    pub final-rank : Final h ↔ RankIs o choices observations Final h 0
-    final-rank = (λ f. (inl f, λ b. b), λ r. at r.0)
+  module _ (some_observation : 0 < observations) (h : History) where
+    pub final_rank : Final h ↔ RankIs o choices observations Final h 0
+    final_rank = (λ f. (inl f, λ b. b), λ r. at r.0)
       where
         at : Below 1 h → Final h
         at (inl f) = f
-        at (inr a) = absurd (good-choice o choices observations (λ c s. Below 0 (onward h c s)) a 0 some-observation).2
+        at (inr a) = absurd (good_choice o choices observations (λ c s. Below 0 (onward h c s)) a 0 some_observation).2
 
-    pub other-rank : (¬ Final h) → (r : ℕ)
+    pub other_rank : (¬ Final h) → (r : ℕ)
         → RankIs o choices observations Final h r
         ↔ (HasAnswer o choices observations Final r h × ((q : ℕ) → q < r → ¬ HasAnswer o choices observations Final q h))
-    other-rank n r = (λ a. (has-answer h n r a.0, λ q l c. a.1 (below_le (suc q) r h l (inr c))), λ a. (inr a.0, low r a.1))
+    other_rank n r = (λ a. (has_answer h n r a.0, λ q l c. a.1 (below_le (suc q) r h l (inr c))), λ a. (inr a.0, low r a.1))
       where
         low : (r : ℕ) → ((q : ℕ) → q < r → ¬ HasAnswer o choices observations Final q h) → ¬ Below r h
         low zero f b = b
-        low (suc q) f b = f q (le_refl (suc q)) (has-answer h n q b)
+        low (suc q) f b = f q (le_refl (suc q)) (has_answer h n q b)

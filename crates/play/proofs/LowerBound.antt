@@ -12,15 +12,15 @@ use Rattle.play.specs.Rank.{Arena}
 use Rattle.basics.proofs.Booleans.{clash, or_left, or_right}
 use Rattle.play.proofs.StepOrder.{StepOrder}
 use Rattle.play.proofs.RankLaws.{In}
-use Rattle.play.proofs.Plans.{◌∷ˢ◌, Plan, after, Goes, goes_or_final, PlanSteps, plan_run, WinsFor, AfterStep, Tracks, tracks-step, Legal, legal-after, reply, idle, wins-after}
+use Rattle.play.proofs.Plans.{◌∷ˢ◌, Plan, after, Goes, goes_or_final, PlanSteps, plan_run, WinsFor, AfterStep, Tracks, tracks_step, Legal, legal_after, reply, idle, wins_after}
 
-module _ (G : Game) (O : StepOrder G.choices G.observations) (A : Arena) (some-observation : 0 < G.observations) (some-hidden : 0 < G.hiddens) where
+module _ (G : Game) (O : StepOrder G.choices G.observations) (A : Arena) (some_observation : 0 < G.observations) (some_hidden : 0 < G.hiddens) where
   -- at a position that does not stop, a plan that wins goes on
   pub goes : (k : A.K) (Φ : List ℕ → Type 0) → Tracks G A k Φ → A.final k ≡ false → (σ : Plan) → WinsFor G Φ σ → Goes (σ [])
-  goes k Φ T f σ win = elim (goes_or_final (σ [])) [ inl o ↦ o | inr e ↦ stopped e (win (idle G some-observation some-hidden)) ]
+  goes k Φ T f σ win = elim (goes_or_final (σ [])) [ inl o ↦ o | inr e ↦ stopped e (win (idle G some_observation some_hidden)) ]
     where
-      stopped : σ [] ≡ none → (n : ℕ) × PlanSteps G σ (idle G some-observation some-hidden) n
-          × Φ (plan_run G σ (idle G some-observation some-hidden) n) → Goes (σ [])
+      stopped : σ [] ≡ none → (n : ℕ) × PlanSteps G σ (idle G some_observation some_hidden) n
+          × Φ (plan_run G σ (idle G some_observation some_hidden) n) → Goes (σ [])
       stopped e (zero, st, φ) = clash ((T [] tt).1 (λ x xb. φ)) f
       stopped e (suc n, st, φ) = st.1 0 (suc-le-suc zero-le)
 
@@ -30,7 +30,7 @@ module _ (G : Game) (O : StepOrder G.choices G.observations) (A : Arena) (some-o
 
   longer : (r : ℕ) (σ : Plan) (s : ℕ) (sb : s < G.observations) → Goes (σ []) → Lasts (after σ s) r → Lasts σ (suc r)
   longer r σ s sb o (p, m, st, h) = (
-    reply G s sb 0 some-hidden ∷ˢ p,
+    reply G s sb 0 some_hidden ∷ˢ p,
     suc m,
     (st.0, elim [ zero ↦ λ b. o | suc j ↦ λ b. st.1 j (omega arith) ]),
     suc-le-suc h,
@@ -40,13 +40,13 @@ module _ (G : Game) (O : StepOrder G.choices G.observations) (A : Arena) (some-o
       → (σ : Plan) → Legal O σ → WinsFor G Φ σ → Lasts σ (suc r)
   lower zero k Φ T f σ l win =
       let o = goes k Φ T f σ win in
-      let (n, st, φ) = wins-after G some-observation some-hidden Φ σ o.0 o.1 win 0 some-observation (idle G some-observation some-hidden) in
-      longer 0 σ 0 some-observation o (idle G some-observation some-hidden, n, st, zero-le)
+      let (n, st, φ) = wins_after G some_observation some_hidden Φ σ o.0 o.1 win 0 some_observation (idle G some_observation some_hidden) in
+      longer 0 σ 0 some_observation o (idle G some_observation some_hidden, n, st, zero-le)
   lower (suc r) k Φ T f σ l win =
       let o = goes k Φ T (or_left (A.final k) _ f) σ win in
       let al = l [] tt o.0 o.1 in
       let (s, sb, w) = O.refute (λ c s. In O A r (A.move k c s)) (or_right (A.final k) _ f) o.0 al in
       longer (suc r) σ s sb o
       (lower r (A.move k (o.0 s) s) (AfterStep G Φ (o.0 s) s)
-      (tracks-step G A k Φ (o.0 s) s (O.below o.0 al s sb) sb T) w
-      (after σ s) (legal-after O σ s sb l) (wins-after G some-observation some-hidden Φ σ o.0 o.1 win s sb))
+      (tracks_step G A k Φ (o.0 s) s (O.below o.0 al s sb) sb T) w
+      (after σ s) (legal_after O σ s sb l) (wins_after G some_observation some_hidden Φ σ o.0 o.1 win s sb))

@@ -9,7 +9,7 @@ use Rattle.basics.specs.declared.order.Order.{Order}
 use Rattle.basics.specs.declared.order.Order.TheVariants.{Set, Read}
 use Rattle.play.specs.History.{History, Possible, onward}
 use Rattle.play.specs.IsTable.{RankBelow, RankIs, BestNext, SmallestBelow, SmallestBest, Takes}
-use Rattle.play.proofs.HistoryLaws.{possible-onward}
+use Rattle.play.proofs.HistoryLaws.{possible_onward}
 use Rattle.play.proofs.CanChoose.{choose_map}
 use Rattle.play.proofs.IsTableLaws.{below_le}
 
@@ -38,20 +38,20 @@ module _ (o : Order) (choices observations : ℕ) (Same : History → History �
   abbrev Is : History → ℕ → Type 0
   Is = RankIs o choices observations Final
 
-  abbrev can-onward : (h : History) (c s : ℕ) → Can h → c < choices → s < observations → Can (onward h c s)
-  can-onward = possible-onward choices observations
+  abbrev can_onward : (h : History) (c s : ℕ) → Can h → c < choices → s < observations → Can (onward h c s)
+  can_onward = possible_onward choices observations
 
-  below-same : (r : ℕ) (h k : History) → Can h → Can k → Same h k → Below r h → Below r k
-  below-same zero h k p q e b = b
-  below-same (suc r) h k p q e (inl f) = inl (C.finals h k p q e f)
-  below-same (suc r) h k p q e (inr a) =
+  below_same : (r : ℕ) (h k : History) → Can h → Can k → Same h k → Below r h → Below r k
+  below_same zero h k p q e b = b
+  below_same (suc r) h k p q e (inl f) = inl (C.finals h k p q e f)
+  below_same (suc r) h k p q e (inr a) =
       inr (choose_map o choices observations (λ c s. Below r (onward h c s)) (λ c s. Below r (onward k c s))
       (λ c s cb sb.
-      below-same r (onward h c s) (onward k c s) (can-onward h c s p cb sb) (can-onward k c s q cb sb) (C.steps h k p q e c s cb sb)) a)
+      below_same r (onward h c s) (onward k c s) (can_onward h c s p cb sb) (can_onward k c s q cb sb) (C.steps h k p q e c s cb sb)) a)
 
   rank_same : (r : ℕ) (h k : History) → Can h → Can k → Same h k → Is h r → Is k r
   rank_same r h k p q e a =
-      (below-same (suc r) h k p q e a.0, λ b. a.1 (below-same r k h q p (C.symmetric h k p q e) b))
+      (below_same (suc r) h k p q e a.0, λ b. a.1 (below_same r k h q p (C.symmetric h k p q e) b))
 
   rank_le : (h : History) (r q : ℕ) → Is h r → Is h q → r ≤ q
   rank_le h r q a b =
@@ -65,11 +65,11 @@ module _ (o : Order) (choices observations : ℕ) (Same : History → History �
 
   -- the same holds one step on
   module _ (h k : History) (p : Can h) (q : Can k) (e : Same h k) (c s : ℕ) (cb : c < choices) (sb : s < observations) where
-    next-below : (r : ℕ) → Below r (onward h c s) → Below r (onward k c s)
-    next-below r = below-same r (onward h c s) (onward k c s) (can-onward h c s p cb sb) (can-onward k c s q cb sb) (C.steps h k p q e c s cb sb)
+    next_below : (r : ℕ) → Below r (onward h c s) → Below r (onward k c s)
+    next_below r = below_same r (onward h c s) (onward k c s) (can_onward h c s p cb sb) (can_onward k c s q cb sb) (C.steps h k p q e c s cb sb)
 
-    next-rank : (r : ℕ) → Is (onward h c s) r → Is (onward k c s) r
-    next-rank r = rank_same r (onward h c s) (onward k c s) (can-onward h c s p cb sb) (can-onward k c s q cb sb) (C.steps h k p q e c s cb sb)
+    next_rank_lem : (r : ℕ) → Is (onward h c s) r → Is (onward k c s) r
+    next_rank_lem r = rank_same r (onward h c s) (onward k c s) (can_onward h c s p cb sb) (can_onward k c s q cb sb) (C.steps h k p q e c s cb sb)
 
   best_le : (h k : History) → Can h → Can k → Same h k → (s : ℕ) → s < observations → (r q : ℕ)
       → BestNext o choices observations Final h s r → BestNext o choices observations Final k s q → q ≤ r
@@ -79,7 +79,7 @@ module _ (o : Order) (choices observations : ℕ) (Same : History → History �
         | yes l ↦ l
         | no n ↦
             absurd (b.1 c cb (below_le o choices observations Final (suc r) q (onward k c s) (omega arith)
-            (next-below h k p p' e c s cb sb (suc r) is.0)))
+            (next_below h k p p' e c s cb sb (suc r) is.0)))
       ]
 
 -- ---- choices
@@ -102,7 +102,7 @@ module _ (choices observations : ℕ) (Same : History → History → Type 0) (F
             absurd (b.smallest a.choice (omega arith) (λ s sb.
             subst (λ (r : ℕ). RankBelow Set choices observations Final r (onward k a.choice s))
             (one_rank Set choices observations Same Final C h k a.rank b.rank p q e a.is_rank b.is_rank)
-            (next-below Set choices observations Same Final C h k p q e a.choice s a.is_choice sb a.rank (a.leads s sb))))
+            (next_below Set choices observations Same Final C h k p q e a.choice s a.is_choice sb a.rank (a.leads s sb))))
       ]
 
   -- `Read`: the choice of h leads to the best next rank of k too
@@ -116,7 +116,7 @@ module _ (choices observations : ℕ) (Same : History → History → Type 0) (F
             let down = best_le Read choices observations Same Final C k h q p (C.symmetric h k p q e) s sb b.rank a.rank b.best a.best in
             let r : a.rank ≡ b.rank = omega arith in
             absurd (b.smallest c (omega arith) (subst (RankIs Read choices observations Final (onward k c s)) r
-            (next-rank Read choices observations Same Final C h k p q e c s a.is_choice sb a.rank a.leads)))
+            (next_rank_lem Read choices observations Same Final C h k p q e c s a.is_choice sb a.rank a.leads)))
       ]
 
 -- the same belief takes one choice at an observation

@@ -20,13 +20,13 @@ use Rattle.play.specs.History.{Knows}
 use Rattle.basics.proofs.BoundedLaws.{first_of, none_first}
 use Rattle.basics.proofs.Booleans.{test, clash}
 use Rattle.play.proofs.StepOrder.{StepOrder, AllowedIn, order_of}
-use Rattle.play.proofs.RankLaws.{In, HasRank, unstopped, rank-searched}
-use Rattle.play.proofs.SmallestChoice.{ranked_iff, takes_below, best-leads, best-chosen}
+use Rattle.play.proofs.RankLaws.{In, HasRank, unstopped, rank_searched}
+use Rattle.play.proofs.SmallestChoice.{ranked_iff, takes_below, best_leads, best_chosen}
 use Rattle.play.proofs.Plans.{Plan, respond, Goes, stuck, PlanSteps, plan_run, WinsFor, Tracks, Legal, steps_unique}
 use Rattle.play.proofs.UpperBound.{follow, Descends}
-use Rattle.play.proofs.BestPlan.{BestPlan, plan-least, plan-best}
+use Rattle.play.proofs.BestPlan.{BestPlan, plan_least, plan_best}
 use Rattle.play.proofs.TrapsDefeat.{Trap, no_win}
-use Rattle.play.proofs.FiniteArena.{Closed, Lost, lost-trap, ranked_or_lost}
+use Rattle.play.proofs.FiniteArena.{Closed, Lost, lost_trap, ranked_or_lost}
 
 -- a decision as a plan's
 abbrev pub lift : {o : Order} → Decision o → Option (ℕ → ℕ)
@@ -37,28 +37,28 @@ abbrev pub plan_of : {o : Order} → Strategy o → Plan
 plan_of σ h = lift (σ h)
 
 module _ (o : Order) where
-  respond-lift : (d : Decision o) (s : ℕ) → respond (lift d) s ≡ choice_of d s
-  respond-lift (choose a) s = refl
-  respond-lift stop s = refl
+  respond_lift : (d : Decision o) (s : ℕ) → respond (lift d) s ≡ choice_of d s
+  respond_lift (choose a) s = refl
+  respond_lift stop s = refl
 
-  lift-stop : (d : Decision o) → lift d ≡ none → d ≡ stop
-  lift-stop (choose a) e = stuck {d = some (chosen o a)} e (chosen o a, refl)
-  lift-stop stop e = refl
+  lift_stop : (d : Decision o) → lift d ≡ none → d ≡ stop
+  lift_stop (choose a) e = stuck {d = some (chosen o a)} e (chosen o a, refl)
+  lift_stop stop e = refl
 
-  lift-goes : (d : Decision o) → Goes (lift d) → (a : Answer o) × (d ≡ choose a)
-  lift-goes (choose a) g = (a, refl)
-  lift-goes stop g = stuck refl g
+  lift_goes : (d : Decision o) → Goes (lift d) → (a : Answer o) × (d ≡ choose a)
+  lift_goes (choose a) g = (a, refl)
+  lift_goes stop g = stuck refl g
 
 -- what is asked of an answer is what the order allows
 answer_allowed : (o : Order) (n m : ℕ) → 0 < m → (a : Answer o) → ((s : ℕ) → s < m → chosen o a s < n) → (order_of o n m).Allowed (chosen o a)
 answer_allowed Set n m positive c l = (c, l 0 positive, λ s. refl)
 answer_allowed Read n m positive g l = l
 
-lift-legal : (o : Order) (n m : ℕ) → 0 < m → (d : Decision o) → ((a : Answer o) → d ≡ choose a → (s : ℕ) → s < m → chosen o a s < n)
+lift_legal : (o : Order) (n m : ℕ) → 0 < m → (d : Decision o) → ((a : Answer o) → d ≡ choose a → (s : ℕ) → s < m → chosen o a s < n)
     → (g : ℕ → ℕ) → lift d ≡ some g → (order_of o n m).Allowed g
-lift-legal o n m some-observation (choose a) l g e =
-    subst (order_of o n m).Allowed (fun_ext (λ s. ap (λ (d : Option (ℕ → ℕ)). respond d s) e)) (answer_allowed o n m some-observation a (l a refl))
-lift-legal o n m some-observation stop l g e = absurd (none-ne-some g e)
+lift_legal o n m some_observation (choose a) l g e =
+    subst (order_of o n m).Allowed (fun_ext (λ s. ap (λ (d : Option (ℕ → ℕ)). respond d s) e)) (answer_allowed o n m some_observation a (l a refl))
+lift_legal o n m some_observation stop l g e = absurd (none-ne-some g e)
 
 -- ---- best answers descend
 
@@ -66,7 +66,7 @@ best_allowed : (o : Order) (A : Arena) (choices observations n : ℕ) (k : A.K) 
     → RankOf o A choices observations k r → AllowedIn o choices observations (best_answer o A choices observations n k)
 best_allowed Set A choices observations n k r h f a =
     (best_answer Set A choices observations n k 0, (takes_below A choices observations n k r h f a).0, λ s. refl)
-best_allowed Read A choices observations n k r h f a = λ s sb. (best-leads Read A choices observations n k r h f a s sb).0
+best_allowed Read A choices observations n k r h f a = λ s sb. (best_leads Read A choices observations n k r h f a s sb).0
 
 pub descends : (o : Order) (A : Arena) (choices observations n : ℕ)
     → Descends (order_of o choices observations) A (best_answer o A choices observations n) n
@@ -74,7 +74,7 @@ descends o A choices observations n k r small a =
     let f = unstopped (order_of o choices observations) A k r a in (
       best_allowed o A choices observations n k (suc r) small f a,
       λ s sb. (ranked_iff o A choices observations r (A.move k (best_answer o A choices observations n k s) s)).1
-          (best-leads o A choices observations n k (suc r) small f a s sb).1,
+          (best_leads o A choices observations n k (suc r) small f a s sb).1,
     )
 
 -- the strategy that takes the best answers is a plan that follows them
@@ -82,14 +82,14 @@ module _ (o : Order) (A : Arena) (choices observations n : ℕ) where
   abbrev answer : A.K → ℕ → ℕ
   answer = best_answer o A choices observations n
 
-  best-follows : (h : List ℕ) (k : A.K) → plan_of (best o A choices observations n k) h ≡ follow A answer k h
-  best-follows [] k =
+  best_follows : (h : List ℕ) (k : A.K) → plan_of (best o A choices observations n k) h ≡ follow A answer k h
+  best_follows [] k =
       elim (test (A.final k)) [
         | inl t ↦ rw (t, best, follow)
-        | inr f ↦ rw (f, best, follow) (ap some (fun_ext (best-chosen o A choices observations n k)))
+        | inr f ↦ rw (f, best, follow) (ap some (fun_ext (best_chosen o A choices observations n k)))
       ]
-  best-follows (s ∷ h) k =
-      elim (test (A.final k)) [ inl t ↦ rw (t, best, follow) | inr f ↦ rw (f, best, follow) (best-follows h (A.move k (answer k s) s)) ]
+  best_follows (s ∷ h) k =
+      elim (test (A.final k)) [ inl t ↦ rw (t, best, follow) | inr f ↦ rw (f, best, follow) (best_follows h (A.move k (answer k s) s)) ]
 
 -- the order of a game's steps
 abbrev pub ordered : (o : Order) (G : Game) → StepOrder G.choices G.observations
@@ -108,77 +108,77 @@ module _ (G : Game) {o : Order} where
   plan_run_lem : (σ : Strategy o) (p : Play G) (n : ℕ) → plan_run G (plan_of σ) p n ≡ run G σ p n
   plan_run_lem σ p n =
       ap (tabulate n)
-      (fun_ext (λ i. ap (λ (c : ℕ). G.letter c (p i).observation (p i).hidden) (respond-lift o (σ (seen p i)) (p i).observation)))
+      (fun_ext (λ i. ap (λ (c : ℕ). G.letter c (p i).observation (p i).hidden) (respond_lift o (σ (seen p i)) (p i).observation)))
 
-  plan-steps : (σ : Strategy o) (p : Play G) (n : ℕ) → Steps σ p n → PlanSteps G (plan_of σ) p n
-  plan-steps σ p n st = (ap lift st.0, λ m h. let (a, e) = st.1 m h in (chosen o a, ap lift e))
+  plan_steps : (σ : Strategy o) (p : Play G) (n : ℕ) → Steps σ p n → PlanSteps G (plan_of σ) p n
+  plan_steps σ p n st = (ap lift st.0, λ m h. let (a, e) = st.1 m h in (chosen o a, ap lift e))
 
-  steps-plan : (σ : Strategy o) (p : Play G) (n : ℕ) → PlanSteps G (plan_of σ) p n → Steps σ p n
-  steps-plan σ p n st = (lift-stop o _ st.0, λ m h. lift-goes o _ (st.1 m h))
+  steps_plan : (σ : Strategy o) (p : Play G) (n : ℕ) → PlanSteps G (plan_of σ) p n → Steps σ p n
+  steps_plan σ p n st = (lift_stop o _ st.0, λ m h. lift_goes o _ (st.1 m h))
 
-  plan-choices : (σ : Strategy o) → Legal (ordered o G) (plan_of σ) → (h : List ℕ) → AllBelow G.observations h → (a : Answer o) → σ h ≡ choose a
+  plan_choices : (σ : Strategy o) → Legal (ordered o G) (plan_of σ) → (h : List ℕ) → AllBelow G.observations h → (a : Answer o) → σ h ≡ choose a
       → (s : ℕ) → s < G.observations → chosen o a s < G.choices
-  plan-choices σ l h v a e = (ordered o G).below (chosen o a) (l h v (chosen o a) (ap lift e))
+  plan_choices σ l h v a e = (ordered o G).below (chosen o a) (l h v (chosen o a) (ap lift e))
 
-  plan-worst : (σ : Strategy o) (r : ℕ) (Φ : List ℕ → Type 0) → BestPlan G (ordered o G) Φ (plan_of σ) r → WorstCase G σ r
-  plan-worst σ r Φ b =
+  plan_worst : (σ : Strategy o) (r : ℕ) (Φ : List ℕ → Type 0) → BestPlan G (ordered o G) Φ (plan_of σ) r → WorstCase G σ r
+  plan_worst σ r Φ b =
       record {
         at_most = λ p m st.
             let (j, st', φ, h) = b.wins p in
-            let e = steps_unique G (plan_of σ) p m j (plan-steps σ p m st) st' in
+            let e = steps_unique G (plan_of σ) p m j (plan_steps σ p m st) st' in
             omega arith;
-        reached = (b.reached.0, steps-plan σ b.reached.0 r b.reached.1);
+        reached = (b.reached.0, steps_plan σ b.reached.0 r b.reached.1);
       }
 
-  wins-plan : (σ : Strategy o) → IsStrategy G σ → Wins G σ → WinsFor G (TrueRun G) (plan_of σ)
-  wins-plan σ is win p = go (win p)
+  wins_plan : (σ : Strategy o) → IsStrategy G σ → Wins G σ → WinsFor G (TrueRun G) (plan_of σ)
+  wins_plan σ is win p = go (win p)
     where
       go : (n : ℕ) × Steps σ p n × G.IsTrue (run G σ p n) → (n : ℕ) × PlanSteps G (plan_of σ) p n × TrueRun G (plan_run G (plan_of σ) p n)
       go (zero, st, t) = stuck (ap lift st.0) (chosen o is.opens.0, ap lift is.opens.1)
-      go (suc n, st, t) = (suc n, plan-steps σ p (suc n) st, subst (TrueRun G) (sym (plan_run_lem σ p (suc n))) t)
+      go (suc n, st, t) = (suc n, plan_steps σ p (suc n) st, subst (TrueRun G) (sym (plan_run_lem σ p (suc n))) t)
 
-module _ (G : Game) (o : Order) (some-observation : 0 < G.observations) (some-hidden : 0 < G.hiddens) (A : Arena) (knows : Knows G A) where
+module _ (G : Game) (o : Order) (some_observation : 0 < G.observations) (some_hidden : 0 < G.hiddens) (A : Arena) (knows : Knows G A) where
   abbrev O : StepOrder G.choices G.observations
   O = ordered o G
 
-  plan-legal : (σ : Strategy o) → IsStrategy G σ → Legal O (plan_of σ)
-  plan-legal σ is h v g e = lift-legal o G.choices G.observations some-observation (σ h) (is.legal h v) g e
+  plan_legal : (σ : Strategy o) → IsStrategy G σ → Legal O (plan_of σ)
+  plan_legal σ is h v g e = lift_legal o G.choices G.observations some_observation (σ h) (is.legal h v) g e
 
   pub tracks : Tracks G A A.start (TrueRun G)
-  tracks [] v = (λ t. clash t knows.starts, λ f. absurd (f (λ i. 0) (λ i. some-hidden)))
+  tracks [] v = (λ t. clash t knows.starts, λ f. absurd (f (λ i. 0) (λ i. some_hidden)))
   tracks (m ∷ h) v = knows.law m h v
 
   -- (a) a strategy that is best as a plan, for the rank of the start, is optimal
-  pub plan-optimal : (σ : Strategy o) → ((a : Answer o) × (σ [] ≡ choose a)) → (r : ℕ) → HasRank O A A.start r
+  pub plan_optimal : (σ : Strategy o) → ((a : Answer o) × (σ [] ≡ choose a)) → (r : ℕ) → HasRank O A A.start r
       → BestPlan G O (TrueRun G) (plan_of σ) r → Optimal G σ r
-  plan-optimal σ opens r a b =
+  plan_optimal σ opens r a b =
       record {
-        is_strategy = record { opens = opens; legal = plan-choices G σ b.legal };
-        wins = λ p. let (m, st, t, h) = b.wins p in (m, steps-plan G σ p m st, subst G.IsTrue (plan_run_lem G σ p m) (true_run G _ t));
-        worst = plan-worst G σ r (TrueRun G) b;
+        is_strategy = record { opens = opens; legal = plan_choices G σ b.legal };
+        wins = λ p. let (m, st, t, h) = b.wins p in (m, steps_plan G σ p m st, subst G.IsTrue (plan_run_lem G σ p m) (true_run G _ t));
+        worst = plan_worst G σ r (TrueRun G) b;
         least = λ τ is win.
             let (p, n, st, h) =
-            plan-least G O A some-observation some-hidden A.start (TrueRun G) tracks r a (plan_of τ) (plan-legal τ is) (wins-plan G τ is win) in
-            (p, n, steps-plan G τ p n st, h);
+            plan_least G O A some_observation some_hidden A.start (TrueRun G) tracks r a (plan_of τ) (plan_legal τ is) (wins_plan G τ is win) in
+            (p, n, steps_plan G τ p n st, h);
       }
 
   -- (b) from a trap no strategy wins
-  pub trapped-unrealizable : (P : A.K → Type 0) → Trap O A P → P A.start → Unrealizable G o
-  trapped-unrealizable P trap caught σ is win =
-      no_win G O A P trap some-observation some-hidden A.start caught (TrueRun G) tracks (plan_of σ) (plan-legal σ is) (wins-plan G σ is win)
+  pub trapped_unrealizable : (P : A.K → Type 0) → Trap O A P → P A.start → Unrealizable G o
+  trapped_unrealizable P trap caught σ is win =
+      no_win G O A P trap some_observation some_hidden A.start caught (TrueRun G) tracks (plan_of σ) (plan_legal σ is) (wins_plan G σ is win)
 
   -- (c) finitely many positions, at most n: the start has a rank below n, or it has none, and no strategy wins
-  module _ (ks : List A.K) (closed : Closed O A some-observation ks) (listed : Memᴰ A.start ks) (n : ℕ) (fits : length ks ≤ n) where
+  module _ (ks : List A.K) (closed : Closed O A some_observation ks) (listed : Memᴰ A.start ks) (n : ℕ) (fits : length ks ≤ n) where
     -- the rank of the start, searched below n
-    abbrev start-rank : ℕ
-    start-rank = rank_below A O.able n A.start
+    abbrev start_rank_lem : ℕ
+    start_rank_lem = rank_below A O.able n A.start
 
-    no_rank_lem : start-rank ≡ n → (r : ℕ) → In O A r A.start ≡ false
+    no_rank_lem : start_rank_lem ≡ n → (r : ℕ) → In O A r A.start ≡ false
     no_rank_lem e =
-        elim (ranked_or_lost O A some-observation ks closed A.start listed) [
+        elim (ranked_or_lost O A some_observation ks closed A.start listed) [
           | inl ranked ↦
               let (r, b, a) = ranked in
-              let z = rank-searched O A n r A.start (omega arith) a in
+              let z = rank_searched O A n r A.start (omega arith) a in
               absurd (omega arith)
           | inr l ↦ l.1
         ]
@@ -187,39 +187,39 @@ module _ (G : Game) (o : Order) (some-observation : 0 < G.observations) (some-hi
     abbrev bad : A.K → (ℕ → ℕ) → ℕ → Bool
     bad k g s = not (In O A n (A.move k (g s) s))
 
-    trap : Trap O A (Lost O A some-observation ks closed)
+    trap : Trap O A (Lost O A some_observation ks closed)
     trap =
-        lost-trap O A some-observation ks closed n fits (λ k g. first_that (bad k g) G.observations)
+        lost_trap O A some_observation ks closed n fits (λ k g. first_that (bad k g) G.observations)
         (λ k g al f.
         let (s, h, w) = O.refute (λ c s. In O A n (A.move k c s)) f g al in
         let (b, t) = first_of (bad k g) G.observations s h (ap not w) in
         (b, not-true (In O A n (A.move k (g (first_that (bad k g) G.observations)) (first_that (bad k g) G.observations))) t))
 
-    pub no_rank_unrealizable : start-rank ≡ n → Unrealizable G o
-    no_rank_unrealizable e = trapped-unrealizable (Lost O A some-observation ks closed) trap (listed, no_rank_lem e)
+    pub no_rank_unrealizable : start_rank_lem ≡ n → Unrealizable G o
+    no_rank_unrealizable e = trapped_unrealizable (Lost O A some_observation ks closed) trap (listed, no_rank_lem e)
 
     -- one of the two is the case, and the rank is below the number of positions
-    pub verdict : (start-rank < length ks) ⊎ (start-rank ≡ n)
+    pub verdict : (start_rank_lem < length ks) ⊎ (start_rank_lem ≡ n)
     verdict =
-        elim (ranked_or_lost O A some-observation ks closed A.start listed) [
-          | inl ranked ↦ inl (let (r, b, a) = ranked in rw (rank-searched O A n r A.start (omega arith) a) b)
+        elim (ranked_or_lost O A some_observation ks closed A.start listed) [
+          | inl ranked ↦ inl (let (r, b, a) = ranked in rw (rank_searched O A n r A.start (omega arith) a) b)
           | inr l ↦ inr (none_first (λ r. In O A r A.start) n (λ r h. l.1 r))
         ]
 
 -- ---- the strategy of the best answers
 
-module _ (G : Game) (o : Order) (some-observation : 0 < G.observations) (some-hidden : 0 < G.hiddens) (A : Arena) (knows : Knows G A) (n : ℕ) where
+module _ (G : Game) (o : Order) (some_observation : 0 < G.observations) (some_hidden : 0 < G.hiddens) (A : Arena) (knows : Knows G A) (n : ℕ) where
   abbrev σ : Strategy o
   σ = best o A G.choices G.observations n A.start
 
-  best-plan : (r : ℕ) → r < n → HasRank (ordered o G) A A.start r → BestPlan G (ordered o G) (TrueRun G) (plan_of σ) r
-  best-plan r small a =
-      subst (λ (τ : Plan). BestPlan G (ordered o G) (TrueRun G) τ r) (sym (fun_ext (λ h. best-follows o A G.choices G.observations n h A.start)))
-      (plan-best G (ordered o G) A some-observation some-hidden A.start (TrueRun G) (tracks G o some-observation some-hidden A knows)
+  best_plan : (r : ℕ) → r < n → HasRank (ordered o G) A A.start r → BestPlan G (ordered o G) (TrueRun G) (plan_of σ) r
+  best_plan r small a =
+      subst (λ (τ : Plan). BestPlan G (ordered o G) (TrueRun G) τ r) (sym (fun_ext (λ h. best_follows o A G.choices G.observations n h A.start)))
+      (plan_best G (ordered o G) A some_observation some_hidden A.start (TrueRun G) (tracks G o some_observation some_hidden A knows)
       (best_answer o A G.choices G.observations n) n (descends o A G.choices G.observations n) r small a)
 
   -- if the start has a rank below n it wins, its worst case is that rank, and no worst case is smaller
-  pub best-optimal : (r : ℕ) → r < n → HasRank (ordered o G) A A.start r → Optimal G σ r
-  best-optimal r small a =
-      plan-optimal G o some-observation some-hidden A knows σ
-      (answer_of o (best_answer o A G.choices G.observations n A.start), rw (knows.starts, best)) r a (best-plan r small a)
+  pub best_optimal : (r : ℕ) → r < n → HasRank (ordered o G) A A.start r → Optimal G σ r
+  best_optimal r small a =
+      plan_optimal G o some_observation some_hidden A knows σ
+      (answer_of o (best_answer o A G.choices G.observations n A.start), rw (knows.starts, best)) r a (best_plan r small a)

@@ -62,8 +62,8 @@ module _ {choices observations : ℕ} (O : StepOrder choices observations) where
   abbrev pub Legal : Plan → Type 0
   Legal σ = (h : List ℕ) → AllBelow observations h → (g : ℕ → ℕ) → σ h ≡ some g → O.Allowed g
 
-  pub legal-after : (σ : Plan) (s : ℕ) → s < observations → Legal σ → Legal (after σ s)
-  legal-after σ s b l h v = l (s ∷ h) (b, v)
+  pub legal_after : (σ : Plan) (s : ℕ) → s < observations → Legal σ → Legal (after σ s)
+  legal_after σ s b l h v = l (s ∷ h) (b, v)
 
 module _ (G : Game) where
   -- the choices and observations of the first n steps
@@ -86,18 +86,18 @@ module _ (G : Game) where
       ]
 
   -- the run is what the history and the play's hidden values make
-  pub run-letters : (σ : Plan) (p : Play G) (n : ℕ) → plan_run G σ p n ≡ letters G (history σ p n) (λ i. (p i).hidden)
-  run-letters σ p zero = refl
-  run-letters σ p (suc n) =
+  pub run_letters : (σ : Plan) (p : Play G) (n : ℕ) → plan_run G σ p n ≡ letters G (history σ p n) (λ i. (p i).hidden)
+  run_letters σ p zero = refl
+  run_letters σ p (suc n) =
       ap (λ (w : List ℕ). G.letter (respond (σ []) (p 0).observation) (p 0).observation (p 0).hidden ∷ w)
-      (run-letters (after σ (p 0).observation) (rest p) n)
+      (run_letters (after σ (p 0).observation) (rest p) n)
 
   -- the play with other hidden values
   abbrev pub hiding : Play G → (x : ℕ → ℕ) → Hidden G x → Play G
-  hiding p x h i = record { observation = (p i).observation; hidden = x i; observation-below = (p i).observation-below; hidden-below = h i }
+  hiding p x h i = record { observation = (p i).observation; hidden = x i; observation_below = (p i).observation_below; hidden_below = h i }
 
   abbrev pub reply : (s : ℕ) → s < G.observations → (x : ℕ) → x < G.hiddens → Reply G
-  reply s sb x xb = record { observation = s; hidden = x; observation-below = sb; hidden-below = xb }
+  reply s sb x xb = record { observation = s; hidden = x; observation_below = sb; hidden_below = xb }
 
   module _ (A : Arena) where
     -- the one law: a position stops exactly where the goal is met whatever was hidden
@@ -105,21 +105,21 @@ module _ (G : Game) where
     Tracks k Φ =
         (h : History) → Possible G.choices G.observations h → (A.final (know A k h) ≡ true) ↔ ((x : ℕ → ℕ) → Hidden G x → Φ (letters G h x))
 
-    pub tracks-step : (k : A.K) (Φ : List ℕ → Type 0) (c s : ℕ) → c < G.choices → s < G.observations
+    pub tracks_step : (k : A.K) (Φ : List ℕ → Type 0) (c s : ℕ) → c < G.choices → s < G.observations
         → Tracks k Φ → Tracks (A.move k c s) (AfterStep Φ c s)
-    tracks-step k Φ c s cb sb T h v =
+    tracks_step k Φ c s cb sb T h v =
         let law = T ((c, s) ∷ h) (cb, sb, v) in
         (λ t y yb x xb. law.0 t (x ∷ˢ y) (elim [ zero ↦ xb | suc i ↦ yb i ]), λ f. law.1 (λ x xb. f (rest x) (λ i. xb (suc i)) (x 0) (xb 0)))
 
-  module _ (some-observation : 0 < G.observations) (some-hidden : 0 < G.hiddens) where
+  module _ (some_observation : 0 < G.observations) (some_hidden : 0 < G.hiddens) where
     -- some play
     abbrev pub idle : Play G
-    idle i = reply 0 some-observation 0 some-hidden
+    idle i = reply 0 some_observation 0 some_hidden
 
     -- a plan that wins still wins what is left after its first step
-    pub wins-after : (Φ : List ℕ → Type 0) (σ : Plan) (g : ℕ → ℕ) → σ [] ≡ some g → WinsFor Φ σ
+    pub wins_after : (Φ : List ℕ → Type 0) (σ : Plan) (g : ℕ → ℕ) → σ [] ≡ some g → WinsFor Φ σ
         → (s : ℕ) → s < G.observations → WinsFor (AfterStep Φ (g s) s) (after σ s)
-    wins-after Φ σ g o win s sb p = rest_of (win (reply s sb 0 some-hidden ∷ˢ p))
+    wins_after Φ σ g o win s sb p = rest_of (win (reply s sb 0 some_hidden ∷ˢ p))
       where
         -- the steps left are the same whatever is hidden at the first step
         same : (m : ℕ) → PlanSteps G (after σ s) p m → (x : ℕ) (xb : x < G.hiddens)
@@ -131,7 +131,7 @@ module _ (G : Game) where
             subst (λ (l : ℕ). Φ (G.letter (g s) s x ∷ plan_run G (after σ s) p l)) e
             (subst (λ (d : Option (ℕ → ℕ)). Φ (G.letter (respond d s) s x ∷ plan_run G (after σ s) p n)) o φ)
 
-        rest_of : (n : ℕ) × PlanSteps G σ (reply s sb 0 some-hidden ∷ˢ p) n × Φ (plan_run G σ (reply s sb 0 some-hidden ∷ˢ p) n)
+        rest_of : (n : ℕ) × PlanSteps G σ (reply s sb 0 some_hidden ∷ˢ p) n × Φ (plan_run G σ (reply s sb 0 some_hidden ∷ˢ p) n)
             → (n : ℕ) × PlanSteps G (after σ s) p n × AfterStep Φ (g s) s (plan_run G (after σ s) p n)
         rest_of (zero, st, φ) = stuck st.0 (g, o)
         rest_of (suc n, st, φ) =

@@ -11,22 +11,22 @@ use mathlib.Core.List.{List}
 use lib.ListN.{length, get_or}
 use Rattle.basics.specs.Says.{Says}
 use Rattle.basics.specs.Member.{◌∈◌}
-use Rattle.basics.specs.Reach.{Listing, closed, over, index_in, reachable, Reached, reached-first, reached-step}
+use Rattle.basics.specs.Reach.{Listing, closed, over, index_in, reachable, Reached, reached_first, reached_step}
 use Rattle.basics.proofs.MemberLaws.{in_tabulate, get_d_in, distinct_length_le}
-use Rattle.basics.proofs.ReachLaws.{closed-lists, over_iff, index_right, closed-begins}
+use Rattle.basics.proofs.ReachLaws.{closed_lists, over_iff, index_right, closed_begins}
 use Rattle.play.specs.Rank.{Arena}
 use Rattle.play.specs.Table.{followers_by}
 use Rattle.basics.proofs.Booleans.{test, clash}
 use Rattle.play.proofs.StepOrder.{StepOrder}
-use Rattle.play.proofs.RankLaws.{HasRank, rank-of, unstopped}
+use Rattle.play.proofs.RankLaws.{HasRank, rank_of, unstopped}
 use Rattle.play.proofs.UpperBound.{Descends}
 use Rattle.play.proofs.FiniteArena.{Closed, rank_lt_listed}
 
 -- what holds of the first thing, and of each step from what it holds of, holds of all that is reached
-pub reached-all : {K : Type 0} {steps : K → List K} {first : K} (P : K → Type 0) → P first → ((x y : K) → P x → y ∈ steps x → P y)
+pub reached_all : {K : Type 0} {steps : K → List K} {first : K} (P : K → Type 0) → P first → ((x y : K) → P x → y ∈ steps x → P y)
     → {x : K} → Reached steps first x → P x
-reached-all P p s reached-first = p
-reached-all P p s (reached-step {x = x} {y = y} r m) = s x y (reached-all P p s r) m
+reached_all P p s reached_first = p
+reached_all P p s (reached_step {x = x} {y = y} r m) = s x y (reached_all P p s r) m
 
 module _ (A : Arena) (answer : A.K → ℕ → ℕ) (observations : ℕ) (k : A.K) where
   abbrev to : ℕ → A.K
@@ -48,16 +48,16 @@ module _ (A : Arena) (same : A.K → A.K → Bool) (says : (a b : A.K) → Says 
   abbrev pub row : ℕ → A.K
   row i = get_or rows i A.start
 
-  pub some-row : 0 < length rows
-  some-row = let (ys, e) = closed-begins same says (followers_by A answer observations) A.start n rows listed in rw e (omega arith)
+  pub some_row : 0 < length rows
+  some_row = let (ys, e) = closed_begins same says (followers_by A answer observations) A.start n rows listed in rw e (omega arith)
 
-  pub first-row : row 0 ≡ A.start
-  first-row = let (ys, e) = closed-begins same says (followers_by A answer observations) A.start n rows listed in ap (λ l. get_or l 0 A.start) e
+  pub first_row : row 0 ≡ A.start
+  first_row = let (ys, e) = closed_begins same says (followers_by A answer observations) A.start n rows listed in ap (λ l. get_or l 0 A.start) e
 
   next_in : (k : A.K) → k ∈ rows → A.final k ≡ false → (s : ℕ) → s < observations → A.move k (answer k s) s ∈ rows
   next_in k m f s b =
-      let all = (closed-lists same says (followers_by A answer observations) A.start n rows listed).0.exact in
-      (all (A.move k (answer k s) s)).1 (reached-step ((all k).0 m) (mem_followers A answer observations k f s b))
+      let all = (closed_lists same says (followers_by A answer observations) A.start n rows listed).0.exact in
+      (all (A.move k (answer k s) s)).1 (reached_step ((all k).0 m) (mem_followers A answer observations k f s b))
 
   -- the number of the position that an observation leads to is a row, of that position
   pub next_place : (i : ℕ) → i < length rows → A.final (row i) ≡ false → (s : ℕ) → s < observations
@@ -73,19 +73,19 @@ module _ {choices observations : ℕ} (O : StepOrder choices observations) (A : 
   MetRanked k = Met k × (q : ℕ) × (q < n) × HasRank O A k q
 
   -- answers are choices, and lead to such positions
-  pub ranked-answer : (k : A.K) → MetRanked k → A.final k ≡ false → (s : ℕ) → s < observations
+  pub ranked_answer : (k : A.K) → MetRanked k → A.final k ≡ false → (s : ℕ) → s < observations
       → (answer k s < choices) × MetRanked (A.move k (answer k s) s)
-  ranked-answer k (m, zero, b, a) f s sb = clash a.0 f
-  ranked-answer k (m, suc q, b, a) f s sb =
+  ranked_answer k (m, zero, b, a) f s sb = clash a.0 f
+  ranked_answer k (m, suc q, b, a) f s sb =
       let (al, right) = down k q b a in
-      let (q', h, a') = rank-of O A q (A.move k (answer k s) s) (right s sb) in
+      let (q', h, a') = rank_of O A q (A.move k (answer k s) s) (right s sb) in
       let cb = O.below (answer k) al s sb in
       (cb, (Met-next k m f (answer k s) cb s sb, q', omega arith, a'))
 
 module _ {choices observations : ℕ} (O : StepOrder choices observations) (A : Arena) (same : A.K → A.K → Bool) (says : (a b : A.K) → Says (same a b) (a ≡ b))
-    (some-observation : 0 < observations) (all : List A.K) (closed_all : Closed O A some-observation all) (start_in : A.start ∈ all)
+    (some_observation : 0 < observations) (all : List A.K) (closed_all : Closed O A some_observation all) (start_in : A.start ∈ all)
     (n : ℕ) (fits : length all ≤ n) (answer : A.K → ℕ → ℕ) (down : Descends O A answer n)
-    (r : ℕ) (small : r < n) (start-rank : HasRank O A A.start r) where
+    (r : ℕ) (small : r < n) (start_rank_lem : HasRank O A A.start r) where
   -- answers lead down from the rank of the start too
   abbrev low : Descends O A answer (suc r)
   low k q b a = down k q (omega arith) a
@@ -97,17 +97,17 @@ module _ {choices observations : ℕ} (O : StepOrder choices observations) (A : 
   abbrev steps : A.K → List A.K
   steps = followers_by A answer observations
 
-  pub ranked-next : (k j : A.K) → Ranked k → j ∈ steps k → Ranked j
-  ranked-next k j p u =
+  pub ranked_next : (k j : A.K) → Ranked k → j ∈ steps k → Ranked j
+  ranked_next k j p u =
       let (f, s, sb, e) = followers_mem A answer observations k j u in
-      subst Ranked e (ranked-answer O A (λ k. k ∈ all) closed_all (suc r) answer low k p f s sb).1
+      subst Ranked e (ranked_answer O A (λ k. k ∈ all) closed_all (suc r) answer low k p f s sb).1
 
   ranked : {k : A.K} → Reached steps A.start k → Ranked k
-  ranked = reached-all Ranked (start_in, r, le_refl (suc r), start-rank) ranked-next
+  ranked = reached_all Ranked (start_in, r, le_refl (suc r), start_rank_lem) ranked_next
 
   -- the rows are among the positions, so they can be listed
-  pub rows-listed : (rows : List A.K) × (reachable same steps A.start n ≡ closed rows)
-  rows-listed = at (reachable same steps A.start n) refl
+  pub rows_listed : (rows : List A.K) × (reachable same steps A.start n ≡ closed rows)
+  rows_listed = at (reachable same steps A.start n) refl
     where
       at : (l : Listing A.K) → reachable same steps A.start n ≡ l → (rows : List A.K) × (reachable same steps A.start n ≡ closed rows)
       at (closed rows) e = (rows, e)
@@ -116,17 +116,17 @@ module _ {choices observations : ℕ} (O : StepOrder choices observations) (A : 
           absurd (omega (arith, distinct_length_le many.distinct all (λ x m. (ranked (many.sound x m)).0), many.count))
 
   module _ (rows : List A.K) (listed : reachable same steps A.start n ≡ closed rows) where
-    pub rows-ranked : (k : A.K) → k ∈ rows → Ranked k
-    rows-ranked k m = ranked (((closed-lists same says steps A.start n rows listed).0.exact k).0 m)
+    pub rows_ranked : (k : A.K) → k ∈ rows → Ranked k
+    rows_ranked k m = ranked (((closed_lists same says steps A.start n rows listed).0.exact k).0 m)
 
     pub rows_le : length rows ≤ length all
-    rows_le = distinct_length_le (closed-lists same says steps A.start n rows listed).0.distinct all (λ k m. (rows-ranked k m).0)
+    rows_le = distinct_length_le (closed_lists same says steps A.start n rows listed).0.distinct all (λ k m. (rows_ranked k m).0)
 
     -- the rank of the start is below their number
     pub rank_lt_rows : r < length rows
     rank_lt_rows =
-        rank_lt_listed O A some-observation rows n
+        rank_lt_listed O A some_observation rows n
         (λ k q m low a.
         let (al, right) = down k q low a in
         (answer k, al, λ s b. (right s b, next_in A same says answer observations n rows listed k m (unstopped O A k q a) s b)))
-        r small A.start (((closed-lists same says steps A.start n rows listed).0.exact A.start).1 reached-first) start-rank
+        r small A.start (((closed_lists same says steps A.start n rows listed).0.exact A.start).1 reached_first) start_rank_lem

@@ -9,8 +9,8 @@ use mathlib.Core.Logic.{◌↔◌, ◌⊎◌, inl, inr}
 use Rattle.basics.specs.declared.order.Order.TheVariants.{Read}
 use Rattle.play.specs.History.{History, Possible, onward}
 use Rattle.play.specs.IsTable.{RankBelow, RankIs, BestNext}
-use Rattle.play.proofs.HistoryLaws.{possible-onward}
-use Rattle.play.proofs.IsTableLaws.{below_le, has-answer}
+use Rattle.play.proofs.HistoryLaws.{possible_onward}
+use Rattle.play.proofs.IsTableLaws.{below_le, has_answer}
 
 -- ---- searches below a bound for what is decided
 
@@ -54,23 +54,23 @@ module _ (choices observations : ℕ) (Final : History → Type 0)
   abbrev SomeBelow : ℕ → History → ℕ → Type 0
   SomeBelow r h s = (c : ℕ) × (c < choices) × Below r (onward h c s)
 
-  some-decided : (r : ℕ) → ((h : History) → Can h → Decided (Below r h))
+  some_decided : (r : ℕ) → ((h : History) → Can h → Decided (Below r h))
       → (h : History) → Can h → (s : ℕ) → s < observations → Decided (SomeBelow r h s)
-  some-decided r d h p s sb =
-      elim (first_or_none choices (λ c. Below r (onward h c s)) (λ c cb. d (onward h c s) (possible-onward choices observations h c s p cb sb))) [
+  some_decided r d h p s sb =
+      elim (first_or_none choices (λ c. Below r (onward h c s)) (λ c cb. d (onward h c s) (possible_onward choices observations h c s p cb sb))) [
         | inl (c, cb, b, before) ↦ inl (c, cb, b)
         | inr never ↦ inr (λ e. never e.0 e.1 e.2)
       ]
 
-  below-decided : (r : ℕ) (h : History) → Can h → Decided (Below r h)
-  below-decided zero h p = inr (λ b. b)
-  below-decided (suc r) h p =
+  below_decided : (r : ℕ) (h : History) → Can h → Decided (Below r h)
+  below_decided zero h p = inr (λ b. b)
+  below_decided (suc r) h p =
       elim (decided h p) [
         | inl f ↦ inl (inl f)
         | inr n ↦
-            elim (all_or_not observations (SomeBelow r h) (some-decided r (below-decided r) h p)) [
+            elim (all_or_not observations (SomeBelow r h) (some_decided r (below_decided r) h p)) [
               | inl all ↦ inl (inr all)
-              | inr (s, sb, none) ↦ inr (λ b. none (has-answer Read choices observations Final h n r b s sb))
+              | inr (s, sb, none) ↦ inr (λ b. none (has_answer Read choices observations Final h n r b s sb))
             ]
       ]
 
@@ -80,24 +80,24 @@ module _ (choices observations : ℕ) (Final : History → Type 0)
     none_below zero f c cb b = b
     none_below (suc q) f c cb b = f q (le_refl (suc q)) (c, cb, b)
 
-    best-next : (r : ℕ) → SomeBelow (suc r) h s → (q : ℕ) × (q ≤ r) × BestNext Read choices observations Final h s q
-    best-next r e =
-        elim (first_or_none (suc r) (λ q. SomeBelow (suc q) h s) (λ q l. some-decided (suc q) (below-decided (suc q)) h p s sb)) [
+    best_next : (r : ℕ) → SomeBelow (suc r) h s → (q : ℕ) × (q ≤ r) × BestNext Read choices observations Final h s q
+    best_next r e =
+        elim (first_or_none (suc r) (λ q. SomeBelow (suc q) h s) (λ q l. some_decided (suc q) (below_decided (suc q)) h p s sb)) [
           | inl (q, l, (c, cb, b), before) ↦
               let low = none_below q before in
               (q, le_of_suc-le-suc l, ((c, cb, (b, low c cb)), low))
           | inr never ↦ absurd (never r (le_refl (suc r)) e)
         ]
 
-  pub read-rank : (h : History) → Can h → (¬ Final h) → (r : ℕ)
+  pub read_rank : (h : History) → Can h → (¬ Final h) → (r : ℕ)
       → RankIs Read choices observations Final h (suc r)
       ↔ (((s : ℕ) → s < observations → (q : ℕ) × (q ≤ r) × BestNext Read choices observations Final h s q)
       × ((s : ℕ) × (s < observations) × BestNext Read choices observations Final h s r))
-  read-rank h p n r = (
+  read_rank h p n r = (
     λ a.
-        let some : (s : ℕ) → s < observations → SomeBelow (suc r) h s = has-answer Read choices observations Final h n (suc r) a.0 in (
-          λ s sb. best-next h p s sb r (some s sb),
-          elim (all_or_not observations (SomeBelow r h) (some-decided r (below-decided r) h p)) [
+        let some : (s : ℕ) → s < observations → SomeBelow (suc r) h s = has_answer Read choices observations Final h n (suc r) a.0 in (
+          λ s sb. best_next h p s sb r (some s sb),
+          elim (all_or_not observations (SomeBelow r h) (some_decided r (below_decided r) h p)) [
             | inl all ↦ absurd (a.1 (inr all))
             | inr (s, sb, none) ↦
                 let (c, cb, b) = some s sb in
@@ -110,6 +110,6 @@ module _ (choices observations : ℕ) (Final : History → Type 0)
               let (q, l, best) = next s sb in
               let (c, cb, a) = best.0 in
               (c, cb, below_le Read choices observations Final (suc q) (suc r) (onward h c s) (suc-le-suc l) a.0)),
-          λ b. let (c, cb, m) = has-answer Read choices observations Final h n r b s sb in worst.1 c cb m,
+          λ b. let (c, cb, m) = has_answer Read choices observations Final h n r b s sb in worst.1 c cb m,
         ),
   )

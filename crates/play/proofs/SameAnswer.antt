@@ -11,7 +11,7 @@ use borrow.Author.Tests.{ltb-true}
 use Rattle.basics.specs.Bounded.{all, first_that}
 use Rattle.basics.specs.Reach.{Listing, closed, over, index_in, reachable}
 use Rattle.basics.proofs.Booleans.{test}
-use Rattle.basics.proofs.BoundedLaws.{all_ext, any_ext, first_ext, first_passes, first-least}
+use Rattle.basics.proofs.BoundedLaws.{all_ext, any_ext, first_ext, first_passes, first_least}
 use Rattle.basics.proofs.ListsLaws.{map_table, tabulate_ext}
 use Rattle.basics.proofs.SameSearch.{Each, each-tabulate, EachListed, map_listing, index_image, flat_image, reachable_image}
 use Rattle.basics.specs.declared.order.Order.{Order}
@@ -23,7 +23,7 @@ use Rattle.play.specs.Answer.{Verdict, solved, unrealizable, start_rank, verdict
 use Rattle.play.proofs.StepOrder.{StepOrder, can_ext, order_of}
 use Rattle.play.proofs.RankLaws.{In}
 use Rattle.play.proofs.Optimality.{descends}
-use Rattle.play.proofs.RankedRows.{MetRanked, ranked-answer}
+use Rattle.play.proofs.RankedRows.{MetRanked, ranked_answer}
 use Rattle.play.proofs.CellsLaws.{choice_ext}
 
 -- the positions of A that are met have names in B, one to one; the start, where to stop, and moves from where one does not stop go by them
@@ -32,8 +32,8 @@ pub record Renaming (A B : Arena) (sameA : A.K → A.K → Bool) (sameB : B.K �
   pub met_start : Met A.start
   pub met_next : (k : A.K) → Met k → A.final k ≡ false → (c : ℕ) → c < choices → (s : ℕ) → s < observations → Met (A.move k c s)
   pub named_start : named A.start ≡ B.start
-  pub named-final : (k : A.K) → Met k → B.final (named k) ≡ A.final k
-  pub named-move : (k : A.K) → Met k → A.final k ≡ false → (c : ℕ) → c < choices → (s : ℕ) → s < observations
+  pub named_final : (k : A.K) → Met k → B.final (named k) ≡ A.final k
+  pub named_move : (k : A.K) → Met k → A.final k ≡ false → (c : ℕ) → c < choices → (s : ℕ) → s < observations
       → B.move (named k) c s ≡ named (A.move k c s)
   pub one : (j k : A.K) → Met j → Met k → sameB (named j) (named k) ≡ sameA j k
 
@@ -46,9 +46,9 @@ listed_image : {K L : Type 0} (f : K → L) (l : Listing K) → list_of (map_lis
 listed_image f (closed xs) = refl
 listed_image f over = refl
 
-each-listed : {K : Type 0} (P : K → Type 0) (l : Listing K) → EachListed P l → Each P (list_of l)
-each-listed P (closed xs) e = e
-each-listed P over e = tt
+each_listed : {K : Type 0} (P : K → Type 0) (l : Listing K) → EachListed P l → Each P (list_of l)
+each_listed P (closed xs) e = e
+each_listed P over e = tt
 
 module _ {A B : Arena} {sameA : A.K → A.K → Bool} {sameB : B.K → B.K → Bool} {choices observations : ℕ} {named : A.K → B.K} {Met : A.K → Type 0}
     (R : Renaming A B sameA sameB choices observations named Met) where
@@ -56,13 +56,13 @@ module _ {A B : Arena} {sameA : A.K → A.K → Bool} {sameB : B.K → B.K → B
 
   module _ (can : (ℕ → ℕ → Bool) → Bool) (respects : Respects choices observations can) where
     pub within_image : (r : ℕ) (k : A.K) → Met k → within A can r k ≡ within B can r (named k)
-    within_image zero k m = sym (R.named-final k m)
+    within_image zero k m = sym (R.named_final k m)
     within_image (suc r) k m =
         elim (test (A.final k)) [
-          | inl t ↦ rw (t, R.named-final k m ∙ t)
+          | inl t ↦ rw (t, R.named_final k m ∙ t)
           | inr f ↦
-              ap₂ ◌||◌ (sym (R.named-final k m)) (respects _ _ (λ c s cb sb.
-              within_image r (A.move k c s) (R.met_next k m f c cb s sb) ∙ ap (within B can r) (sym (R.named-move k m f c cb s sb))))
+              ap₂ ◌||◌ (sym (R.named_final k m)) (respects _ _ (λ c s cb sb.
+              within_image r (A.move k c s) (R.met_next k m f c cb s sb) ∙ ap (within B can r) (sym (R.named_move k m f c cb s sb))))
         ]
 
     pub rank_image : (n : ℕ) (k : A.K) → Met k → rank_below A can n k ≡ rank_below B can n (named k)
@@ -78,7 +78,7 @@ module _ {A B : Arena} {sameA : A.K → A.K → Bool} {sameB : B.K → B.K → B
         → leads_within o A choices observations r k c s ≡ leads_within o B choices observations r (named k) c s
     leads_image k m f r c s cb sb =
         within_image (can o choices observations) (can_ext O) r (A.move k c s) (R.met_next k m f c cb s sb)
-        ∙ ap (within B (can o choices observations) r) (sym (R.named-move k m f c cb s sb))
+        ∙ ap (within B (can o choices observations) r) (sym (R.named_move k m f c cb s sb))
 
     from_image : (n : ℕ) (k : A.K) → Met k → rank_from o A choices observations n k ≡ rank_from o B choices observations n (named k)
     from_image = rank_image (can o choices observations) (can_ext O)
@@ -105,19 +105,19 @@ module _ {A B : Arena} {sameA : A.K → A.K → Bool} {sameB : B.K → B.K → B
     move_image : (k : A.K) → Followed k → A.final k ≡ false → (s : ℕ) → s < observations
         → B.move (named k) (answerB (named k) s) s ≡ named (A.move k (answerA k s) s)
     move_image k p f s sb =
-        ap (λ c. B.move (named k) c s) (sym (alike k p f s sb)) ∙ R.named-move k (met k p) f (answerA k s) (next k p f s sb).0 s sb
+        ap (λ c. B.move (named k) c s) (sym (alike k p f s sb)) ∙ R.named_move k (met k p) f (answerA k s) (next k p f s sb).0 s sb
 
     followers_image : (k : A.K) → Followed k → followers_by B answerB observations (named k) ≡ map named (followers_by A answerA observations k)
     followers_image k p =
         elim (test (A.final k)) [
-          | inl t ↦ rw (t, followers_by, R.named-final k (met k p) ∙ t)
+          | inl t ↦ rw (t, followers_by, R.named_final k (met k p) ∙ t)
           | inr f ↦
-              rw (f, followers_by, R.named-final k (met k p) ∙ f)
+              rw (f, followers_by, R.named_final k (met k p) ∙ f)
               (tabulate_ext observations _ _ (λ s sb. move_image k p f s sb) ∙ sym (map_table named observations (λ s. A.move k (answerA k s) s)))
         ]
 
-    followers-each : (k : A.K) → Followed k → Each Followed (followers_by A answerA observations k)
-    followers-each k p =
+    followers_each : (k : A.K) → Followed k → Each Followed (followers_by A answerA observations k)
+    followers_each k p =
         elim (test (A.final k)) [
           | inl t ↦ rw (t, followers_by) tt
           | inr f ↦ rw (f, followers_by) (each-tabulate Followed observations _ (λ s sb. (next k p f s sb).1))
@@ -127,15 +127,15 @@ module _ {A B : Arena} {sameA : A.K → A.K → Bool} {sameB : B.K → B.K → B
         × Each Followed (rows_by A sameA answerA observations n)
     rows_image n =
         let (e, each) = reachable_image sameA sameB named Followed (λ j k p q. R.one j k (met j p) (met k q))
-        (followers_by A answerA observations) (followers_by B answerB observations) A.start first followers-each followers_image n in
+        (followers_by A answerA observations) (followers_by B answerB observations) A.start first followers_each followers_image n in
         let l = reachable sameA (followers_by A answerA observations) A.start n in (
           ap (λ k. list_of (reachable sameB (followers_by B answerB observations) k n)) (sym R.named_start) ∙ ap list_of e ∙ listed_image named l,
-          each-listed Followed l each,
+          each_listed Followed l each,
         )
 
   -- ---- the table of the best answers, where the start has a rank
 
-  module _ (o : Order) (some-observation : 0 < observations) (n : ℕ) where
+  module _ (o : Order) (some_observation : 0 < observations) (n : ℕ) where
     abbrev r : ℕ
     r = start_rank o A sameA choices observations n
 
@@ -146,31 +146,31 @@ module _ {A B : Arena} {sameA : A.K → A.K → Bool} {sameB : B.K → B.K → B
       abbrev Ranked : A.K → Type 0
       Ranked = MetRanked (O o) A Met R.met_next n answer (descends o A choices observations n)
 
-      next-ranked : (k : A.K) → Ranked k → A.final k ≡ false → (s : ℕ) → s < observations
+      next_ranked : (k : A.K) → Ranked k → A.final k ≡ false → (s : ℕ) → s < observations
           → (answer k s < choices) × Ranked (A.move k (answer k s) s)
-      next-ranked = ranked-answer (O o) A Met R.met_next n answer (descends o A choices observations n)
+      next_ranked = ranked_answer (O o) A Met R.met_next n answer (descends o A choices observations n)
 
-      start-ranked : Ranked A.start
-      start-ranked =
-          (R.met_start, r, ranked, (first_passes (λ q. In (O o) A q A.start) n ranked, first-least (λ q. In (O o) A q A.start) n))
+      start_ranked : Ranked A.start
+      start_ranked =
+          (R.met_start, r, ranked, (first_passes (λ q. In (O o) A q A.start) n ranked, first_least (λ q. In (O o) A q A.start) n))
 
-      table-rows : (rows o B sameB choices observations n ≡ map named (rows o A sameA choices observations n))
+      table_rows : (rows o B sameB choices observations n ≡ map named (rows o A sameA choices observations n))
           × Each Ranked (rows o A sameA choices observations n)
-      table-rows =
-          rows_image answer (best_answer o B choices observations n) Ranked start-ranked (λ k p. p.0) next-ranked
+      table_rows =
+          rows_image answer (best_answer o B choices observations n) Ranked start_ranked (λ k p. p.0) next_ranked
           (λ k p f s sb. answer_image o n k p.0 f s sb) n
 
       unranked_image : (l : List A.K) → Each Ranked l → (k : A.K) → Ranked k
           → unranked o A sameA choices observations n l k ≡ unranked o B sameB choices observations n (map named l) (named k)
       unranked_image l each k p =
           elim (test (A.final k)) [
-            | inl t ↦ rw (t, unranked, R.named-final k p.0 ∙ t)
+            | inl t ↦ rw (t, unranked, R.named_final k p.0 ∙ t)
             | inr f ↦
-                rw (f, unranked, R.named-final k p.0 ∙ f)
-                (choice_ext o observations _ _ _ _ some-observation (λ s sb. answer_image o n k p.0 f s sb) (λ s sb.
-                let (cb, q) = next-ranked k p f s sb in
+                rw (f, unranked, R.named_final k p.0 ∙ f)
+                (choice_ext o observations _ _ _ _ some_observation (λ s sb. answer_image o n k p.0 f s sb) (λ s sb.
+                let (cb, q) = next_ranked k p f s sb in
                 sym (index_image sameA sameB named Ranked (λ i j u v. R.one i j u.0 v.0) (A.move k (answer k s) s) l q each)
-                ∙ ap (λ j. index_in sameB j (map named l)) (sym (R.named-move k p.0 f (answer k s) cb s sb)
+                ∙ ap (λ j. index_in sameB j (map named l)) (sym (R.named_move k p.0 f (answer k s) cb s sb)
                 ∙ ap (λ c. B.move (named k) c s) (answer_image o n k p.0 f s sb))))
           ]
 
@@ -182,8 +182,8 @@ module _ {A B : Arena} {sameA : A.K → A.K → Bool} {sameB : B.K → B.K → B
       cells_image =
           let l : List A.K = rows o A sameA choices observations n in
           flat_image named Ranked (row_of o A sameA choices observations n l) (row_of o B sameB choices observations n (map named l))
-          (row_image l table-rows.1) l table-rows.1
-          ∙ ap (λ m. flat_map (row_of o B sameB choices observations n m) m) (sym table-rows.0)
+          (row_image l table_rows.1) l table_rows.1
+          ∙ ap (λ m. flat_map (row_of o B sameB choices observations n m) m) (sym table_rows.0)
 
     -- the verdict is the same
     pub verdict_image : verdict_of o A sameA choices observations n ≡ verdict_of o B sameB choices observations n
@@ -197,6 +197,6 @@ module _ {A B : Arena} {sameA : A.K → A.K → Bool} {sameB : B.K → B.K → B
             → cond (ltb r n) (solved (length (rows o A sameA choices observations n)) r (table_cells o A sameA choices observations n)) unrealizable ≡ pick r
         at true e =
             let low = ltb-true r n e in
-            let count = sym (length-map (rows o A sameA choices observations n) named) ∙ ap length (sym (table-rows low).0) in
+            let count = sym (length-map (rows o A sameA choices observations n) named) ∙ ap length (sym (table_rows low).0) in
             rw e (ap₂ (λ l t. solved l r t) count (cells_image low))
         at false e = rw e

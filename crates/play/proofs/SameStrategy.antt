@@ -51,7 +51,7 @@ answers_alike Read n f g some e s h = e s h
 module _ (G : Game) where
   pub seen_below : (p : Play G) (n : ℕ) → AllBelow G.observations (seen p n)
   seen_below p zero = tt
-  seen_below p (suc n) = ((p 0).observation-below, seen_below (rest p) n)
+  seen_below p (suc n) = ((p 0).observation_below, seen_below (rest p) n)
 
   -- the steps and the runs of one are those of the other
   module _ {o : Order} (σ τ : Strategy o) (alike : (h : List ℕ) → AllBelow G.observations h → Alike G.observations (σ h) (τ h)) where
@@ -65,7 +65,7 @@ module _ (G : Game) where
     run_alike : (p : Play G) (n : ℕ) → run G σ p n ≡ run G τ p n
     run_alike p n =
         tabulate_ext n _ _ (λ i h. ap (λ (c : ℕ). G.letter c (p i).observation (p i).hidden)
-        (alike_choice o G.observations (σ (seen p i)) (τ (seen p i)) (alike (seen p i) (seen_below p i)) (p i).observation (p i).observation-below))
+        (alike_choice o G.observations (σ (seen p i)) (τ (seen p i)) (alike (seen p i) (seen_below p i)) (p i).observation (p i).observation_below))
 
     strategy_alike : IsStrategy G τ → IsStrategy G σ
     strategy_alike is =

@@ -11,12 +11,12 @@ use mathlib.Core.Bool.{Bool, true, false}
 use Rattle.basics.specs.Bounded.{all, any, first_that}
 use Rattle.basics.specs.declared.order.Order.{Order}
 use Rattle.basics.specs.declared.order.Order.TheVariants.{Set, Read}
-use Rattle.basics.proofs.BoundedLaws.{any_at, any_not, all-at, all_of, first_of, first-least}
+use Rattle.basics.proofs.BoundedLaws.{any_at, any_not, all_at, all_of, first_of, first_least}
 use Rattle.basics.proofs.Booleans.{clash}
 use Rattle.play.specs.Game.{chosen}
 use Rattle.play.specs.Rank.{Arena, RankOf, leads_within, next_rank, answer_of, best_answer}
 use Rattle.play.proofs.StepOrder.{order_of}
-use Rattle.play.proofs.RankLaws.{In, within_le, rank-of, rank-searched, goes_on_lem}
+use Rattle.play.proofs.RankLaws.{In, within_le, rank_of, rank_searched, goes_on_lem}
 
 module _ (o : Order) (A : Arena) (choices observations : ℕ) where
   -- the position has a rank, and it is below r
@@ -25,7 +25,7 @@ module _ (o : Order) (A : Arena) (choices observations : ℕ) where
 
   pub ranked_iff : (r : ℕ) (k : A.K) → (In (order_of o choices observations) A r k ≡ true) ↔ RankedBelow (suc r) k
   ranked_iff r k = (
-    λ t. let (q, b, a) = rank-of (order_of o choices observations) A r k t in (q, suc-le-suc b, a),
+    λ t. let (q, b, a) = rank_of (order_of o choices observations) A r k t in (q, suc-le-suc b, a),
     λ e. let (q, b, a) = e in within_le (order_of o choices observations) A q r k (le_of_suc-le-suc b) a.0,
   )
 
@@ -43,7 +43,7 @@ module _ (A : Arena) (choices observations : ℕ) where
   works_iff r k c = (
     λ t s h.
         (ranked_iff Set A choices observations r (A.move k c s)).0
-        (all-at observations (λ s. leads_within Set A choices observations r k c s) t s h),
+        (all_at observations (λ s. leads_within Set A choices observations r k c s) t s h),
     λ f.
         all_of observations (λ s. leads_within Set A choices observations r k c s)
         (λ s h. (ranked_iff Set A choices observations r (A.move k c s)).1 (f s h)),
@@ -59,8 +59,8 @@ module _ (A : Arena) (choices observations : ℕ) where
       let (b', w) = first_of (works r k) choices c b t in
       subst (λ (q : ℕ). let c = first_that (works (pred q) k) choices in
       (c < choices) × MovesBelow (suc r) k c × ((d : ℕ) → d < c → ¬ MovesBelow (suc r) k d))
-      (sym (rank-searched (order_of Set choices observations) A n (suc r) k h a))
-      (b', (works_iff r k (first_that (works r k) choices)).0 w, λ d u l. clash ((works_iff r k d).1 l) (first-least (works r k) choices d u))
+      (sym (rank_searched (order_of Set choices observations) A n (suc r) k h a))
+      (b', (works_iff r k (first_that (works r k) choices)).0 w, λ d u l. clash ((works_iff r k d).1 l) (first_least (works r k) choices d u))
 
 -- ---- `Read`
 
@@ -82,33 +82,33 @@ module _ (A : Arena) (choices observations : ℕ) where
       let some : ℕ → Bool = λ q. any choices (leads q k s) in
       let q = first_that some n in
       let c = first_that (leads q k s) choices in
-      let r_some = all-at observations (λ s. any choices (leads r k s)) (goes_on_lem (order_of Read choices observations) A k r a) s sb in
+      let r_some = all_at observations (λ s. any choices (leads r k s)) (goes_on_lem (order_of Read choices observations) A k r a) s sb in
       let (qb, q-some) = first_of some n r (omega arith) r_some in
       let (d, db, t) = any_at choices (leads q k s) q-some in
       let (cb, w) = first_of (leads q k s) choices d db t in
       let low : (d p : ℕ) → d < choices → p < q → leads p k s d ≡ false =
-      λ d p db pb. any_not choices (leads p k s) (first-least some n p pb) d db in (
+      λ d p db pb. any_not choices (leads p k s) (first_least some n p pb) d db in (
         cb,
-        elim (dec_le q r) [ yes l ↦ suc-le-suc l | no l ↦ clash r_some (first-least some n r (omega arith)) ],
+        elim (dec_le q r) [ yes l ↦ suc-le-suc l | no l ↦ clash r_some (first_least some n r (omega arith)) ],
         (w, λ p pb. low c p cb pb),
         λ d db e. clash e.2.0 (low d e.0 db e.1),
-        λ d db e. clash e.0 (first-least (leads q k s) choices d db),
+        λ d db e. clash e.0 (first_least (leads q k s) choices d db),
       )
 
 -- ---- either order
 
 -- at every observation it is a choice, and leads to a rank below the position's own
-pub best-leads : (o : Order) (A : Arena) (choices observations n : ℕ) (k : A.K) (r : ℕ) → r < n → A.final k ≡ false
+pub best_leads : (o : Order) (A : Arena) (choices observations n : ℕ) (k : A.K) (r : ℕ) → r < n → A.final k ≡ false
     → RankOf o A choices observations k r → (s : ℕ) → s < observations
     → let c = best_answer o A choices observations n k s in (c < choices) × RankedBelow o A choices observations r (A.move k c s)
-best-leads Set A choices observations n k r h f a s sb =
+best_leads Set A choices observations n k r h f a s sb =
     let (cb, l, least) = takes_below A choices observations n k r h f a in (cb, l s sb)
-best-leads Read A choices observations n k r h f a s sb =
+best_leads Read A choices observations n k r h f a s sb =
     let (cb, qb, d, low, least) = takes_best_next A choices observations n k r h f a s sb in
     (cb, (next_rank Read A choices observations n k s, qb, d))
 
 -- as an answer of the order
-pub best-chosen : (o : Order) (A : Arena) (choices observations n : ℕ) (k : A.K) (s : ℕ)
+pub best_chosen : (o : Order) (A : Arena) (choices observations n : ℕ) (k : A.K) (s : ℕ)
     → chosen o (answer_of o (best_answer o A choices observations n k)) s ≡ best_answer o A choices observations n k s
-best-chosen Set A choices observations n k s = refl
-best-chosen Read A choices observations n k s = refl
+best_chosen Set A choices observations n k s = refl
+best_chosen Read A choices observations n k s = refl

@@ -9,7 +9,7 @@ use Rattle.basics.specs.Bounded.{all, any, first_that}
 use Rattle.basics.specs.declared.order.Order.{Order}
 use Rattle.basics.specs.declared.order.Order.TheVariants.{Set, Read}
 use Rattle.play.specs.Rank.{can}
-use Rattle.basics.proofs.BoundedLaws.{all-at, all_not, any_at, any_not, first_of}
+use Rattle.basics.proofs.BoundedLaws.{all_at, all_not, any_at, any_not, first_of}
 use Rattle.basics.proofs.Booleans.{test, clash}
 
 pub record StepOrder (choices observations : ℕ) : Type 1 where
@@ -21,21 +21,21 @@ pub record StepOrder (choices observations : ℕ) : Type 1 where
   pub refute : (ok : ℕ → ℕ → Bool) → able ok ≡ false → (g : ℕ → ℕ) → Allowed g → (s : ℕ) × (s < observations) × (ok (g s) s ≡ false)
 
 module _ {choices observations : ℕ} (O : StepOrder choices observations) where
-  pub can-of : (ok : ℕ → ℕ → Bool) (g : ℕ → ℕ) → O.Allowed g → ((s : ℕ) → s < observations → ok (g s) s ≡ true) → O.able ok ≡ true
-  can-of ok g a right =
+  pub can_of : (ok : ℕ → ℕ → Bool) (g : ℕ → ℕ) → O.Allowed g → ((s : ℕ) → s < observations → ok (g s) s ≡ true) → O.able ok ≡ true
+  can_of ok g a right =
       elim (test (O.able ok)) [ inl t ↦ t | inr f ↦ let (s, h, w) = O.refute ok f g a in clash (right s h) w ]
 
   pub can_mono : (ok ok' : ℕ → ℕ → Bool) → ((c s : ℕ) → ok c s ≡ true → ok' c s ≡ true) → O.able ok ≡ true → O.able ok' ≡ true
-  can_mono ok ok' up t = let (g, a, right) = O.answer ok t in can-of ok' g a (λ s h. up (g s) s (right s h))
+  can_mono ok ok' up t = let (g, a, right) = O.answer ok t in can_of ok' g a (λ s h. up (g s) s (right s h))
 
   -- the test looks at choices and observations that can occur alone
   pub can_ext : (ok ok' : ℕ → ℕ → Bool) → ((c s : ℕ) → c < choices → s < observations → ok c s ≡ ok' c s) → O.able ok ≡ O.able ok'
   can_ext ok ok' e =
       elim (test (O.able ok)) [
-        | inl t ↦ let (g, a, right) = O.answer ok t in t ∙ sym (can-of ok' g a (λ s h. sym (e (g s) s (O.below g a s h) h) ∙ right s h))
+        | inl t ↦ let (g, a, right) = O.answer ok t in t ∙ sym (can_of ok' g a (λ s h. sym (e (g s) s (O.below g a s h) h) ∙ right s h))
         | inr f ↦
             elim (test (O.able ok')) [
-              | inl t ↦ let (g, a, right) = O.answer ok' t in clash (can-of ok g a (λ s h. e (g s) s (O.below g a s h) h ∙ right s h)) f
+              | inl t ↦ let (g, a, right) = O.answer ok' t in clash (can_of ok g a (λ s h. e (g s) s (O.below g a s h) h ∙ right s h)) f
               | inr f' ↦ f ∙ sym f'
             ]
       ]
@@ -55,12 +55,12 @@ pub allowed_answer : (o : Order) (choices observations : ℕ) (ok : ℕ → ℕ 
     → (g : ℕ → ℕ) × AllowedIn o choices observations g × ((s : ℕ) → s < observations → ok (g s) s ≡ true)
 allowed_answer Set choices observations ok t =
     let (c, b, r) = any_at choices (λ c. all observations (λ s. ok c s)) t in
-    (λ s. c, (c, b, λ s. refl), all-at observations (λ s. ok c s) r)
+    (λ s. c, (c, b, λ s. refl), all_at observations (λ s. ok c s) r)
 allowed_answer Read choices observations ok t =
     let right : (s : ℕ) → s < observations
     → (first_that (λ c. ok c s) choices < choices) × (ok (first_that (λ c. ok c s) choices) s ≡ true) =
     λ s h.
-    let (c, b, w) = any_at choices (λ c. ok c s) (all-at observations (λ s. any choices (λ c. ok c s)) t s h) in
+    let (c, b, w) = any_at choices (λ c. ok c s) (all_at observations (λ s. any choices (λ c. ok c s)) t s h) in
     first_of (λ c. ok c s) choices c b w in
     (λ s. first_that (λ c. ok c s) choices, λ s h. (right s h).0, λ s h. (right s h).1)
 

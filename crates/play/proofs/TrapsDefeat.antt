@@ -13,7 +13,7 @@ use Rattle.play.specs.Rank.{Arena}
 use Rattle.play.specs.History.{Possible, know}
 use Rattle.basics.proofs.Booleans.{clash}
 use Rattle.play.proofs.StepOrder.{StepOrder}
-use Rattle.play.proofs.Plans.{rest, Plan, after, respond, Goes, stuck, PlanSteps, plan_run, history, WinsFor, hiding, Tracks, Legal, legal-after, steps_unique, run-letters}
+use Rattle.play.proofs.Plans.{rest, Plan, after, respond, Goes, stuck, PlanSteps, plan_run, history, WinsFor, hiding, Tracks, Legal, legal_after, steps_unique, run_letters}
 
 module _ (G : Game) (O : StepOrder G.choices G.observations) where
   -- the choices and observations so far are possible ones
@@ -23,10 +23,10 @@ module _ (G : Game) (O : StepOrder G.choices G.observations) where
   possible (suc n) σ l p o =
       let (g, e) = o 0 (suc-le-suc zero-le) in
       let s = (p 0).observation in
-      let sb = (p 0).observation-below in (
+      let sb = (p 0).observation_below in (
         subst (λ (d : Option (ℕ → ℕ)). respond d s < G.choices) (sym e) (O.below g (l [] tt g e) s sb),
         sb,
-        possible n (after σ s) (legal-after O σ s sb l) (rest p) (λ m h. o (suc m) (suc-le-suc h)),
+        possible n (after σ s) (legal_after O σ s sb l) (rest p) (λ m h. o (suc m) (suc-le-suc h)),
       )
 
   module _ (A : Arena) (σ : Plan) (l : Legal O σ) (p : Play G) (n : ℕ) (o : (m : ℕ) → m < n → Goes (σ (seen p m)))
@@ -39,14 +39,14 @@ module _ (G : Game) (O : StepOrder G.choices G.observations) where
         (λ x b.
         let (n', st', φ) = win (hiding G p x b) in
         let e = steps_unique G σ (hiding G p x b) n' n st' st in
-        subst Φ (run-letters G σ (hiding G p x b) n) (subst (λ (m : ℕ). Φ (plan_run G σ (hiding G p x b) m)) e φ)))
+        subst Φ (run_letters G σ (hiding G p x b) n) (subst (λ (m : ℕ). Φ (plan_run G σ (hiding G p x b) m)) e φ)))
         unsure
 
 pub record Trap {choices observations : ℕ} (O : StepOrder choices observations) (A : Arena) (P : A.K → Type 0) : Type 0 where
   pub unstopped : (k : A.K) → P k → A.final k ≡ false
   -- the observation against an answer
   pub foil : A.K → (ℕ → ℕ) → ℕ
-  pub foil-below : (k : A.K) → P k → (g : ℕ → ℕ) → O.Allowed g → foil k g < observations
+  pub foil_below : (k : A.K) → P k → (g : ℕ → ℕ) → O.Allowed g → foil k g < observations
   pub stays : (k : A.K) → P k → (g : ℕ → ℕ) → O.Allowed g → P (A.move k (g (foil k g)) (foil k g))
 
 module _ (G : Game) (O : StepOrder G.choices G.observations) (A : Arena) where
@@ -66,42 +66,42 @@ module _ (G : Game) (O : StepOrder G.choices G.observations) (A : Arena) where
         let is : s ≡ trap.foil k g = f 0 (λ m h. let z : m ≡ 0 = omega arith in rw z (g, e)) ∙ ap (trap.foil k) r in
         let t' : P (A.move k (respond (σ []) s) s) =
         subst (λ (a : ℕ → ℕ). P (A.move k (a s) s)) (sym r) (subst (λ (u : ℕ). P (A.move k (g u) u)) (sym is) (trap.stays k t g (l [] tt g e))) in
-        trapped n (A.move k (respond (σ []) s) s) t' (after σ s) (legal-after O σ s (p 0).observation-below l) (rest p)
+        trapped n (A.move k (respond (σ []) s) s) t' (after σ s) (legal_after O σ s (p 0).observation_below l) (rest p)
         (λ i q. f (suc i) (elim [ zero ↦ λ h. (g, e) | suc m ↦ λ h. q m (le_of_suc-le-suc h) ])) (λ m h. o (suc m) (suc-le-suc h))
 
-    module _ (some-observation : 0 < G.observations) (some-hidden : 0 < G.hiddens) where
+    module _ (some_observation : 0 < G.observations) (some_hidden : 0 < G.hiddens) where
       -- there is such a play against every plan: at each step the observation, and the position that it leads to
       respite : (d : Option (ℕ → ℕ)) → ((g : ℕ → ℕ) → d ≡ some g → O.Allowed g) → (k : A.K) → P k → (s : ℕ) × (s < G.observations) × (k' : A.K) × P k'
-      respite none l k t = (0, some-observation, k, t)
+      respite none l k t = (0, some_observation, k, t)
       respite (some g) l k t =
           let s = trap.foil k g in
-          (s, trap.foil-below k t g (l g refl), A.move k (g s) s, trap.stays k t g (l g refl))
+          (s, trap.foil_below k t g (l g refl), A.move k (g s) s, trap.stays k t g (l g refl))
 
-      respite-is : (d : Option (ℕ → ℕ)) (l : (g : ℕ → ℕ) → d ≡ some g → O.Allowed g) (k : A.K) (t : P k) → Goes d
+      respite_is : (d : Option (ℕ → ℕ)) (l : (g : ℕ → ℕ) → d ≡ some g → O.Allowed g) (k : A.K) (t : P k) → Goes d
           → let r = respite d l k t in (r.0 ≡ trap.foil k (respond d)) × (A.move k (respond d r.0) r.0 ≡ r.2)
       unfolding respite
-      respite-is none l k t o = stuck refl o
-      respite-is (some g) l k t o = (refl, refl)
+      respite_is none l k t o = stuck refl o
+      respite_is (some g) l k t o = (refl, refl)
 
       gauge : ℕ → (σ : Plan) → Legal O σ → (k : A.K) → P k → (s : ℕ) × (s < G.observations)
       unfolding respite
       gauge zero σ l k t = let r = respite (σ []) (l [] tt) k t in (r.0, r.1)
-      gauge (suc i) σ l k t = let r = respite (σ []) (l [] tt) k t in gauge i (after σ r.0) (legal-after O σ r.0 r.1 l) r.2 r.3
+      gauge (suc i) σ l k t = let r = respite (σ []) (l [] tt) k t in gauge i (after σ r.0) (legal_after O σ r.0 r.1 l) r.2 r.3
 
       pub against : (σ : Plan) → Legal O σ → (k : A.K) → P k → Play G
       unfolding gauge respite
-      against σ l k t i = let r = gauge i σ l k t in record { observation = r.0; hidden = 0; observation-below = r.1; hidden-below = some-hidden }
+      against σ l k t i = let r = gauge i σ l k t in record { observation = r.0; hidden = 0; observation_below = r.1; hidden_below = some_hidden }
 
       pub against_foils : (σ : Plan) (l : Legal O σ) (k : A.K) (t : P k) → Foils k σ (against σ l k t)
       unfolding against gauge respite
-      against_foils σ l k t zero o = (respite-is (σ []) (l [] tt) k t (o 0 zero-le)).0
+      against_foils σ l k t zero o = (respite_is (σ []) (l [] tt) k t (o 0 zero-le)).0
       against_foils σ l k t (suc n) o =
           let r = respite (σ []) (l [] tt) k t in
           let σ' = after σ r.0 in
-          let l' = legal-after O σ r.0 r.1 l in
+          let l' = legal_after O σ r.0 r.1 l in
           against_foils σ' l' r.2 r.3 n (λ m h. o (suc m) (suc-le-suc h))
           ∙ ap (λ (k' : A.K). trap.foil (know A k' (history G σ' (against σ' l' r.2 r.3) n)) (respond (σ' (seen (against σ' l' r.2 r.3) n))))
-          (sym (respite-is (σ []) (l [] tt) k t (o 0 zero-le)).1)
+          (sym (respite_is (σ []) (l [] tt) k t (o 0 zero-le)).1)
 
       pub no_win : (k : A.K) → P k → (Φ : List ℕ → Type 0) → Tracks G A k Φ → (σ : Plan) → Legal O σ → WinsFor G Φ σ → ⊥
       no_win k t Φ T σ l win =

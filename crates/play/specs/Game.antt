@@ -20,8 +20,8 @@ pub record Game : Type 1 where
 pub record Reply (G : Game) : Type 0 where
   pub observation : ℕ
   pub hidden : ℕ
-  pub observation-below : observation < G.observations
-  pub hidden-below : hidden < G.hiddens
+  pub observation_below : observation < G.observations
+  pub hidden_below : hidden < G.hiddens
 
 -- a play is any endless list of such values, one pair a step
 abbrev pub Play : Game → Type 0

@@ -102,7 +102,7 @@ module _ (o : Order) (choices observations : ℕ) (Same : History → History �
     -- row 0 is the start
     pub start : (0 < n) × (history 0 ≡ [])
     -- one row per belief
-    pub one-row : (i j : ℕ) → i < n → j < n → Same (history i) (history j) → i ≡ j
+    pub one_row : (i j : ℕ) → i < n → j < n → Same (history i) (history j) → i ≡ j
     -- rows are numbered as first met
     pub met : (j : ℕ) → 0 < j → j < n → (i : ℕ) × (s : ℕ) × MetFrom cells history j i s
     -- the row of a stop belief, and that of another

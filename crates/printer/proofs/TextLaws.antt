@@ -23,20 +23,20 @@ use Rattle.basics.specs.Text.{decimal, field, line}
 use Rattle.printer.specs.Text.{shown_from, shown_count, shown_fields, row_fields, row_text, rows_text, table_word, table_text}
 use Rattle.basics.proofs.ListsLaws.{tabulate_ext}
 use Rattle.basics.proofs.Stores.{Put, put_same, Rest, Parts}
-use Rattle.basics.proofs.TextLaws.{turn, flat_length, line-parts, field_length, two_length}
+use Rattle.basics.proofs.TextLaws.{turn, flat_length, line_parts, field_length, two_length}
 use Rattle.wellformed.proofs.WellFormedLaws.{side_le, stops, moves}
 
 -- ---- what a row does, by its first cell
 
 module _ (t : List ℕ) (shape : Shape) (row x : ℕ) (first : x ≡ first_cell shape.order t row) where
-  pub stop-field : x ≡ stop_cell → flat_map field (row_fields t shape row) ≡ field (bytes_of "stop")
+  pub stop_field : x ≡ stop_cell → flat_map field (row_fields t shape row) ≡ field (bytes_of "stop")
   unfolding flat_map
-  stop-field e = rw (stops shape.order t row x first e) refl
+  stop_field e = rw (stops shape.order t row x first e) refl
 
   -- the printed cells of n observations
-  pub move-fields : (x ≡ stop_cell → ⊥) → (n : ℕ) → n ≡ 2 ^ shape.observed
+  pub move_fields : (x ≡ stop_cell → ⊥) → (n : ℕ) → n ≡ 2 ^ shape.observed
       → flat_map field (row_fields t shape row) ≡ flat_map field (shown_fields shape.order t row n)
-  move-fields goes n e = rw (moves shape.order t row x first goes, e) refl
+  move_fields goes n e = rw (moves shape.order t row x first goes, e) refl
 
 -- ---- the printed cells of a row
 
@@ -44,42 +44,42 @@ module _ (t : List ℕ) (shape : Shape) (row x : ℕ) (first : x ≡ first_cell 
 abbrev pub run : List ℕ → ℕ → ℕ → List ℕ
 run t from i = decimal (get_or t (from + i) 0)
 
-pub shown-inside : (o : Order) (n i : ℕ) → n ≤ side_limit → i < shown_count o n → shown_from o + i < row_size o
-shown-inside Set n i h l = omega arith
-shown-inside Read n i h l = omega arith
+pub shown_inside : (o : Order) (n i : ℕ) → n ≤ side_limit → i < shown_count o n → shown_from o + i < row_size o
+shown_inside Set n i h l = omega arith
+shown_inside Read n i h l = omega arith
 
-from-inside : (o : Order) → shown_from o < row_size o
-from-inside Set = omega arith
-from-inside Read = omega arith
+from_inside : (o : Order) → shown_from o < row_size o
+from_inside Set = omega arith
+from_inside Read = omega arith
 
 -- as the code finds them: so many from a place on
 module _ (o : Order) (t : List ℕ) (row size from : ℕ) (e : size ≡ row_size o) (f : from ≡ shown_from o) where
   pub from_in : row * row_size o + row_size o ≤ length t → row * size + from < length t
-  from_in room = rw (e, f) (omega (arith, from-inside o))
+  from_in room = rw (e, f) (omega (arith, from_inside o))
 
   module _ (n count : ℕ) (g : count ≡ shown_count o n) where
     pub shown_in : n ≤ side_limit → row * row_size o + row_size o ≤ length t → (i : ℕ) → i < count → row * size + from + i < length t
-    shown_in h room i l = rw (e, f) (omega (arith, shown-inside o n i h (rw g at l)))
+    shown_in h room i l = rw (e, f) (omega (arith, shown_inside o n i h (rw g at l)))
 
     abbrev start : ℕ
     start = row * size + from
 
-    shown-is : flat_map field (shown_fields o t row n) ≡ flat_map field (tabulate count (run t start))
-    shown-is =
+    shown_is : flat_map field (shown_fields o t row n) ≡ flat_map field (tabulate count (run t start))
+    shown_is =
         rw (e, f, g)
         (ap (flat_map field) (tabulate_ext (shown_count o n) _ _ (λ i l.
         ap (λ (k : ℕ). decimal (get_or t k 0)) (sym (add_assoc (row * row_size o) (shown_from o) i)))))
 
     -- a loop that puts them comes to cell i, and at last to the end
     module _ (at : ℕ) (text : List ℕ) where
-      pub shown-turn : at + length (flat_map field (shown_fields o t row n)) ≤ length text → (i : ℕ) → i < count
+      pub shown_turn : at + length (flat_map field (shown_fields o t row n)) ≤ length text → (i : ℕ) → i < count
           → {last : ℕ} {y : List ℕ} → Put at (flat_map field (tabulate i (run t start))) text last y
           → Rest at (flat_map field (tabulate (i + 1) (run t start))) text last (field (run t start i)) y
-      shown-turn room i l p = turn field (run t start) at count text (subst (λ b. at + length b ≤ length text) shown-is room) i l p
+      shown_turn room i l p = turn field (run t start) at count text (subst (λ b. at + length b ≤ length text) shown_is room) i l p
 
-      pub shown-put : (i : ℕ) → i ≡ count → {end : ℕ} {y : List ℕ} → Put at (flat_map field (tabulate i (run t start))) text end y
+      pub shown_put : (i : ℕ) → i ≡ count → {end : ℕ} {y : List ℕ} → Put at (flat_map field (tabulate i (run t start))) text end y
           → Put at (flat_map field (shown_fields o t row n)) text end y
-      shown-put i q p = put_same at _ _ text (shown-is ∙ ap (λ k. flat_map field (tabulate k (run t start))) (sym q)) _ _ p
+      shown_put i q p = put_same at _ _ text (shown_is ∙ ap (λ k. flat_map field (tabulate k (run t start))) (sym q)) _ _ p
 
 -- ---- lines in the order of their parts
 
@@ -87,20 +87,20 @@ module _ (o : Order) (t : List ℕ) (row size from : ℕ) (e : size ≡ row_size
 abbrev numbers : List ℕ → Shape → ℕ → List ℕ
 numbers t shape row = field (decimal row) ++ field (decimal (rank_cell shape.order t row))
 
-row-parts : (t : List ℕ) (shape : Shape) (row : ℕ)
+row_parts : (t : List ℕ) (shape : Shape) (row : ℕ)
     → row_text t shape row ≡ bytes_of "row" ++ (numbers t shape row ++ (flat_map field (row_fields t shape row) ++ (10 ∷ [])))
 unfolding flat_map
-row-parts t shape row =
+row_parts t shape row =
     let rank : List ℕ = field (decimal (rank_cell shape.order t row)) in
     let rest : List ℕ = flat_map field (row_fields t shape row) in
-    line-parts (bytes_of "row") (decimal row) (decimal (rank_cell shape.order t row) ∷ row_fields t shape row)
+    line_parts (bytes_of "row") (decimal row) (decimal (rank_cell shape.order t row) ∷ row_fields t shape row)
     ∙ ap (λ l. bytes_of "row" ++ (field (decimal row) ++ l)) (append_assoc rank rest (10 ∷ []))
     ∙ ap (λ l. bytes_of "row" ++ l) (sym (append_assoc (field (decimal row)) rank (rest ++ (10 ∷ []))))
 
-pub row-puts : (t : List ℕ) (shape : Shape) (row at : ℕ) (x : List ℕ) → at + length (row_text t shape row) ≤ length x
+pub row_puts : (t : List ℕ) (shape : Shape) (row at : ℕ) (x : List ℕ) → at + length (row_text t shape row) ≤ length x
     → (rank : ℕ) → rank ≡ rank_cell shape.order t row
     → Parts at (row_text t shape row) x (bytes_of "row") (field (decimal row) ++ field (decimal rank)) (flat_map field (row_fields t shape row)) (10 ∷ [])
-row-puts t shape row at x h rank e = rw e (record { room = h; are = row-parts t shape row })
+row_puts t shape row at x h rank e = rw e (record { room = h; are = row_parts t shape row })
 
 -- ---- how long they can be
 
@@ -178,7 +178,7 @@ module _ (t : List ℕ) (shape : Shape) (row : ℕ) (few : shape.rows ≤ belief
   row_length l rank =
       omega (
         arith,
-        ap length (row-parts t shape row),
+        ap length (row_parts t shape row),
         length-append (numbers t shape row) (flat_map field (row_fields t shape row) ++ (10 ∷ [])),
         length-append (field (decimal row)) (field (decimal (rank_cell shape.order t row))),
         length-append (flat_map field (row_fields t shape row)) (10 ∷ []),
@@ -192,8 +192,8 @@ word_length Set = omega arith
 word_length Read = omega arith
 
 -- the text of a table has room, whatever its ranks
-pub text-fits : (t : List ℕ) (shape : Shape) (worst : ℕ) → Shaped t shape worst → length (table_text t shape worst) ≤ text_size
-text-fits t shape worst p =
+pub text_fits : (t : List ℕ) (shape : Shape) (worst : ℕ) → Shaped t shape worst → length (table_text t shape worst) ≤ text_size
+text_fits t shape worst p =
     let few = p.sized.few in
     let below = p.below in
     omega (

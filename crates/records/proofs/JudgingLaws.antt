@@ -20,7 +20,7 @@ use Rattle.formula.specs.Semantics.{Trace}
 use Rattle.formula.specs.declared.parts.Part.{Part}
 use Rattle.formula.specs.Parts.{no_part}
 use Rattle.formula.specs.Codes.{code_of, codes_of, parts_in}
-use Rattle.formula.proofs.CodesLaws.{Bytes, Held, part-coded, held_append}
+use Rattle.formula.proofs.CodesLaws.{Bytes, Held, part_coded, held_append}
 use Rattle.lines.specs.declared.problem.Sizes.{Sizes}
 use Rattle.lines.specs.declared.refusal.Refusal.TheVariants.{ShortMemory, TooManySignals, TooManyParts, NoFormula}
 use Rattle.rules.specs.declared.judging.Verdict.TheVariants.{Refused}
@@ -51,8 +51,8 @@ module _ (c : Counts) where
       in_all h = rw (le-leb c.outputs kind_limit o, le-leb c.observed kind_limit s, le-leb c.hidden kind_limit h) refl
 
 -- four tests at once
-all-four : (a b c d : Bool) → a && (b && (c && d)) ≡ true → (a ≡ true) × (b ≡ true) × (c ≡ true) × (d ≡ true)
-all-four a b c d e =
+all_four : (a b c d : Bool) → a && (b && (c && d)) ≡ true → (a ≡ true) × (b ≡ true) × (c ≡ true) × (d ≡ true)
+all_four a b c d e =
     let f = and_right a (b && (c && d)) e in
     let g = and_right b (c && d) f in
     (and_left a (b && (c && d)) e, and_left b (c && d) f, and_left c d g, and_right c d g)
@@ -62,7 +62,7 @@ pub few_iff : (c : Counts) → (few_counted c ≡ true) ↔ FewCounted c
 unfolding few_counted
 few_iff c = (
   λ e.
-      let f = all-four (leb c.outputs kind_limit) (leb c.observed kind_limit) (leb c.hidden kind_limit)
+      let f = all_four (leb c.outputs kind_limit) (leb c.observed kind_limit) (leb c.hidden kind_limit)
       (leb (c.outputs + c.observed + c.hidden) signal_limit) e in
       record {
         outputs = leb-true _ _ f.0;
@@ -76,14 +76,14 @@ few_iff c = (
 -- ---- the answer, test by test
 
 module _ (room : ℕ) (s : Sizes) (ps : List Part) (π : Trace) where
-  pub short-is : room < s.parts → judged_in room s ps π ≡ Refused ShortMemory
+  pub short_is : room < s.parts → judged_in room s ps π ≡ Refused ShortMemory
   unfolding judged_in
-  short-is h = rw (lt-ltb room s.parts h)
+  short_is h = rw (lt-ltb room s.parts h)
 
   module _ (lent : s.parts ≤ room) where
-    pub signals-is : few_counted (counts_of s) ≡ false → judged_in room s ps π ≡ Refused (TooManySignals 0)
+    pub signals_is : few_counted (counts_of s) ≡ false → judged_in room s ps π ≡ Refused (TooManySignals 0)
     unfolding judged_in
-    signals-is e = rw (le-ltb room s.parts lent, e)
+    signals_is e = rw (le-ltb room s.parts lent, e)
 
     module _ (few : few_counted (counts_of s) ≡ true) where
       pub many_is : part_limit < s.parts → judged_in room s ps π ≡ Refused (TooManyParts 0)
@@ -95,21 +95,21 @@ module _ (room : ℕ) (s : Sizes) (ps : List Part) (π : Trace) where
         unfolding judged_in
         none_is e = rw (le-ltb room s.parts lent, few, le-ltb part_limit s.parts fits, eq-eqb s.parts 0 e)
 
-        pub value-is : ¬ (s.parts ≡ 0) → judged_in room s ps π ≡ verdict_on (counts_of s) π (last_value ps π)
+        pub value_is : ¬ (s.parts ≡ 0) → judged_in room s ps π ≡ verdict_on (counts_of s) π (last_value ps π)
         unfolding judged_in
-        value-is n = rw (le-ltb room s.parts lent, few, le-ltb part_limit s.parts fits, ne_eqb s.parts 0 n)
+        value_is n = rw (le-ltb room s.parts lent, few, le-ltb part_limit s.parts fits, ne_eqb s.parts 0 n)
 
 -- ---- how many records are listed
 
 module _ (room : ℕ) (s : Sizes) where
-  pub count-short : room < s.parts → 0 ≡ count_taken room s
-  count-short h = rw (lt-ltb room s.parts h) refl
+  pub count_short : room < s.parts → 0 ≡ count_taken room s
+  count_short h = rw (lt-ltb room s.parts h) refl
 
   pub count_many : s.parts ≤ room → part_limit < s.parts → 0 ≡ count_taken room s
   count_many l h = rw (le-ltb room s.parts l, lt-ltb part_limit s.parts h) refl
 
-  pub count-all : s.parts ≤ room → s.parts ≤ part_limit → s.parts ≡ count_taken room s
-  count-all l h = rw (le-ltb room s.parts l, le-ltb part_limit s.parts h) refl
+  pub count_all : s.parts ≤ room → s.parts ≤ part_limit → s.parts ≡ count_taken room s
+  count_all l h = rw (le-ltb room s.parts l, le-ltb part_limit s.parts h) refl
 
 -- ---- the records as a list of numbers
 
@@ -139,7 +139,7 @@ module _ (ys : List Part) (i : ℕ) (few : i < part_limit) (inside : i < length 
   pub held_more : Held (take i ys) → Bytes part → Held (take (i + 1) ys)
   unfolding parts_in
   held_more h b =
-      subst Held (sym taken_more) (held_append (take i ys) (part ∷ []) h (ap (λ q. q ∷ []) (part-coded part b)))
+      subst Held (sym taken_more) (held_append (take i ys) (part ∷ []) h (ap (λ q. q ∷ []) (part_coded part b)))
 
 module _ (room : ℕ) (s : Sizes) where
   pub count_room : count_taken room s ≤ room
@@ -148,8 +148,8 @@ module _ (room : ℕ) (s : Sizes) where
     | inr e ↦ elim (test (ltb part_limit s.parts)) [ inl f ↦ rw (e, f) (omega arith) | inr f ↦ rw (e, f) (ltb-false _ _ e) ]
   ]
 
-  pub count-few : count_taken room s ≤ part_limit
-  count-few = elim (test (ltb room s.parts)) [
+  pub count_few : count_taken room s ≤ part_limit
+  count_few = elim (test (ltb room s.parts)) [
     | inl e ↦ rw e (omega arith)
     | inr e ↦ elim (test (ltb part_limit s.parts)) [ inl f ↦ rw (e, f) (omega arith) | inr f ↦ rw (e, f) (ltb-false _ _ f) ]
   ]
@@ -165,7 +165,7 @@ pub judged_list : (ys : List Part) (s : Sizes) (π : Trace) → Held (take (coun
     (take s.parts ys) π
 judged_list ys s π held =
     elim (test (ltb (length ys) s.parts)) [
-      | inl e ↦ short-is (length ys) s _ π (ltb-true _ _ e) ∙ sym (short-is (length ys) s _ π (ltb-true _ _ e))
+      | inl e ↦ short_is (length ys) s _ π (ltb-true _ _ e) ∙ sym (short_is (length ys) s _ π (ltb-true _ _ e))
       | inr e ↦ elim (test (ltb part_limit s.parts)) [
         | inl f ↦ same_many (length ys) s _ _ π (ltb-true _ _ f)
         | inr f ↦ all (ltb-false _ _ e) (ltb-false _ _ f)
@@ -176,7 +176,7 @@ judged_list ys s π held =
         → judged_in (length ys) s (parts_in (take s.parts (list_to ys (count_taken (length ys) s)).codes)) π ≡ judged_in (length ys) s
         (take s.parts ys) π
     all l h =
-        let n : count_taken (length ys) s ≡ s.parts = sym (count-all (length ys) s l h) in
+        let n : count_taken (length ys) s ≡ s.parts = sym (count_all (length ys) s l h) in
         let held' : Held (take s.parts ys) = subst (λ k. Held (take k ys)) n held in
         let long : length (codes_of (take s.parts ys)) ≡ s.parts = length-map (take s.parts ys) code_of ∙ length-take-le
         s.parts ys l in

@@ -44,9 +44,9 @@ module _ (source : List ℕ) (old : List Part) where
   short_memory = ListedIffDue.short_iff source old
 
   -- 1 to 8: the text denotes no problem, and this is why
-  pub refused-text : part_limit ≤ length old → (number place : ℕ) → number ≤ 8
+  pub refused_text : part_limit ≤ length old → (number place : ℕ) → number ≤ 8
       → (told_read source old ≡ refused number place) ↔ Refuses source number place
-  refused-text = ListedIffDue.refused_iff source old
+  refused_text = ListedIffDue.refused_iff source old
 
   -- a refusal leaves all records as they were
   pub records_kept : (number place : ℕ) → told_read source old ≡ refused number place → records_after source old ≡ old
@@ -59,22 +59,22 @@ module _ (source : List ℕ) (old : List Part) where
 
   -- with its parts at the front
   module _ (enough : part_limit ≤ length old) (p : Problem) (denotes : Denotes source p) where
-    pub parts-written : take (size (formula_in p)) (records_after source old) ≡ problem_parts p
-    parts-written = ReadOnce.after_front source old enough p denotes
+    pub parts_written : take (size (formula_in p)) (records_after source old) ≡ problem_parts p
+    parts_written = ReadOnce.after_front source old enough p denotes
 
     -- the operands of each stand before it, and the last is the whole formula
     abbrev front : List Part
     front = take (size (formula_in p)) (records_after source old)
 
     pub operands_earlier : (i : ℕ) → i < size (formula_in p) → Earlier front i
-    operands_earlier = ReadOnce.after-earlier source old enough p denotes
+    operands_earlier = ReadOnce.after_earlier source old enough p denotes
 
     pub formula_back : formula_at front (last_of front) ≡ formula_in p
     formula_back = ReadOnce.after_formula source old enough p denotes
 
     -- the records behind are as they were
     pub records_behind : drop (size (formula_in p)) (records_after source old) ≡ drop (size (formula_in p)) old
-    records_behind = ReadOnce.after-rest source old enough p denotes
+    records_behind = ReadOnce.after_rest source old enough p denotes
 
 -- ---- judging by lent records, whatever they hold: `judged_in` is what `judge_parts` answers
 
@@ -83,8 +83,8 @@ pub judging : (room : ℕ) (s : Sizes) (ps : List Part) (π : Trace) (a : Told)
 judging = JudgedByIffDue.judged_iff
 
 -- the test of the counts of signals finds every count that is too large
-pub few-counted : (c : Counts) → (few_counted c ≡ true) ↔ FewCounted c
-few-counted = JudgingLaws.few_iff
+pub few_counted_lem : (c : Counts) → (few_counted c ≡ true) ↔ FewCounted c
+few_counted_lem = JudgingLaws.few_iff
 
 -- ---- read once, judge many: a text was read into records, and these sizes were answered. `verdict_once` is what
 -- `judge_parts` answers to the records that were left and to these sizes
@@ -94,8 +94,8 @@ module _ (source : List ℕ) (old : List Part) (s : Sizes) (read : reading_of (r
   pub as_judged : (work : ℕ) → work_size ≤ work → verdict_once source old s π ≡ judged work source π
   as_judged work enough = ReadOnce.as_judged source old s read work enough π
 
-  pub once-due : (work : ℕ) → work_size ≤ work → JudgedAs work source π (told_verdict (verdict_once source old s π))
-  once-due work enough = ReadOnce.once-due source old s read work enough π
+  pub once_due : (work : ℕ) → work_size ≤ work → JudgedAs work source π (told_verdict (verdict_once source old s π))
+  once_due work enough = ReadOnce.once_due source old s read work enough π
 
   -- verdict by verdict
   pub judged_true : (verdict_once source old s π ≡ True)
@@ -106,6 +106,6 @@ module _ (source : List ℕ) (old : List Part) (s : Sizes) (read : reading_of (r
       ↔ ((p : Problem) × Denotes source p × IsTrace (counts_in p.signals) π × (¬ Satisfies π p))
   judged_false = ReadOnce.false_iff source old s read π
 
-  pub judged-bad : (step : ℕ) → (verdict_once source old s π ≡ Refused (BadTrace step))
+  pub judged_bad : (step : ℕ) → (verdict_once source old s π ≡ Refused (BadTrace step))
       ↔ ((p : Problem) × Denotes source p × (((step ≡ 0) × ¬ RightLength π) ⊎ (RightLength π × FirstBad (counts_in p.signals) π step)))
-  judged-bad = ReadOnce.bad_trace_iff source old s read π
+  judged_bad = ReadOnce.bad_trace_iff source old s read π

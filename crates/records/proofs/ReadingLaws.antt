@@ -23,11 +23,11 @@ use Rattle.lines.specs.declared.problem.Reading.{Reading}
 use Rattle.lines.specs.declared.problem.Reading.TheVariants.{Refused}
 use Rattle.lines.specs.declared.refusal.Refusal.TheVariants.{ShortMemory}
 use Rattle.lines.specs.Memory.{stored_from}
-use Rattle.lines.proofs.MemoryLaws.{stored-front}
+use Rattle.lines.proofs.MemoryLaws.{stored_front}
 use Rattle.rules.specs.Problem.{Outcome, accepted, refused, read_problem}
 use Rattle.rules.specs.Reading.{reading_of, parts_of_outcome}
-use Rattle.rules.proofs.ProblemLaws.{parts-counted}
-use Rattle.rules.proofs.WithinLimits.{read-within, read_held}
+use Rattle.rules.proofs.ProblemLaws.{parts_counted}
+use Rattle.rules.proofs.WithinLimits.{read_within, read_held}
 use Rattle.records.specs.declared.listing.Listing.{Listing}
 use Rattle.records.specs.Reading.{read_into, parts_given, count_of, listing_of}
 
@@ -39,7 +39,7 @@ listing_ext e f g = rw (e, f, g) refl
 
 -- as many parts as the reading says
 counted : (o : Outcome) → count_of (reading_of o) ≡ length (parts_given o)
-counted (accepted p) = sym (parts-counted p)
+counted (accepted p) = sym (parts_counted p)
 counted (refused r) = refl
 
 -- a list that was all zero
@@ -48,16 +48,16 @@ stored (accepted p) = refl
 stored (refused r) = ap (λ n. replicate n 0) (length-replicate {A = ℕ} part_limit 0)
 
 module _ (room : ℕ) (source : List ℕ) (n : ℕ) (codes : List ℕ) (r : Reading) where
-  pub listed-short : room < part_limit → codes ≡ replicate part_limit 0 → r ≡ Refused ShortMemory → n ≡ count_of r
+  pub listed_short : room < part_limit → codes ≡ replicate part_limit 0 → r ≡ Refused ShortMemory → n ≡ count_of r
       → record { count = n; codes = codes; reading = r } ≡ listing_of (read_into room source)
   unfolding read_into
-  listed-short h e f g = rw (lt-ltb room part_limit h) (listing_ext (g ∙ ap count_of f) e f)
+  listed_short h e f g = rw (lt-ltb room part_limit h) (listing_ext (g ∙ ap count_of f) e f)
 
-  pub listed-read : part_limit ≤ room → codes ≡ parts_of_outcome (read_problem source) (replicate part_limit 0)
+  pub listed_read : part_limit ≤ room → codes ≡ parts_of_outcome (read_problem source) (replicate part_limit 0)
       → r ≡ reading_of (read_problem source)
       → n ≡ count_of r → record { count = n; codes = codes; reading = r } ≡ listing_of (read_into room source)
   unfolding read_into
-  listed-read h e f g =
+  listed_read h e f g =
       let o = read_problem source in
       rw (le-ltb room part_limit h) (listing_ext (g ∙ ap count_of f ∙ counted o) (e ∙ stored o) f)
 
@@ -73,7 +73,7 @@ module _ (room : ℕ) (source : List ℕ) where
       elim (test (ltb room part_limit)) [ inl e ↦ rw e (omega arith) | inr e ↦ rw e (go (read_problem source) refl) ]
     where
       go : (o : Outcome) → read_problem source ≡ o → length (parts_given o) ≤ part_limit
-      go (accepted p) e = rw (parts-counted p) (read-within source p e).parts
+      go (accepted p) e = rw (parts_counted p) (read_within source p e).parts
       go (refused r) e = omega arith
 
   given_none : ltb room part_limit ≡ true → length ps ≤ room
@@ -92,12 +92,12 @@ module _ (room : ℕ) (source : List ℕ) where
       go (refused r) e = refl
 
   -- part i of the listing
-  pub listed-part : (i : ℕ) → i < length ps → part_of (get_or (listing_of (read_into room source)).codes i 0) ≡ part_at ps i
-  listed-part i h =
+  pub listed_part : (i : ℕ) → i < length ps → part_of (get_or (listing_of (read_into room source)).codes i 0) ≡ part_at ps i
+  listed_part i h =
       let zeros = replicate {A = ℕ} part_limit 0 in
       let few : length ps ≤ length zeros = rw (length-replicate {A = ℕ} part_limit 0) given_few in
       ap part_of (sym (get_or-take (length ps) (stored_from ps 0 zeros) i 0 h) ∙ ap (λ us. get_or us i 0)
-      (stored-front ps (length ps) zeros refl few))
+      (stored_front ps (length ps) zeros refl few))
       ∙ sym (part_in (codes_of ps) i) ∙ ap (λ qs. part_at qs i) given_held
 
 -- ---- records that are written from the front: the first i parts, and the old records behind them

@@ -50,9 +50,9 @@ verdict_once source old s π = judged_in (length (records_after source old)) s (
 -- sizes by which a trace can be judged, where so many records are lent
 pub record Usable (room : ℕ) (s : Sizes) : Type 0 where
   pub lent : s.parts ≤ room
-  pub few-signals : FewCounted (counts_of s)
-  pub few-parts : s.parts ≤ part_limit
-  pub some-parts : 0 < s.parts
+  pub few_signals : FewCounted (counts_of s)
+  pub few_parts : s.parts ≤ part_limit
+  pub some_parts : 0 < s.parts
 
 -- the answer, as numbers
 pub data JudgedBy (room : ℕ) (s : Sizes) (ps : List Part) (π : Trace) : Told → Type 0 where
@@ -64,7 +64,7 @@ pub data JudgedBy (room : ℕ) (s : Sizes) (ps : List Part) (π : Trace) : Told 
   no_formula : s.parts ≤ room → FewCounted (counts_of s) → s.parts ≡ 0 → JudgedBy room s ps π (refused 8 0)
   -- 16: the trace is not one over these signals
   bad_length : Usable room s → ¬ RightLength π → JudgedBy room s ps π (refused 16 0)
-  bad-step : {step : ℕ} → Usable room s → RightLength π → FirstBad (counts_of s) π step → JudgedBy room s ps π (refused 16 step)
+  bad_step : {step : ℕ} → Usable room s → RightLength π → FirstBad (counts_of s) π step → JudgedBy room s ps π (refused 16 step)
   is_true : Usable room s → IsTrace (counts_of s) π → last_value ps π ≡ true → JudgedBy room s ps π (values (1 ∷ []))
   is_false : Usable room s → IsTrace (counts_of s) π → last_value ps π ≡ false → JudgedBy room s ps π (values (0 ∷ []))
 

@@ -12,7 +12,7 @@ use Rattle.formula.specs.declared.parts.Part.{Part}
 use Rattle.rules.specs.Problem.{Line, rule, joined, with_line, joined_lines, size_in, operators_in}
 use Rattle.lines.specs.Effect.{joint}
 use Rattle.lines.specs.Memory.{join_part, added_parts, stored_from}
-use Rattle.formula.proofs.PartsLaws.{length_parts, parts-some}
+use Rattle.formula.proofs.PartsLaws.{length_parts, parts_some}
 use Rattle.lines.proofs.MemoryLaws.{stored_append}
 
 -- the parts of the formulas so far
@@ -21,7 +21,7 @@ written none = []
 written (some φ) = parts_of φ
 
 pub size_pos : (φ : Formula) → 0 < size φ
-size_pos φ = subst (λ n. 0 < n) (length_parts φ) (parts-some φ)
+size_pos φ = subst (λ n. 0 < n) (length_parts φ) (parts_some φ)
 
 length_written : (f : Option Formula) → length (written f) ≡ size_in f
 unfolding written
@@ -43,40 +43,40 @@ added_parts_lem (some ψ) φ = go (size ψ) refl (size_pos ψ)
         let c : suc n + size φ - 1 ≡ n + size φ = omega arith in
         rw (e, a, c, b) (append_assoc (parts_from ψ 0) (parts_from φ (suc n)) _)
 
-pub stored-joined : (f : Option Formula) (φ : Formula) (p : List ℕ)
+pub stored_joined : (f : Option Formula) (φ : Formula) (p : List ℕ)
     → stored_from (added_parts φ (size_in f)) (size_in f) (stored_from (written f) 0 p) ≡ stored_from (written (some (joined f φ))) 0 p
-stored-joined f φ p =
+stored_joined f φ p =
     let e : 0 + length (written f) ≡ size_in f = omega (arith, length_written f) in
     sym (ap (λ ps. stored_from ps 0 p) (added_parts_lem f φ) ∙ stored_append (written f) (added_parts φ (size_in f)) 0 p
     ∙ ap (λ n. stored_from (added_parts φ (size_in f)) n (stored_from (written f) 0 p)) e)
 
-pub size-joined : (f : Option Formula) (φ : Formula) → size_in f + size φ + joint (size_in f) ≡ size (joined f φ)
+pub size_joined : (f : Option Formula) (φ : Formula) → size_in f + size φ + joint (size_in f) ≡ size (joined f φ)
 unfolding size
-size-joined none φ = omega arith
-size-joined (some ψ) φ = go (size ψ) (size_pos ψ)
+size_joined none φ = omega arith
+size_joined (some ψ) φ = go (size ψ) (size_pos ψ)
   where
     go : (n : ℕ) → 0 < n → n + size φ + joint n ≡ n + size φ + 1
     go zero h = absurd (omega arith)
     go (suc n) h = refl
 
-pub operators-joined : (f : Option Formula) (φ : Formula) → operators_in f + operators φ ≡ operators (joined f φ)
+pub operators_joined : (f : Option Formula) (φ : Formula) → operators_in f + operators φ ≡ operators (joined f φ)
 unfolding operators
-operators-joined none φ = omega arith
-operators-joined (some ψ) φ = refl
+operators_joined none φ = omega arith
+operators_joined (some ψ) φ = refl
 
 -- ---- the formula of all lines
 
-pub joined-more : (ls : List Line) (φ : Formula) → joined_lines (ls ++ (rule φ ∷ [])) ≡ some (joined (joined_lines ls) φ)
-joined-more ls φ = foldl-append with_line none ls (rule φ ∷ [])
+pub joined_more : (ls : List Line) (φ : Formula) → joined_lines (ls ++ (rule φ ∷ [])) ≡ some (joined (joined_lines ls) φ)
+joined_more ls φ = foldl-append with_line none ls (rule φ ∷ [])
 
 -- there is one where there is a line
 from_some : (ψ : Formula) (ls : List Line) → (φ : Formula) × (foldl with_line (some ψ) ls ≡ some φ)
 from_some ψ [] = (ψ, refl)
 from_some ψ (rule φ ∷ ls) = from_some (joined (some ψ) φ) ls
 
-pub joined-some : (ls : List Line) → ¬ (ls ≡ []) → (φ : Formula) × (joined_lines ls ≡ some φ)
-joined-some [] h = absurd (h refl)
-joined-some (rule φ ∷ ls) h = from_some φ ls
+pub joined_some : (ls : List Line) → ¬ (ls ≡ []) → (φ : Formula) × (joined_lines ls ≡ some φ)
+joined_some [] h = absurd (h refl)
+joined_some (rule φ ∷ ls) h = from_some φ ls
 
 -- and no part where there is none
 pub no_parts_lem : (ls : List Line) → size_in (joined_lines ls) ≡ 0 → ls ≡ []

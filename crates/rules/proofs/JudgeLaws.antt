@@ -24,14 +24,14 @@ use Rattle.rules.specs.Problem.{Problem, formula_in, problem_parts, Outcome, acc
 use Rattle.rules.specs.Reading.{sizes_of, reading_of, parts_of_outcome}
 use Rattle.rules.specs.Trace.{counts_of, verdict_on}
 use Rattle.rules.specs.Judge.{judged_by, judged, work_after, told_verdict, JudgedAs}
-use Rattle.rules.proofs.ProblemLaws.{parts-counted, some-part, formed}
-use Rattle.lines.proofs.MemoryLaws.{stored-front}
-use Rattle.rules.proofs.TraceLaws.{verdict-holds}
-use Rattle.rules.proofs.WithinLimits.{read-within, read_held}
+use Rattle.rules.proofs.ProblemLaws.{parts_counted, some_part, formed}
+use Rattle.lines.proofs.MemoryLaws.{stored_front}
+use Rattle.rules.proofs.TraceLaws.{verdict_holds}
+use Rattle.rules.proofs.WithinLimits.{read_within, read_held}
 use Rattle.rules.specs.Within.{Within}
 use Rattle.formula.proofs.CodesLaws.{Held}
 use Rattle.rules.proofs.JudgedIffDue.{judged_as}
-use Rattle.rules.proofs.ReadingLaws.{not_refused, same-sizes, same_refusal}
+use Rattle.rules.proofs.ReadingLaws.{not_refused, same_sizes, same_refusal}
 
 -- a refusal is handed on
 pub refused_source : (o : Outcome) (π : Trace) (r : Reading) (x : Refusal) → r ≡ reading_of o → r ≡ reading.Refused x → Refused x ≡ judged_by o π
@@ -50,14 +50,14 @@ pub record Taken (o : Outcome) (s : Sizes) (codes : List ℕ) : Type 0 where
 -- what `read` leaves in a list that was all zero
 pub taken : (source : List ℕ) (s : Sizes) (r : Reading) → r ≡ reading_of (read_problem source) → r ≡ reading.Accepted s
     → (q : List ℕ) → q ≡ parts_of_outcome (read_problem source) (replicate part_limit 0) → Taken (read_problem source) s q
-taken source s r e h q i = go (read_problem source) (sym e ∙ h) i (read-within source) (read_held source)
+taken source s r e h q i = go (read_problem source) (sym e ∙ h) i (read_within source) (read_held source)
   where
     go : (o : Outcome) → reading_of o ≡ reading.Accepted s → q ≡ parts_of_outcome o (replicate part_limit 0)
         → ((x : Problem) → o ≡ accepted x → Within x) → ((x : Problem) → o ≡ accepted x → Held (problem_parts x)) → Taken o s q
     go (accepted x) h i within held =
         let w = within x refl in
-        let z = sym (same-sizes (sizes_of x) s h) in
-        let n : length (problem_parts x) ≡ s.parts = parts-counted x ∙ sym (ap (λ (t : Sizes). t.parts) z) in
+        let z = sym (same_sizes (sizes_of x) s h) in
+        let n : length (problem_parts x) ≡ s.parts = parts_counted x ∙ sym (ap (λ (t : Sizes). t.parts) z) in
         let m : s.parts ≤ part_limit = rw z w.parts in
         record {
           problem = x;
@@ -66,7 +66,7 @@ taken source s r e h q i = go (read_problem source) (sym e ∙ h) i (read-within
           held = held x refl;
           sizes = z;
           front = ap (λ t. take s.parts t) i
-              ∙ stored-front (problem_parts x) s.parts (replicate part_limit 0) n (omega (arith, length-replicate {A = ℕ} part_limit 0));
+              ∙ stored_front (problem_parts x) s.parts (replicate part_limit 0) n (omega (arith, length-replicate {A = ℕ} part_limit 0));
         }
     go (refused x) h i within held = not_refused x s h
 
@@ -76,29 +76,29 @@ module _ {o : Outcome} {s : Sizes} {codes : List ℕ} (t : Taken o s codes) wher
 
   pub taken_length : length (take s.parts codes) ≡ s.parts
   taken_length =
-      ap length t.front ∙ length-map (problem_parts t.problem) code_of ∙ parts-counted t.problem ∙ sym (ap (λ (x : Sizes). x.parts) t.sizes)
+      ap length t.front ∙ length-map (problem_parts t.problem) code_of ∙ parts_counted t.problem ∙ sym (ap (λ (x : Sizes). x.parts) t.sizes)
 
-  pub some-parts : 0 < length (take s.parts codes)
-  some-parts = rw (t.front, length-map (problem_parts t.problem) code_of) (some-part t.problem)
+  pub some_parts : 0 < length (take s.parts codes)
+  some_parts = rw (t.front, length-map (problem_parts t.problem) code_of) (some_part t.problem)
 
-  pub few-parts : s.parts ≤ part_limit
-  few-parts = rw t.sizes t.within.parts
+  pub few_parts : s.parts ≤ part_limit
+  few_parts = rw t.sizes t.within.parts
 
-  pub few-signals : (s.outputs ≤ kind_limit) × (s.observed ≤ kind_limit) × (s.hidden ≤ kind_limit)
-  few-signals = rw t.sizes (t.within.few.outputs, t.within.few.observed, t.within.few.hidden)
+  pub few_signals : (s.outputs ≤ kind_limit) × (s.observed ≤ kind_limit) × (s.hidden ≤ kind_limit)
+  few_signals = rw t.sizes (t.within.few.outputs, t.within.few.observed, t.within.few.hidden)
 
   -- the numbers hold the formula's parts
-  pub taken-parts : parts_in (take s.parts codes) ≡ problem_parts t.problem
-  taken-parts = ap parts_in t.front ∙ t.held
+  pub taken_parts : parts_in (take s.parts codes) ≡ problem_parts t.problem
+  taken_parts = ap parts_in t.front ∙ t.held
 
   -- and they stand as the states need them
-  pub taken-ready : AllReady (parts_in (take s.parts codes))
-  taken-ready = subst AllReady (sym taken-parts) (formed t.problem)
+  pub taken_ready : AllReady (parts_in (take s.parts codes))
+  taken_ready = subst AllReady (sym taken_parts) (formed t.problem)
 
   pub judged_source : (π : Trace) (v : Verdict)
       → v ≡ verdict_on (counts_of s) π (value_on (parts_in (take s.parts codes)) π (last_of (parts_in (take s.parts codes)))) → v ≡ judged_by o π
   judged_source π v e =
-      rw t.is (e ∙ ap (λ ps. verdict_on (counts_of s) π (value_on ps π (last_of ps))) taken-parts ∙ verdict-holds (counts_of s) π φ
+      rw t.is (e ∙ ap (λ ps. verdict_on (counts_of s) π (value_on ps π (last_of ps))) taken_parts ∙ verdict_holds (counts_of s) π φ
       ∙ ap (λ (x : Sizes). verdict_on (counts_of x) π (holds φ π)) t.sizes)
 
 -- ---- the call
@@ -113,19 +113,19 @@ module _ (source work : List ℕ) (π : Trace) where
   abbrev Judged : Verdict → Type 0
   Judged v = (v ≡ judged (length work) source π) × JudgedAs (length work) source π (told_verdict v)
 
-  judged-told : (v : Verdict) → v ≡ judged (length work) source π → Judged v
-  judged-told v e = (e, subst (λ u. JudgedAs (length work) source π (told_verdict u)) (sym e) (judged_as (length work) source π))
+  judged_told : (v : Verdict) → v ≡ judged (length work) source π → Judged v
+  judged_told v e = (e, subst (λ u. JudgedAs (length work) source π (told_verdict u)) (sym e) (judged_as (length work) source π))
 
   pub short_memory : length work < work_size
       → (Refused ShortMemory ≡ judged (length work) source π) × (work ≡ work_after work) × JudgedAs (length work) source π (told_verdict (Refused ShortMemory))
   unfolding judged
   short_memory h =
-      let j = judged-told (Refused ShortMemory) (rw (lt-ltb (length work) work_size h)) in
+      let j = judged_told (Refused ShortMemory) (rw (lt-ltb (length work) work_size h)) in
       (j.0, rw (lt-ltb (length work) work_size h) refl, j.1)
 
   pub long_memory : work_size ≤ length work → (v : Verdict) → v ≡ judged_by (read_problem source) π
       → (v ≡ judged (length work) source π) × (replicate (length work) 0 ≡ work_after work) × JudgedAs (length work) source π (told_verdict v)
   unfolding judged
   long_memory h v e =
-      let j = judged-told v (e ∙ rw (le-ltb (length work) work_size h) refl) in
+      let j = judged_told v (e ∙ rw (le-ltb (length work) work_size h) refl) in
       (j.0, rw (le-ltb (length work) work_size h) refl, j.1)

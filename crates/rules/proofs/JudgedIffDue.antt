@@ -10,7 +10,7 @@ use lib.Dec.{ltb}
 use Rattle.basics.specs.Limits.{kind_limit}
 use Rattle.basics.proofs.Booleans.{test, clash}
 use Rattle.lines.specs.declared.refusal.Refusal.TheVariants.{BadTrace}
-use Rattle.lines.proofs.RefusalLaws.{told-apart, one_value, one_number, one_place}
+use Rattle.lines.proofs.RefusalLaws.{told_apart, one_value, one_number, one_place}
 use Rattle.lines.specs.Refusal.{Told, values, refused}
 use Rattle.formula.specs.Letter.{Counts}
 use Rattle.formula.specs.Semantics.{Trace, holds}
@@ -21,13 +21,13 @@ use Rattle.rules.specs.Problem as outcome
 use Rattle.rules.specs.Denotes.{Denotes}
 use Rattle.rules.specs.Trace.{RightLength, IsTrace, FirstBad, verdict_on}
 use Rattle.rules.specs.Satisfies.{Satisfies}
-use Rattle.rules.specs.Judge.{judged_by, judged, told_verdict, JudgedAs, short_memory, bad_source, bad_length, bad-step, is_true, is_false}
+use Rattle.rules.specs.Judge.{judged_by, judged, told_verdict, JudgedAs, short_memory, bad_source, bad_length, bad_step, is_true, is_false}
 use Rattle.rules.specs.Within.{counts_in}
 use Rattle.rules.proofs.SatisfiesLaws.{holds_iff_satisfies}
 use Rattle.rules.proofs.DenotesLaws.{read_denotes, denotes_read}
-use Rattle.rules.proofs.RefusesLaws.{refused_iff, told-refused, refuses-number}
-use Rattle.rules.proofs.VerdictCases.{verdict_cases, length_verdict, step-verdict, value-verdict}
-use Rattle.rules.proofs.WithinLimits.{read-within}
+use Rattle.rules.proofs.RefusesLaws.{refused_iff, told_refused, refuses_number}
+use Rattle.rules.proofs.VerdictCases.{verdict_cases, length_verdict, step_verdict, value_verdict}
+use Rattle.rules.proofs.WithinLimits.{read_within}
 
 -- ---- a trace by a problem
 
@@ -37,7 +37,7 @@ module _ (work : ℕ) (source : List ℕ) (π : Trace) where
     c = counts_in p.signals
 
     few : (c.outputs ≤ kind_limit) × (c.observed ≤ kind_limit) × (c.hidden ≤ kind_limit)
-    few = let w = (read-within source p (denotes_read source p d)).few in (w.outputs, w.observed, w.hidden)
+    few = let w = (read_within source p (denotes_read source p d)).few in (w.outputs, w.observed, w.hidden)
 
     value_as : work_size ≤ work → IsTrace c π → JudgedAs work source π (told_verdict (cond (holds (formula_in p) π) True False))
     value_as enough t =
@@ -49,7 +49,7 @@ module _ (work : ℕ) (source : List ℕ) (π : Trace) where
 
     trace_as : work_size ≤ work → JudgedAs work source π (told_verdict (verdict_on c π (holds (formula_in p) π)))
     trace_as enough =
-        verdict_cases c few π (holds (formula_in p) π) (JudgedAs work source π) (bad_length p enough d) (λ step. bad-step p enough d) (value_as enough)
+        verdict_cases c few π (holds (formula_in p) π) (JudgedAs work source π) (bad_length p enough d) (λ step. bad_step p enough d) (value_as enough)
 
   pub judged_as : JudgedAs work source π (told_verdict (judged work source π))
   unfolding judged
@@ -66,32 +66,32 @@ module _ (work : ℕ) (source : List ℕ) (π : Trace) where
   -- ---- and the other way round
 
   module _ (enough : work_size ≤ work) (p : Problem) (d : Denotes source p) where
-    judged-is : judged work source π ≡ verdict_on (c p d) π (holds (formula_in p) π)
+    judged_is : judged work source π ≡ verdict_on (c p d) π (holds (formula_in p) π)
     unfolding judged
-    judged-is = rw (le-ltb work work_size enough, denotes_read source p d)
+    judged_is = rw (le-ltb work work_size enough, denotes_read source p d)
 
     length_is : ¬ RightLength π → judged work source π ≡ Refused (BadTrace 0)
-    length_is n = judged-is ∙ length_verdict (c p d) (few p d) π _ n
+    length_is n = judged_is ∙ length_verdict (c p d) (few p d) π _ n
 
     step_is : {step : ℕ} → RightLength π → FirstBad (c p d) π step → judged work source π ≡ Refused (BadTrace step)
-    step_is r f = judged-is ∙ step-verdict (c p d) (few p d) π _ r f
+    step_is r f = judged_is ∙ step_verdict (c p d) (few p d) π _ r f
 
-    value-is : (v : Bool) → IsTrace (c p d) π → holds (formula_in p) π ≡ v → judged work source π ≡ cond v True False
-    value-is v t e = judged-is ∙ value-verdict (c p d) (few p d) π _ v t e
+    value_is : (v : Bool) → IsTrace (c p d) π → holds (formula_in p) π ≡ v → judged work source π ≡ cond v True False
+    value_is v t e = judged_is ∙ value_verdict (c p d) (few p d) π _ v t e
 
     true_is : IsTrace (c p d) π → Satisfies π p → judged work source π ≡ True
-    true_is t s = value-is true t ((holds_iff_satisfies p π t.0.0).1 s)
+    true_is t s = value_is true t ((holds_iff_satisfies p π t.0.0).1 s)
 
     false_is : IsTrace (c p d) π → ¬ Satisfies π p → judged work source π ≡ False
     false_is t n =
-        value-is false t (elim (test (holds (formula_in p) π)) [ inl e ↦ absurd (n ((holds_iff_satisfies p π t.0.0).0 e)) | inr e ↦ e ])
+        value_is false t (elim (test (holds (formula_in p) π)) [ inl e ↦ absurd (n ((holds_iff_satisfies p π t.0.0).0 e)) | inr e ↦ e ])
 
   told_as : {a : Told} → JudgedAs work source π a → told_verdict (judged work source π) ≡ a
   unfolding judged
   told_as (short_memory h) = rw (lt-ltb work work_size h)
-  told_as (bad_source enough f) = let r = told-refused source f in rw (le-ltb work work_size enough, r.1) (ap₂ refused r.2 r.3)
+  told_as (bad_source enough f) = let r = told_refused source f in rw (le-ltb work work_size enough, r.1) (ap₂ refused r.2 r.3)
   told_as (bad_length p enough d n) = ap told_verdict (length_is enough p d n)
-  told_as (bad-step p enough d r f) = ap told_verdict (step_is enough p d r f)
+  told_as (bad_step p enough d r f) = ap told_verdict (step_is enough p d r f)
   told_as (is_true p enough d t s) = ap told_verdict (true_is enough p d t s)
   told_as (is_false p enough d t n) = ap told_verdict (false_is enough p d t n)
 
@@ -111,28 +111,28 @@ module _ (work : ℕ) (source : List ℕ) (π : Trace) where
       (p : Problem) × Denotes source p × (((step ≡ 0) × ¬ RightLength π) ⊎ (RightLength π × FirstBad (counts_in p.signals) π step))
 
   was_true : {a : Told} → JudgedAs work source π a → a ≡ values (1 ∷ []) → Over (Satisfies π)
-  was_true (short_memory h) e = told-apart e
-  was_true (bad_source enough f) e = told-apart e
-  was_true (bad_length p enough d n) e = told-apart e
-  was_true (bad-step p enough d r f) e = told-apart e
+  was_true (short_memory h) e = told_apart e
+  was_true (bad_source enough f) e = told_apart e
+  was_true (bad_length p enough d n) e = told_apart e
+  was_true (bad_step p enough d r f) e = told_apart e
   was_true (is_true p enough d t s) e = (p, d, t, s)
   was_true (is_false p enough d t n) e = absurd (omega (arith, one_value e))
 
   was_false : {a : Told} → JudgedAs work source π a → a ≡ values (0 ∷ []) → Over (λ p. ¬ Satisfies π p)
-  was_false (short_memory h) e = told-apart e
-  was_false (bad_source enough f) e = told-apart e
-  was_false (bad_length p enough d n) e = told-apart e
-  was_false (bad-step p enough d r f) e = told-apart e
+  was_false (short_memory h) e = told_apart e
+  was_false (bad_source enough f) e = told_apart e
+  was_false (bad_length p enough d n) e = told_apart e
+  was_false (bad_step p enough d r f) e = told_apart e
   was_false (is_true p enough d t s) e = absurd (omega (arith, one_value e))
   was_false (is_false p enough d t n) e = (p, d, t, n)
 
   was_refused : (step : ℕ) {a : Told} → JudgedAs work source π a → a ≡ refused 16 step → RefusedAt step
   was_refused step (short_memory h) e = absurd (omega (arith, one_number e))
-  was_refused step (bad_source enough f) e = absurd (omega (arith, one_number e, refuses-number f))
+  was_refused step (bad_source enough f) e = absurd (omega (arith, one_number e, refuses_number f))
   was_refused step (bad_length p enough d n) e = (p, d, inl (sym (one_place e), n))
-  was_refused step (bad-step p enough d r f) e = (p, d, inr (r, subst (FirstBad (counts_in p.signals) π) (one_place e) f))
-  was_refused step (is_true p enough d t s) e = told-apart (sym e)
-  was_refused step (is_false p enough d t n) e = told-apart (sym e)
+  was_refused step (bad_step p enough d r f) e = (p, d, inr (r, subst (FirstBad (counts_in p.signals) π) (one_place e) f))
+  was_refused step (is_true p enough d t s) e = told_apart (sym e)
+  was_refused step (is_false p enough d t n) e = told_apart (sym e)
 
   module _ (enough : work_size ≤ work) where
     pub true_iff : (judged work source π ≡ True) ↔ Over (Satisfies π)

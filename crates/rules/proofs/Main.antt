@@ -73,33 +73,33 @@ module _ (source : List ℕ) where
   not_both = RefusesLaws.not_both source
 
   -- it denotes one problem, or has one refusal
-  pub one-problem : (p q : Problem) → Denotes source p → Denotes source q → p ≡ q
-  one-problem = DenotesLaws.one-problem source
+  pub one_problem : (p q : Problem) → Denotes source p → Denotes source q → p ≡ q
+  one_problem = DenotesLaws.one_problem source
 
   pub one_refusal : (n m number place : ℕ) → Refuses source n m → Refuses source number place → (n ≡ number) × (m ≡ place)
   one_refusal = RefusesLaws.one_refusal source
 
   -- a problem that is read is within the limits
   pub limits : (p : Problem) → read_problem source ≡ accepted p → Within p
-  limits = WithinLimits.read-within source
+  limits = WithinLimits.read_within source
 
 -- the order of a problem is what its line `order` says, wherever that stands, and the default where there is none
 module _ (source : List ℕ) (p : Problem) (denotes : Denotes source p) where
-  pub order-said : (o : Order) → ended (order_line o) ∈ lines source → p.order ≡ o
-  order-said = ProblemOrder.order-said source p denotes
+  pub order_said : (o : Order) → ended (order_line o) ∈ lines source → p.order ≡ o
+  order_said = ProblemOrder.order_said source p denotes
 
   pub order_unsaid : ((o : Order) → ¬ (ended (order_line o) ∈ lines source)) → p.order ≡ default_order
   order_unsaid = ProblemOrder.order_unsaid source p denotes
 
 -- after each line no signal has a name over 12 bytes, so one in a rule is unknown there
-pub named-first : Named blank.signals
-named-first = WithinLimits.named_blank
+pub named_first : Named blank.signals
+named_first = WithinLimits.named_blank
 
-pub named-next : {d d' : Draft} {l : List ℕ} → Named d.signals → Reads d l d' → Named d'.signals
-named-next = WithinLimits.named-reads
+pub named_next : {d d' : Draft} {l : List ℕ} → Named d.signals → Reads d l d' → Named d'.signals
+named_next = WithinLimits.named_reads
 
-pub long-name : (g : Signals) → Named g → (name : Name) → name_limit < length name → ¬ IsDeclared g name
-long-name = WithinLimits.long_unknown
+pub long_name : (g : Signals) → Named g → (name : Name) → name_limit < length name → ¬ IsDeclared g name
+long_name = WithinLimits.long_unknown
 
 -- a signal gets the next bit of its kind
 pub next_bit_lem : (g : Signals) → Named g → (k : Kind) (name : Name) → ¬ IsDeclared g name → Few (with_signal k name g)
@@ -120,9 +120,9 @@ module _ (work : ℕ) (source : List ℕ) (π : Trace) (enough : work_size ≤ w
   pub judged_false : (judged work source π ≡ False) ↔ ((p : Problem) × Denotes source p × IsTrace (counts_in p.signals) π × (¬ Satisfies π p))
   judged_false = JudgedIffDue.false_iff work source π enough
 
-  pub judged-bad : (step : ℕ) → (judged work source π ≡ Refused (BadTrace step))
+  pub judged_bad : (step : ℕ) → (judged work source π ≡ Refused (BadTrace step))
       ↔ ((p : Problem) × Denotes source p × (((step ≡ 0) × ¬ RightLength π) ⊎ (RightLength π × FirstBad (counts_in p.signals) π step)))
-  judged-bad = JudgedIffDue.bad_trace_iff work source π enough
+  judged_bad = JudgedIffDue.bad_trace_iff work source π enough
 
 -- work memory that is too short stays as it was, and any other is all zero afterwards
 pub work_kept : (w : List ℕ) → length w < work_size → work_after w ≡ w
@@ -136,29 +136,29 @@ work_cleared = JudgeLaws.work_cleared
 -- each stands for a formula that is true at a step exactly where PDDL 3.0 says so of the steps from it on, and for `during` where the request's
 -- window does; a word over one operand does not look at the second
 module _ (π : Trace) (i : ℕ) (φ ψ : Formula) where
-  pub at-most-once : Sat π i (plan_formula plan.Once φ ψ) ↔ AtMostOnce π i (TrueAt π φ)
-  at-most-once = ConstraintsLaws.once-says π i φ
+  pub at_most_once : Sat π i (plan_formula plan.Once φ ψ) ↔ AtMostOnce π i (TrueAt π φ)
+  at_most_once = ConstraintsLaws.once_says π i φ
 
   pub sometime_before : Sat π i (plan_formula plan.Before φ ψ) ↔ SometimeBefore π i (TrueAt π φ) (TrueAt π ψ)
-  sometime_before = ConstraintsLaws.before-says π i φ ψ
+  sometime_before = ConstraintsLaws.before_says π i φ ψ
 
   pub sometime_after : Sat π i (plan_formula plan.After φ ψ) ↔ SometimeAfter π i (TrueAt π φ) (TrueAt π ψ)
-  sometime_after = ConstraintsLaws.after-says π i φ ψ
+  sometime_after = ConstraintsLaws.after_says π i φ ψ
 
-  pub always-within : (steps : ℕ) → Sat π i (plan_formula (plan.Within steps) φ ψ) ↔ AlwaysWithin π i (TrueAt π φ) (TrueAt π ψ) steps
-  always-within = ConstraintsLaws.within-says π i φ ψ
+  pub always_within : (steps : ℕ) → Sat π i (plan_formula (plan.Within steps) φ ψ) ↔ AlwaysWithin π i (TrueAt π φ) (TrueAt π ψ) steps
+  always_within = ConstraintsLaws.within_says π i φ ψ
 
-  pub hold-during : (first last : ℕ) → InRange (plan.During first last) → i < length π
+  pub hold_during : (first last : ℕ) → InRange (plan.During first last) → i < length π
       → Sat π i (plan_formula (plan.During first last) φ ψ) ↔ HoldDuring π i (TrueAt π φ) first last
-  hold-during first last n h = ConstraintsLaws.during-says π i φ first last h n.0 n.1
+  hold_during first last n h = ConstraintsLaws.during_says π i φ first last h n.0 n.1
 
 -- and counts as its formula does: so many parts, and so many temporal operators where its operands have none
 module _ (w : PlanWord) (φ ψ : Formula) where
-  pub plan-parts : size (plan_formula w φ ψ) ≡ plan_size w (size φ) (size ψ)
-  plan-parts = PlanCounts.plan-parts w φ ψ
+  pub plan_parts : size (plan_formula w φ ψ) ≡ plan_size w (size φ) (size ψ)
+  plan_parts = PlanCounts.plan_parts w φ ψ
 
-  pub plan-operators : InRange w → operators φ ≡ 0 → operators ψ ≡ 0 → operators (plan_formula w φ ψ) ≡ plan_operators w
-  plan-operators = PlanCounts.plan-operators w φ ψ
+  pub plan_operators_lem : InRange w → operators φ ≡ 0 → operators ψ ≡ 0 → operators (plan_formula w φ ψ) ≡ plan_operators w
+  plan_operators_lem = PlanCounts.plan_operators_lem w φ ψ
 
 -- ---- what is executed
 

@@ -14,29 +14,29 @@ use Rattle.formula.specs.Values.{value_on}
 use Rattle.rules.specs.Problem.{Problem, formula_in, problem_parts}
 use Rattle.rules.specs.Reading.{sizes_of}
 use Rattle.rules.specs.Satisfies.{Satisfies}
-use Rattle.formula.proofs.FormulaValues.{value-parts}
-use Rattle.formula.proofs.PartsLaws.{length_parts, parts-some, parts-ready, parts-inside}
-use Rattle.formula.proofs.TemporalCount.{temporals-from}
+use Rattle.formula.proofs.FormulaValues.{value_parts}
+use Rattle.formula.proofs.PartsLaws.{length_parts, parts_some, parts_ready, parts_inside}
+use Rattle.formula.proofs.TemporalCount.{temporals_from}
 use Rattle.rules.proofs.SatisfiesLaws.{holds_iff_satisfies}
 
 module _ (p : Problem) where
-  pub parts-counted : length (problem_parts p) ≡ (sizes_of p).parts
-  parts-counted = length_parts (formula_in p)
+  pub parts_counted : length (problem_parts p) ≡ (sizes_of p).parts
+  parts_counted = length_parts (formula_in p)
 
-  pub some-part : 0 < length (problem_parts p)
-  some-part = parts-some (formula_in p)
+  pub some_part : 0 < length (problem_parts p)
+  some_part = parts_some (formula_in p)
 
   pub formed : AllReady (problem_parts p)
-  formed = parts-ready (formula_in p)
+  formed = parts_ready (formula_in p)
 
   pub inside : (i : ℕ) → i < length (problem_parts p) → 1 ≤ arity (part_at (problem_parts p) i).kind
       → (part_at (problem_parts p) i).left < length (problem_parts p)
-  inside = parts-inside (formula_in p)
+  inside = parts_inside (formula_in p)
 
-  pub temporals-are : temporals (kinds_of (problem_parts p)) ≡ (sizes_of p).operators
+  pub temporals_are : temporals (kinds_of (problem_parts p)) ≡ (sizes_of p).operators
   unfolding parts_of
-  temporals-are = temporals-from (formula_in p) 0
+  temporals_are = temporals_from (formula_in p) 0
 
   pub means : (π : Trace) → 0 < length π → (value_on (problem_parts p) π (last_of (problem_parts p)) ≡ true) ↔ Satisfies π p
   means [] h = absurd (omega arith)
-  means (a ∷ π) h = rw (value-parts (formula_in p) (a ∷ π)) (holds_iff_satisfies p (a ∷ π) h)
+  means (a ∷ π) h = rw (value_parts (formula_in p) (a ∷ π)) (holds_iff_satisfies p (a ∷ π) h)

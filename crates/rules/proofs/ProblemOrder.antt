@@ -9,7 +9,7 @@ use Rattle.basics.specs.declared.order.Order.{Order}
 use Rattle.lines.specs.declared.problem.OrderSoFar.TheVariants.{Open, Fixed}
 use Rattle.lines.specs.Lines.{SourceLine, ended, lines, order_line}
 use Rattle.lines.specs.StepOrder.{default_order, order_or}
-use Rattle.lines.proofs.LineCases.{declare_no_order, rule_no_order, open_fixed, same-order}
+use Rattle.lines.proofs.LineCases.{declare_no_order, rule_no_order, open_fixed, same_order}
 use Rattle.rules.specs.Problem.{Draft, Problem}
 use Rattle.rules.specs.Denotes.{Reads, declared, stated, ordered, Make, done, next, Denotes}
 
@@ -23,7 +23,7 @@ module _ (o : Order) where
   fixes : {d d' : Draft} {l : List ℕ} → Reads d l d' → l ≡ order_line o → d'.order ≡ Fixed o
   fixes (declared k name named new few) e = absurd (declare_no_order k name o e)
   fixes (stated text a is derives known fits) e = absurd (rule_no_order text o e)
-  fixes (ordered x first) e = ap Fixed (same-order x o e)
+  fixes (ordered x first) e = ap Fixed (same_order x o e)
 
   -- and it stays fixed
   stays : {d d' : Draft} {l : List ℕ} → Reads d l d' → d.order ≡ Fixed o → d'.order ≡ Fixed o
@@ -43,10 +43,10 @@ make_fixed : (o : Order) {d : Draft} {ls : List SourceLine} {p : Problem} → Ma
 make_fixed o (done some) e = ap order_or e
 make_fixed o (next d' r m) e = make_fixed o m (stays o r e)
 
-make-said : (o : Order) {d : Draft} {ls : List SourceLine} {p : Problem} → Make d ls p → ended (order_line o) ∈ ls → p.order ≡ o
-make-said o (done some) i = absurd (Memᴰ.not-nil i)
-make-said o (next d' r m) (Memᴰ.head e) = make_fixed o m (fixes o r (sym (same_bytes_lem (order_line o) _ e)))
-make-said o (next d' r m) (Memᴰ.tail i) = make-said o m i
+make_said : (o : Order) {d : Draft} {ls : List SourceLine} {p : Problem} → Make d ls p → ended (order_line o) ∈ ls → p.order ≡ o
+make_said o (done some) i = absurd (Memᴰ.not-nil i)
+make_said o (next d' r m) (Memᴰ.head e) = make_fixed o m (fixes o r (sym (same_bytes_lem (order_line o) _ e)))
+make_said o (next d' r m) (Memᴰ.tail i) = make_said o m i
 
 make_unsaid : {d : Draft} {ls : List SourceLine} {p : Problem} → Make d ls p → ((o : Order) → ¬ (ended (order_line o) ∈ ls)) → d.order ≡ Open
     → p.order ≡ default_order
@@ -57,8 +57,8 @@ make_unsaid (next d' r m) n e =
 -- ---- a whole text
 
 module _ (source : List ℕ) (p : Problem) (d : Denotes source p) where
-  pub order-said : (o : Order) → ended (order_line o) ∈ lines source → p.order ≡ o
-  order-said o i = make-said o d.make i
+  pub order_said : (o : Order) → ended (order_line o) ∈ lines source → p.order ≡ o
+  order_said o i = make_said o d.make i
 
   pub order_unsaid : ((o : Order) → ¬ (ended (order_line o) ∈ lines source)) → p.order ≡ default_order
   order_unsaid n = make_unsaid d.make n refl

@@ -34,11 +34,11 @@ use Rattle.lines.specs.Memory.{reading_after, spans_after, parts_after, Kept, li
 use Rattle.rules.specs.Reading.{reading_of, PartsRead, parts_of_outcome}
 use Rattle.basics.proofs.BytesLaws.{past_in}
 use Rattle.lines.proofs.LineFields.{field_is, length_line}
-use Rattle.rules.proofs.JoinedFormulas.{written, stored-joined, size-joined, operators-joined, joined-more, joined-some, no_parts_lem}
-use Rattle.rules.proofs.DenotesLaws.{finish-some}
+use Rattle.rules.proofs.JoinedFormulas.{written, stored_joined, size_joined, operators_joined, joined_more, joined_some, no_parts_lem}
+use Rattle.rules.proofs.DenotesLaws.{finish_some}
 use Rattle.basics.proofs.Booleans.{or_left, or_right}
 use Rattle.lines.proofs.LinesLaws.{lines_none, lines_ended, lines_unended}
-use Rattle.lines.proofs.SignalSpans.{spans_more, signals-more}
+use Rattle.lines.proofs.SignalSpans.{spans_more, signals_more}
 use Rattle.lines.proofs.EffectLaws.{declaring, stating}
 
 -- ---- what is kept between lines
@@ -88,26 +88,26 @@ begin source p h =
       stored = refl;
       kept = record {
         spans_in = spans_none source;
-        outputs-few = omega arith;
-        observed-few = omega arith;
-        hidden-few = omega arith;
-        parts-few = omega
+        outputs_few = omega arith;
+        observed_few = omega arith;
+        hidden_few = omega arith;
+        parts_few = omega
             arith;
-        operators-few = omega arith;
-        parts-long = h;
+        operators_few = omega arith;
+        parts_long = h;
       };
     }
 
 -- ---- one more line
 
 -- the counts after a signal for which there was room
-more-few : (source spans : List ℕ) (k : Kind) (s : Sizes) → is_full k (signals_in source s spans) ≡ false → (s.outputs ≤ kind_limit) ×
+more_few : (source spans : List ℕ) (k : Kind) (s : Sizes) → is_full k (signals_in source s spans) ≡ false → (s.outputs ≤ kind_limit) ×
     (s.observed ≤ kind_limit) × (s.hidden ≤ kind_limit)
     → ((more_signals k s).outputs ≤ kind_limit) × ((more_signals k s).observed ≤ kind_limit) × ((more_signals k s).hidden ≤ kind_limit) ×
     (first_bit k + count_in k s < bits)
-more-few source spans Output s f h = let n = eqb-false s.outputs kind_limit (or_left (eqb s.outputs kind_limit) _ f) in omega (arith, n)
-more-few source spans Observed s f h = let n = eqb-false s.observed kind_limit (or_left (eqb s.observed kind_limit) _ f) in omega (arith, n)
-more-few source spans Hidden s f h = let n = eqb-false s.hidden kind_limit (or_left (eqb s.hidden kind_limit) _ f) in omega (arith, n)
+more_few source spans Output s f h = let n = eqb-false s.outputs kind_limit (or_left (eqb s.outputs kind_limit) _ f) in omega (arith, n)
+more_few source spans Observed s f h = let n = eqb-false s.observed kind_limit (or_left (eqb s.observed kind_limit) _ f) in omega (arith, n)
+more_few source spans Hidden s f h = let n = eqb-false s.hidden kind_limit (or_left (eqb s.hidden kind_limit) _ f) in omega (arith, n)
 
 same_parts : (k : Kind) (s : Sizes)
     → ((more_signals k s).parts ≡ s.parts) × ((more_signals k s).operators ≡ s.operators) × ((more_signals k s).order ≡ s.order)
@@ -124,8 +124,8 @@ tab_in source at end h k t =
 pub not_refused : {C : Type 0} (x : Refusal) (t : Sizes) → Refused x ≡ Accepted t → C
 not_refused x t e = let z : ◌≡◌ {A = ℕ} 0 1 = cc in absurd (omega arith)
 
-pub same-sizes : (s t : Sizes) → Accepted s ≡ Accepted t → s ≡ t
-same-sizes s t e = cc
+pub same_sizes : (s t : Sizes) → Accepted s ≡ Accepted t → s ≡ t
+same_sizes s t e = cc
 
 pub same_refusal : (x y : Refusal) → Refused x ≡ Refused y → x ≡ y
 same_refusal x y e = cc
@@ -147,39 +147,39 @@ module _ {source p₀ : List ℕ} {at line : ℕ} {s : Sizes} {spans p : List �
       abbrev effect : Effect
       effect = line_effect source at end line s spans
 
-      rest-after : whole ≡ after effect g.draft (read_lines (suc line) (lines (drop (end + 1) source)))
+      rest_after : whole ≡ after effect g.draft (read_lines (suc line) (lines (drop (end + 1) source)))
       unfolding read_lines
-      rest-after =
+      rest_after =
           sym g.rest ∙ ap (λ ls. read_lines line ls g.draft) (lines_ended source at end e g.inside l)
           ∙ rw (g.signals, g.parts, g.operators, g.order)
 
       module _ {spans' p' : List ℕ} {r : Reading} (d : LineRead source at end line s spans p spans' p' r) where
-        pub refused-line : (x : Refusal) → r ≡ Refused x → whole ≡ refused x
-        refused-line x q = go effect refl
+        pub refused_line : (x : Refusal) → r ≡ Refused x → whole ≡ refused x
+        refused_line x q = go effect refl
           where
             go : (f : Effect) → effect ≡ f → whole ≡ refused x
             go (declares k name) i = not_refused x _ (sym q ∙ d.reading ∙ ap (λ f. reading_after f s) i)
             go (states φ) i = not_refused x _ (sym q ∙ d.reading ∙ ap (λ f. reading_after f s) i)
             go (orders o) i = not_refused x _ (sym q ∙ d.reading ∙ ap (λ f. reading_after f s) i)
             go (refuses y) i =
-                rest-after ∙ ap (λ f. after f g.draft (read_lines (suc line) (lines (drop (end + 1) source)))) i
+                rest_after ∙ ap (λ f. after f g.draft (read_lines (suc line) (lines (drop (end + 1) source)))) i
                 ∙ ap refused (sym (same_refusal x y (sym q ∙ d.reading ∙ ap (λ f. reading_after f s) i)))
 
         goes_on_lem : (f : Effect) → effect ≡ f → after f g.draft (read_lines (suc line) (lines (drop (end + 1) source))) ≡ whole
-        goes_on_lem f i = sym (rest-after ∙ ap (λ x. after x g.draft (read_lines (suc line) (lines (drop (end + 1) source)))) i)
+        goes_on_lem f i = sym (rest_after ∙ ap (λ x. after x g.draft (read_lines (suc line) (lines (drop (end + 1) source)))) i)
 
         -- the memory after a signal
         declares_going : (k : Kind) (name : List ℕ) → effect ≡ declares k name → (t : Sizes) → r ≡ Accepted t → Going source p₀ (end + 1) (line + 1) t spans' p'
         declares_going k name i t q =
             let b = declaring line (between source at end) (signals_in source s spans) s.parts s.operators s.order k name i in
             let kept = g.kept in
-            let few = more-few source spans k s b.room (kept.outputs-few, kept.observed-few, kept.hidden-few) in
+            let few = more_few source spans k s b.room (kept.outputs_few, kept.observed_few, kept.hidden_few) in
             let place = tab_in source at end line_in.0 line_in.1 b.tab in
             let n = field_is source at end (tab_place (between source at end)) line_in.1 place ∙ b.is in
-            let sizes : more_signals k s ≡ t = same-sizes _ t (sym (ap (λ f. reading_after f s) i) ∙ sym d.reading ∙ q) in
+            let sizes : more_signals k s ≡ t = same_sizes _ t (sym (ap (λ f. reading_after f s) i) ∙ sym d.reading ∙ q) in
             let here : spans' ≡ spanned k s (at + tab_place (between source at end) + 1) end spans = d.spans_left ∙ ap
             (λ f. spans_after f s (at + tab_place (between source at end) + 1) end spans) i in
-            let left : p' ≡ p = d.parts-left ∙ ap (λ f. parts_after f s p) i in
+            let left : p' ≡ p = d.parts_left ∙ ap (λ f. parts_after f s p) i in
             rw (← sizes, here, left)
             (record {
               draft = with_declared k name g.draft;
@@ -187,19 +187,19 @@ module _ {source p₀ : List ℕ} {at line : ℕ} {s : Sizes} {spans p : List �
               numbered = omega (arith, g.numbered, line_in);
               rest = rw (add-one line) (goes_on_lem (declares k name) i);
               signals = ap (with_signal k name) g.signals
-                  ∙ sym (signals-more source spans kept.spans_in k s _ end few.3 ∙ ap (λ x. with_signal k x (signals_in source s spans)) n);
+                  ∙ sym (signals_more source spans kept.spans_in k s _ end few.3 ∙ ap (λ x. with_signal k x (signals_in source s spans)) n);
               parts = g.parts ∙ sym (same_parts k s).0;
               operators = g.operators ∙ sym (same_parts k s).1;
               order = g.order ∙ sym (same_parts k s).2;
               stored = g.stored;
               kept = record {
                 spans_in = spans_more source spans kept.spans_in (first_bit k + count_in k s) _ end few.3 place line_in.1;
-                outputs-few = few.0;
-                observed-few = few.1;
-                hidden-few = few.2;
-                parts-few = rw (same_parts k s).0 kept.parts-few;
-                operators-few = rw (same_parts k s).1 kept.operators-few;
-                parts-long = kept.parts-long;
+                outputs_few = few.0;
+                observed_few = few.1;
+                hidden_few = few.2;
+                parts_few = rw (same_parts k s).0 kept.parts_few;
+                operators_few = rw (same_parts k s).1 kept.operators_few;
+                parts_long = kept.parts_long;
               };
             })
 
@@ -208,11 +208,11 @@ module _ {source p₀ : List ℕ} {at line : ℕ} {s : Sizes} {spans p : List �
         states_going φ i t q =
             let kept = g.kept in
             let f : Option Formula = joined_lines g.draft.lines in
-            let joined-now : joined_lines (g.draft.lines ++ (rule φ ∷ [])) ≡ some (joined f φ) = joined-more g.draft.lines φ in
+            let joined-now : joined_lines (g.draft.lines ++ (rule φ ∷ [])) ≡ some (joined f φ) = joined_more g.draft.lines φ in
             let small = stating line (between source at end) (signals_in source s spans) s.parts s.operators s.order φ i in
-            let sizes : more_parts (size φ) (operators φ) s ≡ t = same-sizes _ t (sym (ap (λ f. reading_after f s) i) ∙ sym d.reading ∙ q) in
+            let sizes : more_parts (size φ) (operators φ) s ≡ t = same_sizes _ t (sym (ap (λ f. reading_after f s) i) ∙ sym d.reading ∙ q) in
             let here : spans' ≡ spans = d.spans_left ∙ ap (λ f. spans_after f s (at + tab_place (between source at end) + 1) end spans) i in
-            let left : p' ≡ stored_from (added_parts φ s.parts) s.parts p = d.parts-left ∙ ap (λ f. parts_after f s p) i in
+            let left : p' ≡ stored_from (added_parts φ s.parts) s.parts p = d.parts_left ∙ ap (λ f. parts_after f s p) i in
             rw (← sizes, here, left)
             (record {
               draft = with_formula φ g.draft;
@@ -220,20 +220,20 @@ module _ {source p₀ : List ℕ} {at line : ℕ} {s : Sizes} {spans p : List �
               numbered = omega (arith, g.numbered, line_in);
               rest = rw (add-one line) (goes_on_lem (states φ) i);
               signals = g.signals;
-              parts = ap size_in joined-now ∙ sym (size-joined f φ) ∙ ap (λ n. n + size φ + joint n) g.parts;
-              operators = ap operators_in joined-now ∙ sym (operators-joined f φ) ∙ ap (λ n. n + operators φ) g.operators;
+              parts = ap size_in joined-now ∙ sym (size_joined f φ) ∙ ap (λ n. n + size φ + joint n) g.parts;
+              operators = ap operators_in joined-now ∙ sym (operators_joined f φ) ∙ ap (λ n. n + operators φ) g.operators;
               order = g.order;
               stored = ap (λ n. stored_from (added_parts φ n) n p) (sym g.parts)
                   ∙ ap (stored_from (added_parts φ (size_in f)) (size_in f)) g.stored
-                  ∙ stored-joined f φ p₀ ∙ ap (λ x. stored_from (written x) 0 p₀) (sym joined-now);
+                  ∙ stored_joined f φ p₀ ∙ ap (λ x. stored_from (written x) 0 p₀) (sym joined-now);
               kept = record {
                 spans_in = kept.spans_in;
-                outputs-few = kept.outputs-few;
-                observed-few = kept.observed-few;
-                hidden-few = kept.hidden-few;
-                parts-few = ltb-false part_limit _ (or_left _ _ small);
-                operators-few = ltb-false operator_limit _ (or_right (ltb part_limit (s.parts + size φ + joint s.parts)) _ small);
-                parts-long = simp length-sets kept.parts-long;
+                outputs_few = kept.outputs_few;
+                observed_few = kept.observed_few;
+                hidden_few = kept.hidden_few;
+                parts_few = ltb-false part_limit _ (or_left _ _ small);
+                operators_few = ltb-false operator_limit _ (or_right (ltb part_limit (s.parts + size φ + joint s.parts)) _ small);
+                parts_long = simp length-sets kept.parts_long;
               };
             })
 
@@ -241,9 +241,9 @@ module _ {source p₀ : List ℕ} {at line : ℕ} {s : Sizes} {spans p : List �
         orders_going : (o : Order) → effect ≡ orders o → (t : Sizes) → r ≡ Accepted t → Going source p₀ (end + 1) (line + 1) t spans' p'
         orders_going o i t q =
             let kept = g.kept in
-            let sizes : fix_order o s ≡ t = same-sizes _ t (sym (ap (λ f. reading_after f s) i) ∙ sym d.reading ∙ q) in
+            let sizes : fix_order o s ≡ t = same_sizes _ t (sym (ap (λ f. reading_after f s) i) ∙ sym d.reading ∙ q) in
             let here : spans' ≡ spans = d.spans_left ∙ ap (λ f. spans_after f s (at + tab_place (between source at end) + 1) end spans) i in
-            let left : p' ≡ p = d.parts-left ∙ ap (λ f. parts_after f s p) i in
+            let left : p' ≡ p = d.parts_left ∙ ap (λ f. parts_after f s p) i in
             rw (← sizes, here, left)
             (record {
               draft = with_order o g.draft;
@@ -257,17 +257,17 @@ module _ {source p₀ : List ℕ} {at line : ℕ} {s : Sizes} {spans p : List �
               stored = g.stored;
               kept = record {
                 spans_in = kept.spans_in;
-                outputs-few = kept.outputs-few;
-                observed-few = kept.observed-few;
-                hidden-few = kept.hidden-few;
-                parts-few = kept.parts-few;
-                operators-few = kept.operators-few;
-                parts-long = kept.parts-long;
+                outputs_few = kept.outputs_few;
+                observed_few = kept.observed_few;
+                hidden_few = kept.hidden_few;
+                parts_few = kept.parts_few;
+                operators_few = kept.operators_few;
+                parts_long = kept.parts_long;
               };
             })
 
-        pub accepted-line : (t : Sizes) → r ≡ Accepted t → Going source p₀ (end + 1) (line + 1) t spans' p'
-        accepted-line t q = go effect refl
+        pub accepted_line : (t : Sizes) → r ≡ Accepted t → Going source p₀ (end + 1) (line + 1) t spans' p'
+        accepted_line t q = go effect refl
           where
             go : (f : Effect) → effect ≡ f → Going source p₀ (end + 1) (line + 1) t spans' p'
             go (declares k name) i = declares_going k name i t q
@@ -290,13 +290,13 @@ module _ {source p₀ : List ℕ} {at line : ℕ} {s : Sizes} {spans p : List �
     unfolding written
     some_formula z t i =
         let some-line : ¬ (g.draft.lines ≡ []) = λ e. z (sym g.parts ∙ ap (λ ls. size_in (joined_lines ls)) e) in
-        let (φ, e) = joined-some g.draft.lines some-line in
-        rw (finished, finish-some g.draft.signals g.draft.order g.draft.lines some-line, i)
+        let (φ, e) = joined_some g.draft.lines some-line in
+        rw (finished, finish_some g.draft.signals g.draft.order g.draft.lines some-line, i)
         (rw (g.signals, g.order, e, sym (ap size_in e) ∙ g.parts, sym (ap operators_in e) ∙ g.operators)
         (refl, g.stored ∙ ap (λ f. stored_from (written f) 0 p₀) e))
 
-pub refused-answer : (o : Outcome) (x : Refusal) (q q' : List ℕ) → o ≡ refused x → (Refused x ≡ reading_of o) × PartsRead o q q'
-refused-answer o x q q' e = rw e (refl, tt)
+pub refused_answer : (o : Outcome) (x : Refusal) (q q' : List ℕ) → o ≡ refused x → (Refused x ≡ reading_of o) × PartsRead o q q'
+refused_answer o x q q' e = rw e (refl, tt)
 
 -- ---- the whole text
 
@@ -311,15 +311,15 @@ short_source source h = rw (le-ltb source_limit (length source) h)
 
 -- what is left in the list
 module _ (o : Outcome) (r : Reading) (e : r ≡ reading_of o) (p : List ℕ) where
-  pub parts-accepted : (s : Sizes) → r ≡ Accepted s → (q : List ℕ) → PartsRead o p q → q ≡ parts_of_outcome o p
-  parts-accepted s a q h = go o (sym e ∙ a) h
+  pub parts_accepted : (s : Sizes) → r ≡ Accepted s → (q : List ℕ) → PartsRead o p q → q ≡ parts_of_outcome o p
+  parts_accepted s a q h = go o (sym e ∙ a) h
     where
       go : (o : Outcome) → reading_of o ≡ Accepted s → PartsRead o p q → q ≡ parts_of_outcome o p
       go (accepted x) i h = h
       go (refused x) i h = not_refused x s i
 
-  pub parts-refused : (x : Refusal) → r ≡ Refused x → (k : ℕ) → k ≡ length p → replicate k 0 ≡ parts_of_outcome o p
-  parts-refused x a k l = go o (sym e ∙ a)
+  pub parts_refused : (x : Refusal) → r ≡ Refused x → (k : ℕ) → k ≡ length p → replicate k 0 ≡ parts_of_outcome o p
+  parts_refused x a k l = go o (sym e ∙ a)
     where
       go : (o : Outcome) → reading_of o ≡ Refused x → replicate k 0 ≡ parts_of_outcome o p
       go (accepted y) i = not_refused x _ (sym i)

@@ -58,9 +58,9 @@ module _ (c : Counts) (few : (c.outputs ≤ kind_limit) × (c.observed ≤ kind_
     good : bad_step c (suc n) π ≡ none → AllLetters π → Searched n π
     bad : (step : ℕ) → bad_step c (suc n) π ≡ some (n + step) → FirstBad c π step → Searched n π
 
-  more-letters : (a : ℕ) (π : Trace) → IsLetter c a → AllLetters π → AllLetters (a ∷ π)
-  more-letters a π l f b (Memᴰ.head e) = subst (IsLetter c) (sym e) l
-  more-letters a π l f b (Memᴰ.tail m) = f b m
+  more_letters : (a : ℕ) (π : Trace) → IsLetter c a → AllLetters π → AllLetters (a ∷ π)
+  more_letters a π l f b (Memᴰ.head e) = subst (IsLetter c) (sym e) l
+  more_letters a π l f b (Memᴰ.tail m) = f b m
 
   searched : (n : ℕ) (π : Trace) → Searched n π
   unfolding bad_step
@@ -68,26 +68,26 @@ module _ (c : Counts) (few : (c.outputs ≤ kind_limit) × (c.observed ≤ kind_
   searched n (a ∷ π) = at (is_letter c a) refl (searched (suc n) π)
     where
       at : (b : Bool) → is_letter c a ≡ b → Searched (suc n) π → Searched n (a ∷ π)
-      at true e (good q f) = good (rw (e, q)) (more-letters a π ((letter_iff c few a).0 e) f)
+      at true e (good q f) = good (rw (e, q)) (more_letters a π ((letter_iff c few a).0 e) f)
       at true e (bad i q f) =
           let z : suc n + i ≡ n + suc i = omega arith in
           bad (suc i) (rw (e, q) (ap some z)) (later ((letter_iff c few a).0 e) f)
       at false e _ = bad 1 (rw (e, add-one n)) (first (λ l. clash ((letter_iff c few a).1 l) e))
 
   -- and the other way round
-  all-letters : (π : Trace) → AllLetters π → (n : ℕ) → bad_step c n π ≡ none
+  all_letters : (π : Trace) → AllLetters π → (n : ℕ) → bad_step c n π ≡ none
   unfolding bad_step
-  all-letters [] f n = refl
-  all-letters (a ∷ π) f n =
-      rw ((letter_iff c few a).1 (f a (Memᴰ.head refl))) (all-letters π (λ b m. f b (Memᴰ.tail m)) (suc n))
+  all_letters [] f n = refl
+  all_letters (a ∷ π) f n =
+      rw ((letter_iff c few a).1 (f a (Memᴰ.head refl))) (all_letters π (λ b m. f b (Memᴰ.tail m)) (suc n))
 
-  first-bad : {π : Trace} {step : ℕ} → FirstBad c π step → (n : ℕ) → bad_step c (suc n) π ≡ some (n + step)
+  first_bad : {π : Trace} {step : ℕ} → FirstBad c π step → (n : ℕ) → bad_step c (suc n) π ≡ some (n + step)
   unfolding bad_step
-  first-bad (first {a = a} none-such) n =
+  first_bad (first {a = a} none-such) n =
       elim (test (is_letter c a)) [ inl e ↦ absurd (none-such ((letter_iff c few a).0 e)) | inr e ↦ rw (e, add-one n) ]
-  first-bad (later {a = a} {i = i} l f) n =
+  first_bad (later {a = a} {i = i} l f) n =
       let z : suc n + i ≡ n + suc i = omega arith in
-      rw ((letter_iff c few a).1 l) (first-bad f (suc n) ∙ ap some z)
+      rw ((letter_iff c few a).1 l) (first_bad f (suc n) ∙ ap some z)
 
   -- ---- the verdict on a trace on which the value is b
 
@@ -98,21 +98,21 @@ module _ (c : Counts) (few : (c.outputs ≤ kind_limit) × (c.observed ≤ kind_
         → P (told_verdict (verdict_on c π b))
     unfolding verdict_on
     verdict_cases P wrong stepped valued =
-        elim (test (bad_length_lem π)) [ inl e ↦ rw e (wrong (wrong_length π e)) | inr e ↦ rw e (by-step (right_length π e) (searched 0 π)) ]
+        elim (test (bad_length_lem π)) [ inl e ↦ rw e (wrong (wrong_length π e)) | inr e ↦ rw e (by_step (right_length π e) (searched 0 π)) ]
       where
-        by-step : RightLength π → Searched 0 π → P (told_verdict (or_bad_step (bad_step c 1 π) (cond b True False)))
-        by-step r (good e f) = rw e (valued (r, f))
-        by-step r (bad i e f) = rw (e, zero-add i) (stepped i r f)
+        by_step : RightLength π → Searched 0 π → P (told_verdict (or_bad_step (bad_step c 1 π) (cond b True False)))
+        by_step r (good e f) = rw e (valued (r, f))
+        by_step r (bad i e f) = rw (e, zero-add i) (stepped i r f)
 
     -- and the other way round
     pub length_verdict : ¬ RightLength π → verdict_on c π b ≡ Refused (BadTrace 0)
     unfolding verdict_on
     length_verdict n = rw (length_fails π n)
 
-    pub step-verdict : {step : ℕ} → RightLength π → FirstBad c π step → verdict_on c π b ≡ Refused (BadTrace step)
+    pub step_verdict : {step : ℕ} → RightLength π → FirstBad c π step → verdict_on c π b ≡ Refused (BadTrace step)
     unfolding verdict_on
-    step-verdict {step} r f = rw (length_test π r, first-bad f 0, zero-add step)
+    step_verdict {step} r f = rw (length_test π r, first_bad f 0, zero-add step)
 
-    pub value-verdict : (v : Bool) → IsTrace c π → b ≡ v → verdict_on c π b ≡ cond v True False
+    pub value_verdict : (v : Bool) → IsTrace c π → b ≡ v → verdict_on c π b ≡ cond v True False
     unfolding verdict_on
-    value-verdict v t e = rw (length_test π t.0, all-letters π t.1 1, e)
+    value_verdict v t e = rw (length_test π t.0, all_letters π t.1 1, e)

@@ -24,11 +24,11 @@ use Rattle.lines.specs.Effect.{Signals, count, first_bit, with_signal}
 use Rattle.rules.specs.Within.{Few, Within}
 use Rattle.rules.specs.Within.{Named}
 use Rattle.rules.specs.Denotes.{IsDeclared, Reads, declared, stated, ordered, Make, done, next}
-use Rattle.formula.proofs.CodesLaws.{Held, Coded, held-binary}
+use Rattle.formula.proofs.CodesLaws.{Held, Coded, held_binary}
 use Rattle.lines.proofs.TreeCodes.{derived_stands}
-use Rattle.lines.proofs.LinesLaws.{name-short}
-use Rattle.lines.proofs.DeclaredNames.{index_new, leaf-values}
-use Rattle.rules.proofs.JoinedFormulas.{joined-more, joined-some}
+use Rattle.lines.proofs.LinesLaws.{name_short}
+use Rattle.lines.proofs.DeclaredNames.{index_new, leaf_values}
+use Rattle.rules.proofs.JoinedFormulas.{joined_more, joined_some}
 use Rattle.rules.proofs.LineTests.{names_more}
 use Rattle.rules.proofs.DenotesLaws.{read_denotes}
 
@@ -69,10 +69,10 @@ named_blank = record { all = refl; short = λ name m. empty name m }
     empty name m = let (i, h, e) = index_of_lem [] m in subst (λ x. length x ≤ name_limit) (sym (get_or-replicate bits i [] [] h) ∙ e) (omega arith)
 
 -- .. and after each line
-pub named-reads : {d d' : Draft} {l : List ℕ} → Named d.signals → Reads d l d' → Named d'.signals
-named-reads {d} n (declared k name named new few) = named_more d.signals n k name (name-short name named)
-named-reads n (stated text a is derives known fits) = n
-named-reads n (ordered o first) = n
+pub named_reads : {d d' : Draft} {l : List ℕ} → Named d.signals → Reads d l d' → Named d'.signals
+named_reads {d} n (declared k name named new few) = named_more d.signals n k name (name_short name named)
+named_reads n (stated text a is derives known fits) = n
+named_reads n (ordered o first) = n
 
 -- ---- formulas
 
@@ -81,10 +81,10 @@ unfoldable CodedIn : Option Formula → Type 0
 CodedIn none = Unit {0}
 CodedIn (some φ) = Coded φ
 
-coded-joined : (f : Option Formula) (φ : Formula) → CodedIn f → Coded φ → CodedIn (some (joined f φ))
+coded_joined : (f : Option Formula) (φ : Formula) → CodedIn f → Coded φ → CodedIn (some (joined f φ))
 unfolding CodedIn parts_from size
-coded-joined none φ c d = d
-coded-joined (some ψ) φ c d = λ n h. held-binary op.And ψ φ c d n h
+coded_joined none φ c d = d
+coded_joined (some ψ) φ c d = λ n h. held_binary op.And ψ φ c d n h
 
 record Small (d : Draft) : Type 0 where
   few : Few d.signals
@@ -93,44 +93,44 @@ record Small (d : Draft) : Type 0 where
   parts : part_count d ≤ part_limit
   operators : operator_count d ≤ operator_limit
 
-reads-small : {d d' : Draft} {l : List ℕ} → Small d → Reads d l d' → Small d'
-reads-small {d} s (declared k name named new few) =
+reads_small : {d d' : Draft} {l : List ℕ} → Small d → Reads d l d' → Small d'
+reads_small {d} s (declared k name named new few) =
     record {
       few = few;
-      named = named-reads {d = d} s.named (declared k name named new few);
+      named = named_reads {d = d} s.named (declared k name named new few);
       coded = s.coded;
       parts = s.parts;
       operators = s.operators;
     }
-reads-small {d} s (stated text a is derives known fits) =
+reads_small {d} s (stated text a is derives known fits) =
     record {
       few = s.few;
       named = s.named;
       coded =
-          subst CodedIn (sym (joined-more d.lines _))
-          (coded-joined (joined_lines d.lines) _ s.coded
-          (derived_stands (leaf-values d.signals.names _ s.named.all) _ derives).coded);
+          subst CodedIn (sym (joined_more d.lines _))
+          (coded_joined (joined_lines d.lines) _ s.coded
+          (derived_stands (leaf_values d.signals.names _ s.named.all) _ derives).coded);
       parts = fits.0;
       operators = fits.1;
     }
-reads-small s (ordered o first) =
+reads_small s (ordered o first) =
     record { few = s.few; named = s.named; coded = s.coded; parts = s.parts; operators = s.operators }
 
 -- ---- a whole problem
 
-make-within : {d : Draft} {ls : List SourceLine} {p : Problem} → Small d → Make d ls p → Within p × Held (problem_parts p)
+make_within : {d : Draft} {ls : List SourceLine} {p : Problem} → Small d → Make d ls p → Within p × Held (problem_parts p)
 unfolding CodedIn parts_of
-make-within s (done {d = d} some-line) =
-    let (φ, e) = joined-some d.lines some-line in
+make_within s (done {d = d} some-line) =
+    let (φ, e) = joined_some d.lines some-line in
     let small : size φ ≤ part_limit = subst (λ f. size_in f ≤ part_limit) e s.parts in
     let few : operators φ ≤ operator_limit = subst (λ f. operators_in f ≤ operator_limit) e s.operators in
     let held : Held (parts_of φ) = subst CodedIn e s.coded 0 (omega arith) in
     (record { few = s.few; named = s.named; parts = rw e small; operators = rw e few }, rw e held)
-make-within s (next d' r m) = make-within (reads-small s r) m
+make_within s (next d' r m) = make_within (reads_small s r) m
 
-blank-small : Small blank
+blank_small : Small blank
 unfolding CodedIn
-blank-small =
+blank_small =
     record {
       few = record { outputs = omega arith; observed = omega arith; hidden = omega arith; total = omega arith };
       named = named_blank;
@@ -141,9 +141,9 @@ blank-small =
 
 module _ (source : List ℕ) (p : Problem) (e : read_problem source ≡ accepted p) where
   -- a problem that is read is within the limits
-  pub read-within : Within p
-  read-within = (make-within blank-small (read_denotes source p e).make).0
+  pub read_within : Within p
+  read_within = (make_within blank_small (read_denotes source p e).make).0
 
   -- and numbers hold its parts
   pub read_held : Held (problem_parts p)
-  read_held = (make-within blank-small (read_denotes source p e).make).1
+  read_held = (make_within blank_small (read_denotes source p e).make).1

@@ -38,7 +38,7 @@ pub data JudgedAs (work : ℕ) (source : List ℕ) (π : Trace) : Told → Type 
   short_memory : work < work_size → JudgedAs work source π (refused 12 0)
   bad_source : {number place : ℕ} → work_size ≤ work → Refuses source number place → JudgedAs work source π (refused number place)
   bad_length : (p : Problem) → work_size ≤ work → Denotes source p → ¬ RightLength π → JudgedAs work source π (refused 16 0)
-  bad-step : (p : Problem) {step : ℕ} → work_size ≤ work → Denotes source p → RightLength π → FirstBad (counts_in p.signals) π step
+  bad_step : (p : Problem) {step : ℕ} → work_size ≤ work → Denotes source p → RightLength π → FirstBad (counts_in p.signals) π step
       → JudgedAs work source π (refused 16 step)
   is_true : (p : Problem) → work_size ≤ work → Denotes source p → IsTrace (counts_in p.signals) π → Satisfies π p
       → JudgedAs work source π (values (1 ∷ []))

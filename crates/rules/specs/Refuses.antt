@@ -18,7 +18,7 @@ use Rattle.rules.specs.Denotes.{IsDeclared, AllDeclared, stated_formula, Fits, R
 -- the number with which a line is refused, after what was read before it
 pub data LineRefused (d : Draft) : List ℕ → ℕ → Type 0 where
   -- 2: it neither declares a name, nor states a formula's text, nor is the first to say the order
-  bad-line : {line : List ℕ} → ((k : Kind) (name : Name) → line ≡ declare_line k name → ¬ (is_name name ≡ true))
+  bad_line : {line : List ℕ} → ((k : Kind) (name : Name) → line ≡ declare_line k name → ¬ (is_name name ≡ true))
       → ((text : List ℕ) → line ≡ rule_line text → ¬ (is_text text ≡ true)) → ((o : Order) → line ≡ order_line o → ¬ (d.order ≡ Open))
       → LineRefused d line 2
   -- 3: it declares a name again

@@ -19,8 +19,8 @@ use Rattle.search.proofs.SlotsLaws.{length_items_in, get_d_items_in, Packing, it
 
 module _ (w len : ℕ) (pack : List Bool → List ℕ) (packing : Packing w len pack) (mem : List ℕ) (n : ℕ) where
   -- what holds items begins with their bytes
-  pub holds-bytes : n * w ≤ length mem → HoldsItems w len pack mem n → take (n * w) mem ≡ flat_map pack (items_in w len mem n)
-  holds-bytes room h = ext_get_or 0 _ _ (cut ∙ sym whole) (λ y l. entry y (subst (λ m. y < m) cut l))
+  pub holds_bytes : n * w ≤ length mem → HoldsItems w len pack mem n → take (n * w) mem ≡ flat_map pack (items_in w len mem n)
+  holds_bytes room h = ext_get_or 0 _ _ (cut ∙ sym whole) (λ y l. entry y (subst (λ m. y < m) cut l))
     where
       cut : length (take (n * w) mem) ≡ n * w
       cut = length-take-le (n * w) mem room
@@ -55,9 +55,9 @@ module _ (w len : ℕ) (pack : List Bool → List ℕ) (packing : Packing w len 
   nothing : (y : ℕ) → y < 0 * w → get_or (put_mid 0 k mem bytes) y 0 ≡ get_or mem y 0
   nothing y h = absurd (omega arith)
 
-  pub first-items : items_in w len (put_mid 0 k mem bytes) 1 ≡ first ∷ []
+  pub first_items : items_in w len (put_mid 0 k mem bytes) 1 ≡ first ∷ []
   unfolding items_in
-  first-items = items_more w len pack packing mem (put_mid 0 k mem bytes) 0 none nothing first long begun
+  first_items = items_more w len pack packing mem (put_mid 0 k mem bytes) 0 none nothing first long begun
 
   pub first_holds : HoldsItems w len pack (put_mid 0 k mem bytes) 1
   first_holds = holds_more w len pack packing mem (put_mid 0 k mem bytes) 0 none nothing first long begun
@@ -66,8 +66,8 @@ module _ (w len : ℕ) (pack : List Bool → List ℕ) (packing : Packing w len 
 
 module _ {K : Type 0} (limit : ℕ) (xs : List K) where
   -- from the answer back to the count
-  pub count-found : (m : ℕ) → Found m ≡ count_up_to limit xs → (length xs ≤ limit) × (m ≡ length xs)
-  count-found m q = at (ltb limit (length xs)) refl q
+  pub count_found : (m : ℕ) → Found m ≡ count_up_to limit xs → (length xs ≤ limit) × (m ≡ length xs)
+  count_found m q = at (ltb limit (length xs)) refl q
     where
       at : (b : Bool) → ltb limit (length xs) ≡ b → Found m ≡ cond b TooMany (Found (length xs)) → (length xs ≤ limit) × (m ≡ length xs)
       at true e q = let z : ◌≡◌ {A = ℕ} 0 1 = cc in absurd (omega arith)

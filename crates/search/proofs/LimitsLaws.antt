@@ -16,8 +16,8 @@ operators_many : word_bits ≤ operator_limit
 operators_many = omega arith
 
 -- and a word can be shifted by as many bits as there are operators
-operators-few : operator_limit < word_size
-operators-few = omega arith
+operators_few : operator_limit < word_size
+operators_few = omega arith
 
 -- a set has a bit for each pattern
 set_bits : set_size * 8 ≡ 2 ^ suc operator_limit
@@ -28,8 +28,8 @@ pub place_byte : state_limit < 2 ^ 8
 place_byte = omega arith
 
 module _ (d : ℕ) (few : d ≤ operator_limit) where
-  pub operators-shift : d < word_size
-  operators-shift = omega (arith, few, operators-few)
+  pub operators_shift : d < word_size
+  operators_shift = omega (arith, few, operators_few)
 
   -- a set over d operators fits its place, and is read back from it
   pub set_room : 2 ^ suc d ≤ set_size * 8

@@ -19,18 +19,18 @@ module _ (d : ℕ) (back : ℕ → ℕ → ℕ) (mem : List ℕ) (i : ℕ) (lett
   abbrev made : PatternSet
   made = next_all d back (set_in d mem i) letters
 
-  bytes-size : length (set_bytes made) ≡ set_size
-  bytes-size = packed_length set_size made
+  bytes_size : length (set_bytes made) ≡ set_size
+  bytes_size = packed_length set_size made
 
   pub next_in_place : d ≤ operator_limit → set_in d (with_next d back mem i letters m) m ≡ next_all d back (set_in d mem i) letters
   next_in_place few =
       (set_packing d few).back made (length_next_all d back (set_in d mem i) letters) (with_next d back mem i letters m) m
-      (with_there set_size mem (set_bytes made) m room bytes-size)
+      (with_there set_size mem (set_bytes made) m room bytes_size)
 
   pub others_stay : (length (with_next d back mem i letters m) ≡ length mem)
       × ((k : ℕ) → (k < m * set_size) ⊎ (m * set_size + set_size ≤ k) → get_or (with_next d back mem i letters m) k 0 ≡ get_or mem k 0)
-  others_stay = (with_length set_size mem (set_bytes made) m room bytes-size, outside)
+  others_stay = (with_length set_size mem (set_bytes made) m room bytes_size, outside)
     where
       outside : (k : ℕ) → (k < m * set_size) ⊎ (m * set_size + set_size ≤ k) → get_or (with_next d back mem i letters m) k 0 ≡ get_or mem k 0
       outside k (inl h) = with_before set_size mem (set_bytes made) m room k h
-      outside k (inr h) = with_behind set_size mem (set_bytes made) m room bytes-size k h
+      outside k (inr h) = with_behind set_size mem (set_bytes made) m room bytes_size k h

@@ -14,11 +14,11 @@ use Rattle.basics.proofs.ListsLaws.{length_tabulate, get_d_tabulate, tabulate_ex
 use Rattle.search.specs.PatternSet.{PatternSet, member, start, next}
 use Rattle.search.specs.Slots.{byte_at, bit_bytes}
 use Rattle.search.specs.Memory.{packed, start_byte, spread, EachBelow, next_byte, next_bytes, half_of}
-use Rattle.basics.proofs.BitsLaws.{bit_mod, digit_lt, digit-is}
-use Rattle.search.proofs.SlotBytes.{bytes_length, bit-bytes}
-use Rattle.basics.proofs.Filling.{table-all}
+use Rattle.basics.proofs.BitsLaws.{bit_mod, digit_lt, digit_is}
+use Rattle.search.proofs.SlotBytes.{bytes_length, bit_bytes_lem}
+use Rattle.basics.proofs.Filling.{table_all}
 use Rattle.search.proofs.PatternSetLaws.{length_set_of, member-set_of, length_start}
-use Rattle.search.proofs.SlotsLaws.{Packing, packing-bits}
+use Rattle.search.proofs.SlotsLaws.{Packing, packing_bits}
 use Rattle.search.proofs.HalfSets.{half_some, half_pattern}
 
 -- ---- the bytes of a set
@@ -27,9 +27,9 @@ pub packed_length : (w : ℕ) (s : PatternSet) → length (packed w s) ≡ w
 unfolding packed
 packed_length w s = bytes_length w _
 
-pub bit-packed : (w : ℕ) (s : PatternSet) (p : ℕ) → p < w * 8 → bit (get_or (packed w s) (p / 8) 0) (p % 8) ≡ member s (p % length s)
+pub bit_packed : (w : ℕ) (s : PatternSet) (p : ℕ) → p < w * 8 → bit (get_or (packed w s) (p / 8) 0) (p % 8) ≡ member s (p % length s)
 unfolding packed
-bit-packed w s p h = bit-bytes w _ p h
+bit_packed w s p h = bit_bytes_lem w _ p h
 
 -- a set's bits one by one
 pub spread_at_lem : (bytes : List ℕ) (p : ℕ) → p < length bytes * 8 → get_or (spread bytes) p 0 ≡ digit (bit (get_or bytes (p / 8) 0) (p % 8))
@@ -40,8 +40,8 @@ pub spread_length : (bytes : List ℕ) → length (spread bytes) ≡ length byte
 unfolding spread
 spread_length bytes = length_tabulate (length bytes * 8) (λ q. digit (bit (get_or bytes (q / 8) 0) (q % 8)))
 
-pub spread-binary : (bytes : List ℕ) → EachBelow (length (spread bytes)) 2 (spread bytes)
-spread-binary bytes =
+pub spread_binary : (bytes : List ℕ) → EachBelow (length (spread bytes)) 2 (spread bytes)
+spread_binary bytes =
     record {
       small = λ p l.
           subst (λ x. x < 2) (sym (spread_at_lem bytes p (subst (λ n. p < n) (spread_length bytes) l))) (digit_lt (bit (get_or bytes (p / 8) 0) (p % 8)));
@@ -49,32 +49,32 @@ spread-binary bytes =
 
 -- ---- the start set
 
-start-packed : (w d : ℕ) → tabulate w (start_byte d) ≡ packed w (start d)
+start_packed : (w d : ℕ) → tabulate w (start_byte d) ≡ packed w (start d)
 unfolding start_byte packed bit_bytes byte_at start
-start-packed w d =
+start_packed w d =
     tabulate_ext w (start_byte d) _ (λ i l.
     ap from_bits (tabulate_ext 8 (λ j. bit (i * 8 + j) d) (λ j. member (start d) ((i * 8 + j) % length (start d)))
     (λ j l. sym (ap (λ n. member (start d) ((i * 8 + j) % n)) (length_start d)
     ∙ member-set_of d (λ p. bit p d) ((i * 8 + j) % 2 ^ suc d) (mod-lt (i * 8 + j) (pow_pos (suc d)))
     ∙ bit_mod (i * 8 + j) (suc d) d (omega arith)))))
 
-pub start-done : (d : ℕ) (p w : List ℕ) (i : ℕ) → i ≡ length p → w ≡ tabulate i (start_byte d) ++ drop i p → w ≡ packed (length p) (start d)
-start-done d p w i q e = table-all i (length p) (start_byte d) p w q refl e ∙ start-packed (length p) d
+pub start_done : (d : ℕ) (p w : List ℕ) (i : ℕ) → i ≡ length p → w ≡ tabulate i (start_byte d) ++ drop i p → w ≡ packed (length p) (start d)
+start_done d p w i q e = table_all i (length p) (start_byte d) p w q refl e ∙ start_packed (length p) d
 
 -- ---- a set over d operators, where the place has a bit for each pattern
 
 module _ (w d : ℕ) (room : 2 ^ suc d ≤ w * 8) where
   bit_pattern : (s : PatternSet) → length s ≡ 2 ^ suc d → (p : ℕ) → p < 2 ^ suc d → bit (get_or (packed w s) (p / 8) 0) (p % 8) ≡ member s p
   bit_pattern s e p l =
-      bit-packed w s p (lt_of_lt_of_le l room) ∙ ap (λ n. member s (p % n)) e ∙ ap (member s) (mod-eq_of_lt l)
+      bit_packed w s p (lt_of_lt_of_le l room) ∙ ap (λ n. member s (p % n)) e ∙ ap (member s) (mod-eq_of_lt l)
 
   -- it is read back from its bytes
   pub packing : Packing w (2 ^ suc d) (packed w)
   unfolding member
-  packing = packing-bits w (2 ^ suc d) (packed w) room (packed_length w) bit_pattern
+  packing = packing_bits w (2 ^ suc d) (packed w) room (packed_length w) bit_pattern
 
-  spread-packed : (s : PatternSet) → length s ≡ 2 ^ suc d → (p : ℕ) → p < 2 ^ suc d → get_or (spread (packed w s)) p 0 ≡ digit (member s p)
-  spread-packed s e p l =
+  spread_packed : (s : PatternSet) → length s ≡ 2 ^ suc d → (p : ℕ) → p < 2 ^ suc d → get_or (spread (packed w s)) p 0 ≡ digit (member s p)
+  spread_packed s e p l =
       spread_at_lem (packed w s) p (subst (λ n. p < n * 8) (sym (packed_length w s)) (lt_of_lt_of_le l room)) ∙ ap digit (bit_pattern s e p l)
 
   -- ---- the next set
@@ -96,19 +96,19 @@ module _ (w d : ℕ) (room : 2 ^ suc d ≤ w * 8) where
         let small : b % half_of d < half_of d = mod-lt b (half_some d) in
         let there : q < half_of d * 8 = omega arith in
         ap (λ x. eqb (get_or (spread (packed w s)) x 0) 1) (maps q there ∙ reads q p (half_pattern d b j))
-        ∙ ap (λ x. eqb x 1) (spread-packed s e (back a p) (fits p)) ∙ digit-is (member s (back a p))
+        ∙ ap (λ x. eqb x 1) (spread_packed s e (back a p) (fits p)) ∙ digit_is (member s (back a p))
         ∙ sym (ap (λ n. member after ((b * 8 + j) % n)) (length_set_of d (λ x. member s (back a x)))
         ∙ member-set_of d (λ x. member s (back a x)) p (mod-lt (b * 8 + j) (pow_pos (suc d))))
 
-    next-byte-is : (b : ℕ) → next_byte (spread (packed w s)) entries (b % half_of d) ≡ byte_at (λ p. member after (p % length after)) b
+    next_byte_is : (b : ℕ) → next_byte (spread (packed w s)) entries (b % half_of d) ≡ byte_at (λ p. member after (p % length after)) b
     unfolding next_byte byte_at
-    next-byte-is b = ap from_bits (tabulate_ext 8 _ _ (λ j l. next_bit_lem b j l))
+    next_byte_is b = ap from_bits (tabulate_ext 8 _ _ (λ j l. next_bit_lem b j l))
 
-    packed-is : packed w after ≡ tabulate w (byte_at (λ p. member after (p % length after)))
+    packed_is : packed w after ≡ tabulate w (byte_at (λ p. member after (p % length after)))
     unfolding packed bit_bytes
-    packed-is = refl
+    packed_is = refl
 
     -- what `put_next` writes from the bits of a set and a letter's map is the set after the letter
-    pub next-packed : next_bytes w (spread (packed w s)) entries (half_of d) ≡ packed w after
+    pub next_packed : next_bytes w (spread (packed w s)) entries (half_of d) ≡ packed w after
     unfolding next_bytes
-    next-packed = tabulate_ext w (λ b. next_byte (spread (packed w s)) entries (b % half_of d)) _ (λ b l. next-byte-is b) ∙ sym packed-is
+    next_packed = tabulate_ext w (λ b. next_byte (spread (packed w s)) entries (b % half_of d)) _ (λ b l. next_byte_is b) ∙ sym packed_is

@@ -59,24 +59,24 @@ module _ (d : ℕ) (back : ℕ → ℕ → ℕ) (s : PatternSet) where
       (all_of_says (λ a. member s (back a p)) letters)
 
   -- where it is the only one
-  pub next_all-one : (a : ℕ) → next_all d back s (a ∷ []) ≡ next d back s a
+  pub next_all_one : (a : ℕ) → next_all d back s (a ∷ []) ≡ next d back s a
   unfolding next_all next
-  next_all-one a = set_of_ext d _ _ (λ p h. and-true (member s (back a p)))
+  next_all_one a = set_of_ext d _ _ (λ p h. and-true (member s (back a p)))
 
 module _ (d : ℕ) (back : ℕ → ℕ → ℕ) (fits : (a p : ℕ) → back a p < 2 ^ suc d) where
   pub foldr_fits : (π : List ℕ) (p : ℕ) → p < 2 ^ suc d → foldr back p π < 2 ^ suc d
   foldr_fits [] p h = h
   foldr_fits (a ∷ π) p h = fits a (foldr back p π)
 
-  pub member-next : (s : PatternSet) (a p : ℕ) → p < 2 ^ suc d → member (next d back s a) p ≡ member s (back a p)
+  pub member_next : (s : PatternSet) (a p : ℕ) → p < 2 ^ suc d → member (next d back s a) p ≡ member s (back a p)
   unfolding next
-  member-next s a p h = member-set_of d (λ q. member s (back a q)) p h
+  member_next s a p h = member-set_of d (λ q. member s (back a q)) p h
 
   -- after letters a set holds the patterns that the letters, last to first, carry back into it
-  pub member-after : (π : List ℕ) (s : PatternSet) (p : ℕ) → p < 2 ^ suc d → member (after d back s π) p ≡ member s (foldr back p π)
+  pub member_after : (π : List ℕ) (s : PatternSet) (p : ℕ) → p < 2 ^ suc d → member (after d back s π) p ≡ member s (foldr back p π)
   unfolding after
-  member-after [] s p h = refl
-  member-after (a ∷ π) s p h = member-after π (next d back s a) p h ∙ member-next s a (foldr back p π) (foldr_fits π p h)
+  member_after [] s p h = refl
+  member_after (a ∷ π) s p h = member_after π (next d back s a) p h ∙ member_next s a (foldr back p π) (foldr_fits π p h)
 
   pub length_next : (s : PatternSet) (a : ℕ) → length (next d back s a) ≡ 2 ^ suc d
   unfolding next
@@ -87,7 +87,7 @@ module _ (d : ℕ) (back : ℕ → ℕ → ℕ) (fits : (a p : ℕ) → back a p
   length_after [] s e = e
   length_after (a ∷ π) s e = length_after π (next d back s a) (length_next s a)
 
-  pub accepts-after : (π : List ℕ) → accepts (after d back (start d) π) ≡ bit (foldr back 0 π) d
+  pub accepts_after : (π : List ℕ) → accepts (after d back (start d) π) ≡ bit (foldr back 0 π) d
   unfolding accepts start
-  accepts-after π =
-      member-after π (start d) 0 (pow_pos (suc d)) ∙ member-set_of d (λ p. bit p d) (foldr back 0 π) (foldr_fits π 0 (pow_pos (suc d)))
+  accepts_after π =
+      member_after π (start d) 0 (pow_pos (suc d)) ∙ member-set_of d (λ p. bit p d) (foldr back 0 π) (foldr_fits π 0 (pow_pos (suc d)))

@@ -17,10 +17,10 @@ use Rattle.basics.specs.Successors.{own_steps, grown_over, row_over}
 use Rattle.search.specs.Slots.{item_in, items_in, HoldsItems, count_up_to, ExpandedItems, explored_of, RanItems}
 use Rattle.basics.proofs.EqualRows.{row_ends}
 use Rattle.basics.proofs.LentPart.{part_length}
-use Rattle.basics.proofs.ListsLaws.{length_tabulate, written-whole}
-use Rattle.search.proofs.ReachableSetsLaws.{same_set-says}
+use Rattle.basics.proofs.ListsLaws.{length_tabulate, written_whole}
+use Rattle.search.proofs.ReachableSetsLaws.{same_set_says}
 use Rattle.search.proofs.SlotsLaws.{length_items_in, get_d_items_in, Packing}
-use Rattle.search.proofs.KeptItems.{holds-bytes, first-items, first_holds, count-found, count_many}
+use Rattle.search.proofs.KeptItems.{holds_bytes, first_items, first_holds, count_found, count_many}
 use Rattle.basics.proofs.BreadthFirst.{search_from, search_begin, search_turn, search_end, search_over}
 use Rattle.basics.proofs.BreadthFirst.{row_length, Rows, rows_none, grown_length, rows_more, rows_all_lem}
 
@@ -30,7 +30,7 @@ pub whole_row : (w len : ℕ) (pack : List Bool → List ℕ) (f : List Bool →
     → ExpandedItems w len pack limit xs (written (row_over same_set f (below c) ys s) part) mem row
 whole_row w len pack f limit c xs ys s part mem row e x =
     let long = row_length same_set f (below c) ys s ∙ length_tabulate c (λ k. k) ∙ sym e in
-    record { items_are = x.items_are; holds = x.holds; row_is = λ l. x.row_is l ∙ sym (written-whole _ part long) }
+    record { items_are = x.items_are; holds = x.holds; row_is = λ l. x.row_is l ∙ sym (written_whole _ part long) }
 
 -- what the first steps of each thing lead to; `count s` is the number of those of s
 abbrev first_steps : (List Bool → ℕ → List Bool) → (List Bool → ℕ) → List Bool → List (List Bool)
@@ -47,17 +47,17 @@ pub record Turn (w len : ℕ) (pack : List Bool → List ℕ) (f : List Bool →
 
 module _ {w len : ℕ} {pack : List Bool → List ℕ} {f : List Bool → ℕ → List Bool} {first : List Bool}
     {limit width : ℕ} {count : List Bool → ℕ} {all : Listing (List Bool)} where
-  pub turn-begin : Packing w len pack → length first ≡ len → 0 < limit → all ≡ reachable same_set (first_steps f count) first limit
+  pub turn_begin : Packing w len pack → length first ≡ len → 0 < limit → all ≡ reachable same_set (first_steps f count) first limit
       → (k : ℕ) (mem bytes rows : List ℕ) → bytes ≡ pack first → k ≡ w → w ≤ length mem
       → (m : ℕ) → rows ≡ replicate m 0 → Turn w len pack f first limit width count all (put_mid 0 k mem bytes) rows 1 0
-  turn-begin packing long some e k mem bytes rows is size room m zeros =
+  turn_begin packing long some e k mem bytes rows is size room m zeros =
       record {
         few = omega arith;
         read = omega arith;
         holds = first_holds w len pack packing first long k mem bytes is size room;
         goes =
             e ∙ search_begin same_set (first_steps f count) first limit
-            ∙ ap (λ xs. search_from same_set (first_steps f count) first limit xs 0) (sym (first-items w len pack packing first long k mem bytes is size room));
+            ∙ ap (λ xs. search_from same_set (first_steps f count) first limit xs 0) (sym (first_items w len pack packing first long k mem bytes is size room));
         filled = subst (Rows same_set f count width [] (items_in w len (put_mid 0 k mem bytes) 1) 0) (sym zeros) (rows_none same_set f count width [] _ m);
       }
 
@@ -67,9 +67,9 @@ module _ {w len : ℕ} {pack : List Bool → List ℕ} {f : List Bool → ℕ �
 
     module _ (here : i < n) where
       -- there is room for a row of this turn
-      pub turn-row : (k : ℕ) → k ≤ width → length rows ≡ limit * width
+      pub turn_row : (k : ℕ) → k ≤ width → length rows ≡ limit * width
           → (i * width + k ≤ length rows) × (length (take (i * width + k - i * width) (drop (i * width) rows)) ≡ k)
-      turn-row k small size =
+      turn_row k small size =
           let room : i * width + k ≤ length rows = omega (arith, row_ends width n i here, mul-le-mul_right width t.few) in
           (room, part_length (i * width) k rows room)
 
@@ -91,11 +91,11 @@ module _ {w len : ℕ} {pack : List Bool → List ℕ} {f : List Bool → ℕ �
         abbrev after_turn : List (List Bool)
         after_turn = grown_over same_set f (below c) (items_in w len mem n) item
 
-        abbrev row-of-turn : List ℕ
-        row-of-turn = row_over same_set f (below c) after_turn item
+        abbrev row_of_turn : List ℕ
+        row_of_turn = row_over same_set f (below c) after_turn item
 
-        pub turn-over : limit < length after_turn → all ≡ over
-        turn-over q =
+        pub turn_over : limit < length after_turn → all ≡ over
+        turn_over q =
             goes_on_lem
             ∙ search_over same_set (first_steps f count) first limit (grown_over same_set f (below (count item)) (items_in w len mem n) item) (i + 1)
             (subst (λ k. limit < length (grown_over same_set f (below k) (items_in w len mem n) item)) is_c q)
@@ -104,14 +104,14 @@ module _ {w len : ℕ} {pack : List Bool → List ℕ} {f : List Bool → ℕ �
             → (TooMany ≡ explored_of all) × RanItems w pack f (λ s. below (count s)) width all mem' rows'
         turn_many mem' rows' q =
             subst (λ l. (TooMany ≡ explored_of l) × RanItems w pack f (λ s. below (count s)) width l mem' rows')
-            (sym (turn-over (count_many limit after_turn q))) (refl, tt)
+            (sym (turn_over (count_many limit after_turn q))) (refl, tt)
 
         -- the row is written at the front of a part of k entries
-        pub turn-next : (m at k : ℕ) (mem' row : List ℕ) → ((s : List Bool) → count s ≤ width) → c ≤ k → k ≤ width → at ≡ i * width → at + k ≤ length rows
+        pub turn_next : (m at k : ℕ) (mem' row : List ℕ) → ((s : List Bool) → count s ≤ width) → c ≤ k → k ≤ width → at ≡ i * width → at + k ≤ length rows
             → Found m ≡ count_up_to limit after_turn
-            → ExpandedItems w len pack limit after_turn (written row-of-turn (take k (drop at rows))) mem' row
+            → ExpandedItems w len pack limit after_turn (written row_of_turn (take k (drop at rows))) mem' row
             → Turn w len pack f first limit width count all mem' (put_mid at k rows row) m (i + 1)
-        turn-next m at k mem' row wide few small is_at room q e =
+        turn_next m at k mem' row wide few small is_at room q e =
             record {
               few = omega (arith, size.0, size.1);
               read = omega (arith, grows);
@@ -119,21 +119,21 @@ module _ {w len : ℕ} {pack : List Bool → List ℕ} {f : List Bool → ℕ �
               goes = goes_on_lem ∙ ap (λ xs. search_from same_set (first_steps f count) first limit xs (i + 1)) (sym items);
               filled =
                   subst (λ y. Rows same_set f count width [] (items_in w len mem' m) (i + 1) (put_mid y k rows row)) (sym is_at)
-                  (rows_more same_set f count width [] same_set-says (items_in w len mem n) (items_in w len mem' m) i k item rows row
-                  before (get_d_items_in w len mem n i [] here) items is-row (omega (arith, is_c)) small (omega arith) t.filled wide);
+                  (rows_more same_set f count width [] same_set_says (items_in w len mem n) (items_in w len mem' m) i k item rows row
+                  before (get_d_items_in w len mem n i [] here) items is_row_lem (omega (arith, is_c)) small (omega arith) t.filled wide);
             }
           where
             size : (length after_turn ≤ limit) × (m ≡ length after_turn)
-            size = count-found limit after_turn m q
+            size = count_found limit after_turn m q
 
             items : items_in w len mem' m ≡ grown_over same_set f (below (count item)) (items_in w len mem n) item
             items =
                 ap (items_in w len mem') size.1 ∙ e.items_are size.0
                 ∙ ap (λ j. grown_over same_set f (below j) (items_in w len mem n) item) is_c
 
-            is-row : row ≡ written (row_over same_set f (below (count item)) (items_in w len mem' m) item) (take k (drop (i * width) rows))
-            is-row =
-                e.row_is size.0 ∙ ap (λ y. written row-of-turn (take k (drop y rows))) is_at
+            is_row_lem : row ≡ written (row_over same_set f (below (count item)) (items_in w len mem' m) item) (take k (drop (i * width) rows))
+            is_row_lem =
+                e.row_is size.0 ∙ ap (λ y. written row_of_turn (take k (drop y rows))) is_at
                 ∙ ap (λ r. written r (take k (drop (i * width) rows)))
                 (ap (λ j. row_over same_set f (below j) (grown_over same_set f (below j) (items_in w len mem n) item) item) is_c
                 ∙ ap (λ xs. row_over same_set f (below (count item)) xs item) (sym items))
@@ -142,34 +142,34 @@ module _ {w len : ℕ} {pack : List Bool → List ℕ} {f : List Bool → ℕ �
             grows =
                 omega (
                   arith,
-                  grown_length same_set f count width [] same_set-says (items_in w len mem n) item,
+                  grown_length same_set f count width [] same_set_says (items_in w len mem n) item,
                   length_items_in w len mem n,
                   sym (length_items_in w len mem' m) ∙ ap length items,
                 )
 
         -- the row fills the part
-        pub turn-whole : (m at k : ℕ) (mem' row : List ℕ) → ((s : List Bool) → count s ≤ width) → k ≡ c → at ≡ i * width → at + k ≤ length rows
-            → Found m ≡ count_up_to limit after_turn → ExpandedItems w len pack limit after_turn row-of-turn mem' row
+        pub turn_whole : (m at k : ℕ) (mem' row : List ℕ) → ((s : List Bool) → count s ≤ width) → k ≡ c → at ≡ i * width → at + k ≤ length rows
+            → Found m ≡ count_up_to limit after_turn → ExpandedItems w len pack limit after_turn row_of_turn mem' row
             → Turn w len pack f first limit width count all mem' (put_mid at k rows row) m (i + 1)
-        turn-whole m at k mem' row wide is-k is_at room q e =
-            turn-next m at k mem' row wide (omega arith) (omega (arith, is_c, wide item)) is_at room q
+        turn_whole m at k mem' row wide is-k is_at room q e =
+            turn_next m at k mem' row wide (omega arith) (omega (arith, is_c, wide item)) is_at room q
             (whole_row w len pack f limit c after_turn after_turn item (take k (drop at rows)) mem' row
             (length-take-le k (drop at rows) (omega (arith, length-drop at rows)) ∙ is-k) e)
 
     module _ (none_left : n ≤ i) where
-      pub turn-closed : all ≡ closed (items_in w len mem n)
-      turn-closed =
+      pub turn_closed : all ≡ closed (items_in w len mem n)
+      turn_closed =
           t.goes
           ∙ search_end same_set (first_steps f count) first limit (items_in w len mem n) i within (omega (arith, t.read, none_left, length_items_in w len mem n))
 
-      pub turn-answer : Found n ≡ explored_of all
-      turn-answer = ap Found (sym (length_items_in w len mem n)) ∙ ap explored_of (sym turn-closed)
+      pub turn_answer : Found n ≡ explored_of all
+      turn_answer = ap Found (sym (length_items_in w len mem n)) ∙ ap explored_of (sym turn_closed)
 
-      pub turn-left : Packing w len pack → 0 < width → ((s : List Bool) → count s ≤ width) → n * w ≤ length mem → n * width ≤ length rows
+      pub turn_left : Packing w len pack → 0 < width → ((s : List Bool) → count s ≤ width) → n * w ≤ length mem → n * width ≤ length rows
           → RanItems w pack f (λ s. below (count s)) width all mem rows
-      turn-left packing some small room space =
-          subst (λ l. RanItems w pack f (λ s. below (count s)) width l mem rows) (sym turn-closed) (
-            ap (λ m. take (m * w) mem) (length_items_in w len mem n) ∙ holds-bytes w len pack packing mem n room t.holds,
+      turn_left packing some small room space =
+          subst (λ l. RanItems w pack f (λ s. below (count s)) width l mem rows) (sym turn_closed) (
+            ap (λ m. take (m * w) mem) (length_items_in w len mem n) ∙ holds_bytes w len pack packing mem n room t.holds,
             rows_all_lem same_set f count width [] (items_in w len mem n) rows some small
                 (subst (λ m. m * width ≤ length rows) (sym (length_items_in w len mem n)) space)
                 (subst (λ m. Rows same_set f count width [] (items_in w len mem n) m rows) (omega (arith, t.read, none_left, length_items_in w len mem n))

@@ -18,11 +18,11 @@ use Rattle.basics.specs.Bounded.{agree, first_that}
 use Rattle.basics.specs.Reach.{is_in, index_in}
 use Rattle.search.specs.ReachableSets.{same_set}
 use Rattle.search.specs.Slots.{item_in, items_in, HoldsItems, with_item, same_slot}
-use Rattle.basics.proofs.BoundedLaws.{agree_at, first_passes, first-least, agree-all, last_or_before}
+use Rattle.basics.proofs.BoundedLaws.{agree_at, first_passes, first_least, agree_all, last_or_before}
 use Rattle.basics.proofs.GrowingList.{index_found, index_none}
 use Rattle.basics.proofs.EqualRows.{row_ends}
 use Rattle.basics.proofs.LentPart.{part_length, part_at, mid_before, mid_in, mid_after, mid_length}
-use Rattle.search.proofs.ReachableSetsLaws.{same_set-says}
+use Rattle.search.proofs.ReachableSetsLaws.{same_set_says}
 
 -- ---- the memory with the bytes of place m written
 
@@ -40,15 +40,15 @@ item_back w mem bytes written m e =
     ap₂ (λ n l. put_mid (m * w) n mem l) k e ∙ sym (with_mid w mem bytes m)
 
 -- in memory with room for `limit` items and one more
-pub place-room : (w limit m n : ℕ) → m ≤ limit → n ≡ (limit + 1) * w → m * w + w ≤ n
-place-room w limit m n h e = omega (arith, row_ends w (limit + 1) m (omega arith), e)
+pub place_room : (w limit m n : ℕ) → m ≤ limit → n ≡ (limit + 1) * w → m * w + w ≤ n
+place_room w limit m n h e = omega (arith, row_ends w (limit + 1) m (omega arith), e)
 
 -- bytes that are made to fill their place
-pub item-made : (w limit : ℕ) (mem : List ℕ) (bytes : ℕ → List ℕ) (written : List ℕ) (m : ℕ) → m ≤ limit → length mem ≡ (limit + 1) * w
+pub item_made : (w limit : ℕ) (mem : List ℕ) (bytes : ℕ → List ℕ) (written : List ℕ) (m : ℕ) → m ≤ limit → length mem ≡ (limit + 1) * w
     → written ≡ bytes (length (take (m * w + w - m * w) (drop (m * w) mem)))
     → put_mid (m * w) (m * w + w - m * w) mem written ≡ with_item w mem m (bytes w)
-item-made w limit mem bytes written m h e q =
-    item_back w mem (bytes w) written m (q ∙ ap bytes (part_length (m * w) w mem (place-room w limit m (length mem) h e)))
+item_made w limit mem bytes written m h e q =
+    item_back w mem (bytes w) written m (q ∙ ap bytes (part_length (m * w) w mem (place_room w limit m (length mem) h e)))
 
 module _ (w : ℕ) (mem bytes : List ℕ) (m : ℕ) (room : m * w + w ≤ length mem) where
   pub with_before : (k : ℕ) → k < m * w → get_or (with_item w mem m bytes) k 0 ≡ get_or mem k 0
@@ -85,10 +85,10 @@ pub record Packing (w len : ℕ) (pack : List Bool → List ℕ) : Type 0 where
       → ((b : ℕ) → b < w → get_or mem (i * w + b) 0 ≡ get_or (pack x) b 0) → item_in w len mem i ≡ x
 
 -- the bits of its bytes are its entries
-pub packing-bits : (w len : ℕ) (pack : List Bool → List ℕ) → len ≤ w * 8 → ((x : List Bool) → length (pack x) ≡ w)
+pub packing_bits : (w len : ℕ) (pack : List Bool → List ℕ) → len ≤ w * 8 → ((x : List Bool) → length (pack x) ≡ w)
     → ((x : List Bool) → length x ≡ len → (p : ℕ) → p < len → bit (get_or (pack x) (p / 8) 0) (p % 8) ≡ get_or x p false) → Packing w len pack
 unfolding item_in
-packing-bits w len pack few size bits =
+packing_bits w len pack few size bits =
     record {
       size = size;
       back = λ x e mem i f.
@@ -120,45 +120,45 @@ module _ (w len : ℕ) (pack : List Bool → List ℕ) (packing : Packing w len 
 
   -- another memory with the same first m items
   module _ (mem new : List ℕ) (m : ℕ) (holds : HoldsItems w len pack mem m) (same : (k : ℕ) → k < m * w → get_or new k 0 ≡ get_or mem k 0) where
-    pub item-kept : (i : ℕ) → i < m → item_in w len new i ≡ item_in w len mem i
-    item-kept i h =
+    pub item_kept : (i : ℕ) → i < m → item_in w len new i ≡ item_in w len mem i
+    item_kept i h =
         packing.back (item_in w len mem i) (length_item_in w len mem i) new i
         (λ b l. same (i * w + b) (omega (arith, row_ends w m i h)) ∙ holds.slot i b h l)
 
     pub items_kept : items_in w len new m ≡ items_in w len mem m
     unfolding items_in
-    items_kept = tabulate_ext m (item_in w len new) (item_in w len mem) item-kept
+    items_kept = tabulate_ext m (item_in w len new) (item_in w len mem) item_kept
 
     slot_kept : (i b : ℕ) → i < m → b < w → get_or new (i * w + b) 0 ≡ get_or (pack (item_in w len new i)) b 0
     slot_kept i b h l =
-        same (i * w + b) (omega (arith, row_ends w m i h)) ∙ holds.slot i b h l ∙ ap (λ s. get_or (pack s) b 0) (sym (item-kept i h))
+        same (i * w + b) (omega (arith, row_ends w m i h)) ∙ holds.slot i b h l ∙ ap (λ s. get_or (pack s) b 0) (sym (item_kept i h))
 
     pub holds_kept : HoldsItems w len pack new m
     holds_kept = record { slot = slot_kept }
 
     -- and the item x behind them
     module _ (x : List Bool) (size : length x ≡ len) (there : (b : ℕ) → b < w → get_or new (m * w + b) 0 ≡ get_or (pack x) b 0) where
-      item-there : item_in w len new m ≡ x
-      item-there = packing.back x size new m there
+      item_there : item_in w len new m ≡ x
+      item_there = packing.back x size new m there
 
       pub items_more : items_in w len new (m + 1) ≡ items_in w len mem m ++ (x ∷ [])
       unfolding items_in
       items_more =
           ap (λ n. items_in w len new n) (add-one m) ∙ tabulate_suc m (item_in w len new)
-          ∙ ap (λ l. l ++ (item_in w len new m ∷ [])) items_kept ∙ ap (λ s. items_in w len mem m ++ (s ∷ [])) item-there
+          ∙ ap (λ l. l ++ (item_in w len new m ∷ [])) items_kept ∙ ap (λ s. items_in w len mem m ++ (s ∷ [])) item_there
 
       pub holds_more : HoldsItems w len pack new (m + 1)
       holds_more = record { slot = λ i b h l. at i b l (last_or_before m i h) }
         where
           at : (i b : ℕ) → b < w → (i ≡ m) ⊎ (i < m) → get_or new (i * w + b) 0 ≡ get_or (pack (item_in w len new i)) b 0
-          at i b l (inl e) = rw e (there b l ∙ ap (λ s. get_or (pack s) b 0) (sym item-there))
+          at i b l (inl e) = rw e (there b l ∙ ap (λ s. get_or (pack s) b 0) (sym item_there))
           at i b l (inr h) = slot_kept i b h l
 
       -- the places with the same bytes are those with the same item
-      same-slot : (i : ℕ) → i < m → same_slot w new m i ≡ same_set x (get_or (items_in w len mem m) i [])
+      same_slot_lem : (i : ℕ) → i < m → same_slot w new m i ≡ same_set x (get_or (items_in w len mem m) i [])
       unfolding same_slot
-      same-slot i h =
-          both_say (same_slot w new m i) (same_set x (get_or (items_in w len mem m) i [])) (to, from) (same_set-says x (get_or (items_in w len mem m) i []))
+      same_slot_lem i h =
+          both_say (same_slot w new m i) (same_set x (get_or (items_in w len mem m) i [])) (to, from) (same_set_says x (get_or (items_in w len mem m) i []))
         where
           f : ℕ → ℕ
           f y = get_or new (i * w + y) 0
@@ -167,7 +167,7 @@ module _ (w len : ℕ) (pack : List Bool → List ℕ) (packing : Packing w len 
           g y = get_or new (m * w + y) 0
 
           is : get_or (items_in w len mem m) i [] ≡ item_in w len new i
-          is = get_d_items_in w len mem m i [] h ∙ sym (item-kept i h)
+          is = get_d_items_in w len mem m i [] h ∙ sym (item_kept i h)
 
           to : agree f g w ≡ true → x ≡ get_or (items_in w len mem m) i []
           to e =
@@ -175,20 +175,20 @@ module _ (w len : ℕ) (pack : List Bool → List ℕ) (packing : Packing w len 
               (λ b l. sym (there b l) ∙ sym (agree_at f g w b e l) ∙ slot_kept i b h l) ∙ sym is
 
           from : x ≡ get_or (items_in w len mem m) i [] → agree f g w ≡ true
-          from e = agree-all f g w (λ b l. slot_kept i b h l ∙ ap (λ s. get_or (pack s) b 0) (sym (e ∙ is)) ∙ sym (there b l))
+          from e = agree_all f g w (λ b l. slot_kept i b h l ∙ ap (λ s. get_or (pack s) b 0) (sym (e ∙ is)) ∙ sym (there b l))
 
       -- the first place that is the same as the next one, m itself if there is none before
       module _ (t : ℕ) (first : t ≡ first_that (same_slot w new m) m) where
         none_before : (j : ℕ) → j < t → j < m → same_set x (get_or (items_in w len mem m) j []) ≡ false
-        none_before j h l = sym (same-slot j l) ∙ first-least (same_slot w new m) m j (rw first at h)
+        none_before j h l = sym (same_slot_lem j l) ∙ first_least (same_slot w new m) m j (rw first at h)
 
-        pub place-old : t < m → (index_in same_set x (items_in w len mem m) ≡ t) × (is_in same_set x (items_in w len mem m) ≡ true)
-        place-old h =
+        pub place_old : t < m → (index_in same_set x (items_in w len mem m) ≡ t) × (is_in same_set x (items_in w len mem m) ≡ true)
+        place_old h =
             index_found same_set x [] (items_in w len mem m) t (rw length_items_in h)
-            (sym (same-slot t h) ∙ ap (same_slot w new m) first ∙ first_passes (same_slot w new m) m (rw first at h))
+            (sym (same_slot_lem t h) ∙ ap (same_slot w new m) first ∙ first_passes (same_slot w new m) m (rw first at h))
             (λ j l. none_before j l (omega arith))
 
-        pub place-new : t ≡ m → is_in same_set x (items_in w len mem m) ≡ false
-        place-new e =
+        pub place_new : t ≡ m → is_in same_set x (items_in w len mem m) ≡ false
+        place_new e =
             index_none same_set x [] (items_in w len mem m)
             (λ j l. let k : j < m = rw length_items_in at l in none_before j (omega arith) k)

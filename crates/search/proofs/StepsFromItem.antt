@@ -20,8 +20,8 @@ use Rattle.basics.specs.Successors.{grown_over, row_over}
 use Rattle.search.specs.Slots.{items_in, HoldsItems, with_item, same_slot, count_up_to, ExpandedItems}
 use Rattle.basics.proofs.ListsLaws.{length_map_below, get_d_map_below}
 use Rattle.basics.proofs.BoundedLaws.{first_le, last_or_before}
-use Rattle.basics.proofs.GrowingList.{index_last, index_added, add_old, add_new_lem, all_none, all_more, all-longer}
-use Rattle.search.proofs.ReachableSetsLaws.{same_set-says}
+use Rattle.basics.proofs.GrowingList.{index_last, index_added, add_old, add_new_lem, all_none, all_more, all_longer}
+use Rattle.search.proofs.ReachableSetsLaws.{same_set_says}
 use Rattle.search.proofs.SlotsLaws
 
 -- step a leads from item s to f s a; the items xs are there before
@@ -30,9 +30,9 @@ module _ (w len : ℕ) (pack : List Bool → List ℕ) (f : List Bool → ℕ �
   abbrev grown_to : ℕ → List (List Bool)
   grown_to a = grown_over same_set f (below a) xs s
 
-  to-more : (a : ℕ) → grown_to (a + 1) ≡ add_new same_set (grown_to a) (f s a)
+  to_more : (a : ℕ) → grown_to (a + 1) ≡ add_new same_set (grown_to a) (f s a)
   unfolding grown_over
-  to-more a = all_more same_set (f s) xs a
+  to_more a = all_more same_set (f s) xs a
 
   -- after the first a steps there are m items in memory, and the row has the place of each
   pub record Reading (a m : ℕ) (mem row : List ℕ) : Type 0 where
@@ -41,19 +41,19 @@ module _ (w len : ℕ) (pack : List Bool → List ℕ) (f : List Bool → ℕ �
     pub entry : (b : ℕ) → b < a → get_or row b 0 ≡ index_in same_set (f s b) (grown_to a)
     pub there : (b : ℕ) → b < a → is_in same_set (f s b) (grown_to a) ≡ true
 
-  pub reading-none : (n : ℕ) (mem row : List ℕ) → items_in w len mem n ≡ xs → HoldsItems w len pack mem n → Reading 0 n mem row
+  pub reading_none : (n : ℕ) (mem row : List ℕ) → items_in w len mem n ≡ xs → HoldsItems w len pack mem n → Reading 0 n mem row
   unfolding grown_over
-  reading-none n mem row e g =
+  reading_none n mem row e g =
       record { items = e ∙ sym (all_none same_set (f s) xs); holds = g; entry = λ b h. absurd (omega arith); there = λ b h. absurd (omega arith) }
 
-  reading-count : (a m : ℕ) (mem row : List ℕ) → Reading a m mem row → length (grown_to a) ≡ m
-  reading-count a m mem row r = ap length (sym r.items) ∙ SlotsLaws.length_items_in w len mem m
+  reading_count : (a m : ℕ) (mem row : List ℕ) → Reading a m mem row → length (grown_to a) ≡ m
+  reading_count a m mem row r = ap length (sym r.items) ∙ SlotsLaws.length_items_in w len mem m
 
   -- one more
-  reading-more : (a m m' : ℕ) (mem new row : List ℕ) (y : ℕ) → a < length row → Reading a m mem row
+  reading_more : (a m m' : ℕ) (mem new row : List ℕ) (y : ℕ) → a < length row → Reading a m mem row
       → items_in w len new m' ≡ grown_to (a + 1) → HoldsItems w len pack new m'
       → (index_in same_set (f s a) (grown_to (a + 1)) ≡ y) × (is_in same_set (f s a) (grown_to (a + 1)) ≡ true) → Reading (a + 1) m' new (set row a y)
-  reading-more a m m' mem new row y l r e k q =
+  reading_more a m m' mem new row y l r e k q =
       record {
         items = e;
         holds = k;
@@ -63,7 +63,7 @@ module _ (w len : ℕ) (pack : List Bool → List ℕ) (f : List Bool → ℕ �
     where
       kept : (b : ℕ) → b < a → (index_in same_set (f s b) (grown_to (a + 1)) ≡ index_in same_set (f s b) (grown_to a)) ×
           (is_in same_set (f s b) (grown_to (a + 1)) ≡ true)
-      kept b h = rw to-more (index_added same_set (f s b) (grown_to a) (f s a) (r.there b h))
+      kept b h = rw to_more (index_added same_set (f s b) (grown_to a) (f s a) (r.there b h))
 
       entry : (b : ℕ) → (b ≡ a) ⊎ (b < a) → get_or (set row a y) b 0 ≡ index_in same_set (f s b) (grown_to (a + 1))
       entry b (inl p) = rw p (get_or-set_same row a y 0 l ∙ sym q.0)
@@ -74,9 +74,9 @@ module _ (w len : ℕ) (pack : List Bool → List ℕ) (f : List Bool → ℕ �
       there b (inr h) = (kept b h).1
 
   -- in the end the row has the places of all
-  reading-row : (count m : ℕ) (mem row : List ℕ) → Reading count m mem row → length row ≡ count → row ≡ row_over same_set f (below count) (grown_to count) s
+  reading_row : (count m : ℕ) (mem row : List ℕ) → Reading count m mem row → length row ≡ count → row ≡ row_over same_set f (below count) (grown_to count) s
   unfolding row_over
-  reading-row count m mem row r e =
+  reading_row count m mem row r e =
       ext_get_or 0 row (row_over same_set f (below count) (grown_to count) s) (e ∙ sym (length_map_below count _)) (λ b h. at b (subst (λ k. b < k) e h))
     where
       at : (b : ℕ) → b < count → get_or row b 0 ≡ get_or (row_over same_set f (below count) (grown_to count) s) b 0
@@ -97,12 +97,12 @@ module _ (w len : ℕ) (pack : List Bool → List ℕ) (f : List Bool → ℕ �
     adding_all l =
         let e : a ≡ count = omega (arith, z.0, z.3) in
         let r : Reading count m mem row = rw e at z.4 in
-        let many : length (grown_to count) ≡ m = reading-count count m mem row r in (
+        let many : length (grown_to count) ≡ m = reading_count count m mem row r in (
           sym (rw (many, le-ltb limit m z.1)),
           record {
             items_are = λ l. ap (items_in w len mem) many ∙ r.items;
             holds = λ l. subst (HoldsItems w len pack mem) (sym many) r.holds;
-            row_is = λ l. reading-row count m mem row r z.3;
+            row_is = λ l. reading_row count m mem row r z.3;
           },
         )
 
@@ -112,21 +112,21 @@ module _ (w len : ℕ) (pack : List Bool → List ℕ) (f : List Bool → ℕ �
           → HoldsItems w len pack new m' → (index_in same_set (f s a) (grown_to (a + 1)) ≡ y) × (is_in same_set (f s a) (grown_to (a + 1)) ≡ true)
           → Adding limit count size (a + 1) m' new (set row a y)
       adding_more m' new y few long e k q =
-          (omega (arith, l, z.3), few, long, length-set row a y ∙ z.3, reading-more a m m' mem new row y l z.4 e k q)
+          (omega (arith, l, z.3), few, long, length-set row a y ∙ z.3, reading_more a m m' mem new row y l z.4 e k q)
 
       -- the same item as an earlier step's: its place is copied
       pub adding_copy : (b : ℕ) → b < a → f s b ≡ f s a → Adding limit count size (a + 1) m mem (set row a (get_or row b 0))
       adding_copy b h e =
           let index : index_in same_set (f s a) (grown_to a) ≡ get_or row b 0 = ap (λ x. index_in same_set x (grown_to a)) (sym e) ∙ sym (z.4.entry b h) in
           let there : is_in same_set (f s a) (grown_to a) ≡ true = ap (λ x. is_in same_set x (grown_to a)) (sym e) ∙ z.4.there b h in
-          let same : grown_to (a + 1) ≡ grown_to a = to-more a ∙ add_old same_set (grown_to a) (f s a) there in
+          let same : grown_to (a + 1) ≡ grown_to a = to_more a ∙ add_old same_set (grown_to a) (f s a) there in
           adding_more m mem (get_or row b 0) z.1 z.2 (z.4.items ∙ sym same) z.4.holds (rw same (index, there))
 
       -- the item is written behind the others, and the first place with its bytes is t
       module _ (packing : SlotsLaws.Packing w len pack) (whole : size ≡ (limit + 1) * w) (long : length (f s a) ≡ len) (new : List ℕ) (t : ℕ)
           (written : new ≡ with_item w mem m (pack (f s a))) (first : t ≡ first_that (same_slot w new m) m) where
         room : m * w + w ≤ length mem
-        room = SlotsLaws.place-room w limit m (length mem) z.1 (z.2 ∙ whole)
+        room = SlotsLaws.place_room w limit m (length mem) z.1 (z.2 ∙ whole)
 
         kept : length new ≡ size
         kept = ap length written ∙ SlotsLaws.with_length w mem (pack (f s a)) m room (packing.size (f s a)) ∙ z.2
@@ -144,36 +144,36 @@ module _ (w len : ℕ) (pack : List Bool → List ℕ) (f : List Bool → ℕ �
         pub adding_old : (t ≡ m → ⊥) → Adding limit count size (a + 1) m new (set row a t)
         adding_old ne =
             let old : (index_in same_set (f s a) (items_in w len mem m) ≡ t) × (is_in same_set (f s a) (items_in w len mem m) ≡ true)
-            = SlotsLaws.place-old w len pack packing mem new m z.4.holds front_kept (f s a) long behind t first (omega (arith, place_le, ne)) in
+            = SlotsLaws.place_old w len pack packing mem new m z.4.holds front_kept (f s a) long behind t first (omega (arith, place_le, ne)) in
             let q : (index_in same_set (f s a) (grown_to a) ≡ t) × (is_in same_set (f s a) (grown_to a) ≡ true) = rw z.4.items at old in
-            let same : grown_to (a + 1) ≡ grown_to a = to-more a ∙ add_old same_set (grown_to a) (f s a) q.1 in
+            let same : grown_to (a + 1) ≡ grown_to a = to_more a ∙ add_old same_set (grown_to a) (f s a) q.1 in
             adding_more m new t z.1 kept (SlotsLaws.items_kept w len pack packing mem new m z.4.holds front_kept ∙ z.4.items ∙ sym same)
             (SlotsLaws.holds_kept w len pack packing mem new m z.4.holds front_kept) (rw same q)
 
         module _ (e : t ≡ m) where
-          is-new : is_in same_set (f s a) (grown_to a) ≡ false
-          is-new = rw (← z.4.items) (SlotsLaws.place-new w len pack packing mem new m z.4.holds front_kept (f s a) long behind t first e)
+          is_new : is_in same_set (f s a) (grown_to a) ≡ false
+          is_new = rw (← z.4.items) (SlotsLaws.place_new w len pack packing mem new m z.4.holds front_kept (f s a) long behind t first e)
 
           new_items : grown_to (a + 1) ≡ grown_to a ++ (f s a ∷ [])
-          new_items = to-more a ∙ add_new_lem same_set (grown_to a) (f s a) is-new
+          new_items = to_more a ∙ add_new_lem same_set (grown_to a) (f s a) is_new
 
           -- it is new
           pub adding_new : (m ≡ limit → ⊥) → Adding limit count size (a + 1) (m + 1) new (set row a t)
           adding_new ne =
-              let q = index_last same_set (f s a) (grown_to a) ((same_set-says (f s a) (f s a)).1 refl) is-new in
+              let q = index_last same_set (f s a) (grown_to a) ((same_set_says (f s a) (f s a)).1 refl) is_new in
               adding_more (m + 1) new t (omega (arith, z.1, ne)) kept
               (SlotsLaws.items_more w len pack packing mem new m z.4.holds front_kept (f s a) long behind
               ∙ ap (λ ys. ys ++ (f s a ∷ [])) z.4.items ∙ sym new_items)
               (SlotsLaws.holds_more w len pack packing mem new m z.4.holds front_kept (f s a) long behind)
-              (rw new_items (q.0 ∙ reading-count a m mem row z.4 ∙ sym e, q.1))
+              (rw new_items (q.0 ∙ reading_count a m mem row z.4 ∙ sym e, q.1))
 
           -- it is new, and no place is left for it
           pub adding_over : m ≡ limit → (mem' row' : List ℕ) → Answers limit count TooMany mem' row'
           unfolding grown_over
           adding_over k mem' row' =
-              let longer : length (grown_to (a + 1)) ≤ length (grown_to count) = all-longer same_set (f s) xs (a + 1) count (omega (arith, l, z.3)) in
+              let longer : length (grown_to (a + 1)) ≤ length (grown_to count) = all_longer same_set (f s) xs (a + 1) count (omega (arith, l, z.3)) in
               let one : length (grown_to (a + 1)) ≡ m + 1
-              = ap length new_items ∙ length-append (grown_to a) (f s a ∷ []) ∙ ap (λ k. k + 1) (reading-count a m mem row z.4) in
+              = ap length new_items ∙ length-append (grown_to a) (f s a ∷ []) ∙ ap (λ k. k + 1) (reading_count a m mem row z.4) in
               let over : limit < length (grown_to count) = omega arith in (
                 rw (lt-ltb limit (length (grown_to count)) over),
                 record { items_are = λ l. absurd (omega arith); holds = λ l. absurd (omega arith); row_is = λ l. absurd (omega arith) },

@@ -25,7 +25,7 @@ use Rattle.basics.specs.Successors.{row_over}
 use Rattle.search.specs.Slots.{explored_of}
 use Rattle.search.specs.Memory.{row_of, sets_of, successors_of}
 use Rattle.basics.proofs.ListsLaws.{tabulate_ext, table_take, map_table}
-use Rattle.search.proofs.PatternSetLaws.{set_of_ext, next_all-one}
+use Rattle.search.proofs.PatternSetLaws.{set_of_ext, next_all_one}
 
 -- the same of all numbers below the length and of all entries
 map_numbers : {B : Type 0} (f g : ℕ → B) (l : List ℕ) (n : ℕ) → n ≡ length l → ((i : ℕ) → i < n → f i ≡ g (get_or l i 0)) → map f (below n) ≡ map g l
@@ -38,30 +38,30 @@ module _ (ps : List Part) (letters : List ℕ) (d n : ℕ) (maps firsts : List �
   abbrev by_map : ℕ → ℕ → ℕ
   by_map = map_in maps firsts d
 
-  next-same : (s : PatternSet) (a : ℕ) → a < n → next d by_map s a ≡ next d (back ps) s (get_or letters a 0)
+  next_same : (s : PatternSet) (a : ℕ) → a < n → next d by_map s a ≡ next d (back ps) s (get_or letters a 0)
   unfolding next
-  next-same s a h = set_of_ext d _ _ (λ p l. ap (member s) (m.carries a p h))
+  next_same s a h = set_of_ext d _ _ (λ p l. ap (member s) (m.carries a p h))
 
   -- as one letter's set is made, by the map that is kept for it
-  pub made-same : (s : PatternSet) (a : ℕ) → a < n → get_or firsts a 0 ≡ a → next_all d (map_at maps d) s (a ∷ []) ≡ next_state ps s (get_or letters a 0)
+  pub made_same : (s : PatternSet) (a : ℕ) → a < n → get_or firsts a 0 ≡ a → next_all d (map_at maps d) s (a ∷ []) ≡ next_state ps s (get_or letters a 0)
   unfolding map_in next next_state
-  made-same s a h own =
-      next_all-one d (map_at maps d) s a ∙ ap (λ k. set_of d (λ p. member s (map_at maps d k p))) (sym own) ∙ next-same s a h
+  made_same s a h own =
+      next_all_one d (map_at maps d) s a ∙ ap (λ k. set_of d (λ p. member s (map_at maps d k p))) (sym own) ∙ next_same s a h
       ∙ ap (λ k. next k (back ps) s (get_or letters a 0)) is-d
 
-  steps-same : (s : PatternSet) → next_sets d by_map (below n) s ≡ next_sets d (back ps) letters s
+  steps_same : (s : PatternSet) → next_sets d by_map (below n) s ≡ next_sets d (back ps) letters s
   unfolding next_sets
-  steps-same s = map_numbers (next d by_map s) (next d (back ps) s) letters n is-n (next-same s)
+  steps_same s = map_numbers (next d by_map s) (next d (back ps) s) letters n is-n (next_same s)
 
-  states-same : (limit : ℕ) → reachable_sets d by_map (below n) limit ≡ states_of ps letters limit
+  states_same : (limit : ℕ) → reachable_sets d by_map (below n) limit ≡ states_of ps letters limit
   unfolding reachable_sets states_of
-  states-same limit =
-      ap (λ (f : PatternSet → List PatternSet). reachable same_set f (start d) limit) (λ i s. steps-same s i)
+  states_same limit =
+      ap (λ (f : PatternSet → List PatternSet). reachable same_set f (start d) limit) (λ i s. steps_same s i)
       ∙ ap (λ k. reachable_sets k (back ps) letters limit) is-d
 
   row_same : (xs : List PatternSet) (s : PatternSet) → row_of d by_map (below n) xs s ≡ row_of d (back ps) letters xs s
   unfolding row_over
-  row_same xs s = map_numbers _ _ letters n is-n (λ a h. ap (λ t. index_in same_set t xs) (next-same s a h))
+  row_same xs s = map_numbers _ _ letters n is-n (λ a h. ap (λ t. index_in same_set t xs) (next_same s a h))
 
   successors_same : (l : Listing PatternSet) → successors_of d by_map (below n) l ≡ successors_of d (back ps) letters l
   successors_same (closed xs) = ap (λ (f : PatternSet → List ℕ). flat_map (λ s. padded letter_limit (f s)) xs) (λ i s. row_same xs s i)
@@ -74,10 +74,10 @@ module _ (ps : List Part) (letters : List ℕ) (d n : ℕ) (maps firsts : List �
       → (r ≡ explored_of (states_of ps letters state_limit)) × ((mem ≡ padded x (sets_of (states_of ps letters state_limit)))
       × (rows ≡ padded y (successors_of d (back ps) letters (states_of ps letters state_limit))))
   explored r x y mem rows e f g =
-      let s = states-same state_limit in
+      let s = states_same state_limit in
       let t = successors_same (reachable_sets d by_map (below n) state_limit) ∙ ap (successors_of d (back ps) letters) s in
       (e ∙ ap explored_of s, (f ∙ ap (λ l. padded x (sets_of l)) s, g ∙ ap (padded y) t))
 
 -- nine signals have no more letters than there is room for
-pub letters-few : (c : Counts) → c.outputs + c.observed + c.hidden ≤ signal_limit → letter_count c ≤ letter_limit
-letters-few c h = pow_mono {i = c.outputs + c.observed + c.hidden} {j = signal_limit} h
+pub letters_few : (c : Counts) → c.outputs + c.observed + c.hidden ≤ signal_limit → letter_count c ≤ letter_limit
+letters_few c h = pow_mono {i = c.outputs + c.observed + c.hidden} {j = signal_limit} h

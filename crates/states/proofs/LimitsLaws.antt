@@ -16,18 +16,18 @@ planes_whole : plane_count * word_size ≡ map_size
 planes_whole = refl
 
 -- an entry of a map is a byte
-pub slot-byte : slot_size ≤ 8
-slot-byte = omega arith
+pub slot_byte : slot_size ≤ 8
+slot_byte = omega arith
 
 -- the letters are numbered in two bytes
-pub letter-bytes : letter_limit ≤ 2 ^ 16
-letter-bytes = lit≤ tt
+pub letter_bytes : letter_limit ≤ 2 ^ 16
+letter_bytes = lit≤ tt
 
 -- ---- what follows
 
 -- a pattern's bits have a word each
-pub slot-room : (d : ℕ) → d ≤ operator_limit → suc d ≤ slot_size
-slot-room d h = omega (arith, h)
+pub slot_room : (d : ℕ) → d ≤ operator_limit → suc d ≤ slot_size
+slot_room d h = omega (arith, h)
 
 -- a map has room for the patterns of m planes
 pub planes_fit : (m : ℕ) → m ≤ plane_count → m * word_size ≤ map_size

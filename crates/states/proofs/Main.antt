@@ -38,12 +38,12 @@ pub acceptance : (φ : Formula) (π : Trace) → 0 < length π → (accepts (sta
 acceptance = Acceptance.accepts_iff_Sat
 
 -- and a problem's states exactly the traces that satisfy the problem
-pub acceptance-of-problem : (p : Problem) (π : Trace) → 0 < length π → (accepts (state_after (problem_parts p) π) ≡ true) ↔ Satisfies π p
-acceptance-of-problem = Acceptance.accepts_iff_satisfies
+pub acceptance_of_problem : (p : Problem) (π : Trace) → 0 < length π → (accepts (state_after (problem_parts p) π) ≡ true) ↔ Satisfies π p
+acceptance_of_problem = Acceptance.accepts_iff_satisfies
 
 -- they accept exactly the traces on which the last part is true, for any parts
-pub acceptance-of-parts : (ps : List Part) (a : ℕ) (π : Trace) → accepts (state_after ps (a ∷ π)) ≡ value_on ps (a ∷ π) (last_of ps)
-acceptance-of-parts = Acceptance.accepts-value
+pub acceptance_of_parts : (ps : List Part) (a : ℕ) (π : Trace) → accepts (state_after ps (a ∷ π)) ≡ value_on ps (a ∷ π) (last_of ps)
+acceptance_of_parts = Acceptance.accepts_value
 
 -- the start does not accept
 pub start_rejects : (ps : List Part) → accepts (start_state ps) ≡ false
@@ -57,18 +57,18 @@ meaning = Acceptance.member-state_after
 -- the listed states are all that letters reach, each once, within the limit
 pub listed : (ps : List Part) (letters : List ℕ) (limit : ℕ) (xs : List PatternSet) → states_of ps letters limit ≡ closed xs
     → Distinct xs × (length xs ≤ limit) × ((s : PatternSet) → (s ∈ xs) ↔ IsState ps letters s)
-listed = StatesLaws.states-closed
+listed = StatesLaws.states_closed
 
 -- none are listed exactly where there are more than the limit
 pub too_many : (ps : List Part) (letters : List ℕ) (limit : ℕ) → (states_of ps letters limit ≡ over)
     ↔ ((xs : List PatternSet) × (length xs ≡ suc limit) × Distinct xs × ((s : PatternSet) → s ∈ xs → IsState ps letters s))
-too_many = StatesLaws.states-over
+too_many = StatesLaws.states_over
 
 -- a letter leads from a listed state to the one whose number the row gives
 pub successor : (ps : List Part) (letters : List ℕ) (limit : ℕ) (xs : List PatternSet) → states_of ps letters limit ≡ closed xs
     → (s : PatternSet) → s ∈ xs → (a : ℕ) → a ∈ letters
     → (index_in same_set (next_state ps s a) xs < length xs) × (get_or xs (index_in same_set (next_state ps s a) xs) [] ≡ next_state ps s a)
-successor = NumberedSuccessors.successor-right
+successor = NumberedSuccessors.successor_right
 
 -- ---- where a next state is made: `with_next` is the front of the work memory that the customer lends, once the set that some letters
 -- lead to from set i is written in place m. `put_set`, in the crate `search`, leaves it so, and is given one letter
@@ -84,19 +84,19 @@ module _ (d : ℕ) (carry : ℕ → ℕ → ℕ) (mem : List ℕ) (i : ℕ) (let
   others_stay = NextInPlace.others_stay d carry mem i letters m room
 
 -- a pattern is in the set exactly if each of the letters carries it back into the present one
-pub next-of-all : (d : ℕ) (carry : ℕ → ℕ → ℕ) (s : PatternSet) (letters : List ℕ) (p : ℕ) → p < 2 ^ suc d
+pub next_of_all : (d : ℕ) (carry : ℕ → ℕ → ℕ) (s : PatternSet) (letters : List ℕ) (p : ℕ) → p < 2 ^ suc d
     → (member (next_all d carry s letters) p ≡ true) ↔ ((a : ℕ) → a ∈ letters → member s (carry a p) ≡ true)
-next-of-all = PatternSetLaws.member-next_all
+next_of_all = PatternSetLaws.member-next_all
 
 -- by the map that is kept for letter a it is the next state
 pub next_of_map : (ps : List Part) (letters : List ℕ) (d n : ℕ) (maps firsts : List ℕ) → d ≡ operators_of ps → n ≡ length letters
     → MapsOf ps letters d n maps firsts → (s : PatternSet) (a : ℕ) → a < n → get_or firsts a 0 ≡ a
     → next_all d (map_at maps d) s (a ∷ []) ≡ next_state ps s (get_or letters a 0)
-next_of_map = ExploredStates.made-same
+next_of_map = ExploredStates.made_same
 
 -- ---- the letters
 
 -- the letters by number are those of the declared signals
 pub letters : (c : Counts) → c.outputs ≤ kind_limit → c.observed ≤ kind_limit → c.hidden ≤ kind_limit
     → (a : ℕ) → (a ∈ letters_of c) ↔ IsLetter c a
-letters = LettersLaws.letters-are
+letters = LettersLaws.letters_are

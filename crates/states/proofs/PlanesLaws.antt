@@ -16,7 +16,7 @@ use Rattle.obligations.specs.Words.{back_lanes}
 use Rattle.states.specs.Limits.{slot_size, plane_size}
 use Rattle.states.specs.Planes.{slot_at, plane, planes_to}
 use Rattle.basics.proofs.Stores.{get_d_sets_other, get_d_sets_same}
-use Rattle.basics.proofs.Filling.{table_more, table-all}
+use Rattle.basics.proofs.Filling.{table_more, table_all}
 use Rattle.basics.proofs.LentPart.{part_at, mid_sets}
 
 module _ (ps : List Part) (letters : List ℕ) (w : ℕ) where
@@ -29,18 +29,18 @@ module _ (ps : List Part) (letters : List ℕ) (w : ℕ) where
   length_plane n = length_tabulate n word_at
 
   -- a plane written over some memory
-  pub plane-none : (d : List ℕ) → d ≡ plane ps letters w 0 ++ drop 0 d
+  pub plane_none : (d : List ℕ) → d ≡ plane ps letters w 0 ++ drop 0 d
   unfolding plane
-  plane-none d = refl
+  plane_none d = refl
 
-  pub plane-more : (y : ℕ) (d t : List ℕ) (r : ℕ) → y < length d → t ≡ plane ps letters w y ++ drop y d → r ≡ word_at y
+  pub plane_more : (y : ℕ) (d t : List ℕ) (r : ℕ) → y < length d → t ≡ plane ps letters w y ++ drop y d → r ≡ word_at y
       → set t y r ≡ plane ps letters w (y + 1) ++ drop (y + 1) d
   unfolding plane
-  plane-more y d t r h e f = table_more y word_at d t r h e f
+  plane_more y d t r h e f = table_more y word_at d t r h e f
 
-  pub plane-end : (y n : ℕ) (d t : List ℕ) → y ≡ n → length d ≡ n → t ≡ plane ps letters w y ++ drop y d → t ≡ plane ps letters w n
+  pub plane_end : (y n : ℕ) (d t : List ℕ) → y ≡ n → length d ≡ n → t ≡ plane ps letters w y ++ drop y d → t ≡ plane ps letters w n
   unfolding plane
-  plane-end y n d t e l f = table-all y n word_at d t e l f
+  plane_end y n d t e l f = table_all y n word_at d t e l f
 
   -- a plane behind another, of letters that follow
   plane_append : (a n : ℕ) (more : List ℕ)
@@ -50,9 +50,9 @@ module _ (ps : List Part) (letters : List ℕ) (w : ℕ) where
   plane_append a n more e = tabulate_append a n word_at (λ y. back_lanes ps (get_or more (y / slot_size) 0) w (y % slot_size)) e
 
   -- s letters from letter n on
-  word-from : (n s y : ℕ) → y < s * slot_size
+  word_from : (n s y : ℕ) → y < s * slot_size
       → back_lanes ps (get_or (take (n + s - n) (drop n letters)) (y / slot_size) 0) w (y % slot_size) ≡ word_at (n * slot_size + y)
-  word-from n s y h =
+  word_from n s y h =
       let low : y / slot_size < s = omega arith in
       let place : n + y / slot_size ≡ (n * slot_size + y) / slot_size = omega arith in
       let slot : y % slot_size ≡ (n * slot_size + y) % slot_size = omega arith in
@@ -67,7 +67,7 @@ module _ (ps : List Part) (letters : List ℕ) (w : ℕ) where
       ∙ ap₂ (λ x y. x ++ (new ++ drop size y)) (ap (take at) e ∙ take_at old (drop at d) at (length_plane at))
       (ap (drop at) e ∙ drop_at old (drop at d) at (length_plane at))
       ∙ sym (append_assoc old new (drop size (drop at d)))
-      ∙ ap₂ (λ x y. x ++ y) (plane_append at (s * slot_size) more (word-from n s) ∙ ap (plane ps letters w) next)
+      ∙ ap₂ (λ x y. x ++ y) (plane_append at (s * slot_size) more (word_from n s) ∙ ap (plane ps letters w) next)
       (drop-drop size at d ∙ ap (λ k. drop k d) (ap (λ k. at + k) exact ∙ next))
     where
       at : ℕ
@@ -118,10 +118,10 @@ module _ (ps : List Part) (letters : List ℕ) (n : ℕ) (d : List ℕ) where
   length_planes zero = refl
   length_planes (suc w) = length-sets (planes_to ps letters n w d) (w * plane_size) (plane ps letters w (n * slot_size)) ∙ length_planes w
 
-  carried-more : (w : ℕ) → suc w * plane_size ≤ length d → n * slot_size ≤ plane_size → Carried ps letters w n (planes_to ps letters n w d)
+  carried_more : (w : ℕ) → suc w * plane_size ≤ length d → n * slot_size ≤ plane_size → Carried ps letters w n (planes_to ps letters n w d)
       → Carried ps letters (suc w) n (planes_to ps letters n (suc w) d)
   unfolding planes_to plane
-  carried-more w room few c = record { word = λ v a k hv ha hk. at v a k ha hk (eq-or-lt_of_le (le_of_suc-le-suc hv)) }
+  carried_more w room few c = record { word = λ v a k hv ha hk. at v a k ha hk (eq-or-lt_of_le (le_of_suc-le-suc hv)) }
     where
       old : List ℕ
       old = planes_to ps letters n w d
@@ -146,10 +146,10 @@ module _ (ps : List Part) (letters : List ℕ) (n : ℕ) (d : List ℕ) where
       at v a k ha hk (inr h) =
           get_d_sets_other old (w * plane_size) new (slot_at v a + k) 0 (λ j b e. omega arith) ∙ c.word v a k h ha hk
 
-  carried-to : (m : ℕ) → m * plane_size ≤ length d → n * slot_size ≤ plane_size → Carried ps letters m n (planes_to ps letters n m d)
-  carried-to zero h few = record { word = λ v a k hv. absurd (omega arith) }
-  carried-to (suc w) h few = carried-more w h few (carried-to w (omega arith) few)
+  carried_to : (m : ℕ) → m * plane_size ≤ length d → n * slot_size ≤ plane_size → Carried ps letters m n (planes_to ps letters n m d)
+  carried_to zero h few = record { word = λ v a k hv. absurd (omega arith) }
+  carried_to (suc w) h few = carried_more w h few (carried_to w (omega arith) few)
 
   pub planes_carried : (m : ℕ) (t : List ℕ) → m * plane_size ≤ length d → n * slot_size ≤ plane_size → t ≡ planes_to ps letters n m d
       → Carried ps letters m n t
-  planes_carried m t h few e = subst (Carried ps letters m n) (sym e) (carried-to m h few)
+  planes_carried m t h few e = subst (Carried ps letters m n) (sym e) (carried_to m h few)

@@ -14,13 +14,13 @@ use Rattle.states.specs.States.{states_of, IsState}
 use Rattle.search.proofs.ReachableSetsLaws.{sets_closed, sets_over}
 
 -- a closed list has each state once, and nothing else
-pub states-closed : (ps : List Part) (letters : List ℕ) (limit : ℕ) (xs : List PatternSet) → states_of ps letters limit ≡ closed xs
+pub states_closed : (ps : List Part) (letters : List ℕ) (limit : ℕ) (xs : List PatternSet) → states_of ps letters limit ≡ closed xs
     → Distinct xs × (length xs ≤ limit) × ((s : PatternSet) → (s ∈ xs) ↔ IsState ps letters s)
 unfolding states_of
-states-closed ps letters limit xs e = sets_closed (operators_of ps) (back ps) letters limit xs e
+states_closed ps letters limit xs e = sets_closed (operators_of ps) (back ps) letters limit xs e
 
 -- `over` means that there are more than the limit
-pub states-over : (ps : List Part) (letters : List ℕ) (limit : ℕ) → (states_of ps letters limit ≡ over)
+pub states_over : (ps : List Part) (letters : List ℕ) (limit : ℕ) → (states_of ps letters limit ≡ over)
     ↔ ((xs : List PatternSet) × (length xs ≡ suc limit) × Distinct xs × ((s : PatternSet) → s ∈ xs → IsState ps letters s))
 unfolding states_of
-states-over ps letters limit = sets_over (operators_of ps) (back ps) letters limit
+states_over ps letters limit = sets_over (operators_of ps) (back ps) letters limit

@@ -20,11 +20,11 @@ use Rattle.states.specs.Limits.{slot_size, plane_size, plane_count}
 
 -- the sizes of the problem that some parts come from
 pub record Sized (codes : List ℕ) (s : Sizes) : Type 0 where
-  pub operators-are : s.operators ≡ operators_of (parts_in codes)
-  pub outputs-few : s.outputs ≤ kind_limit
-  pub observed-few : s.observed ≤ kind_limit
-  pub hidden-few : s.hidden ≤ kind_limit
-  pub signals-few : s.outputs + s.observed + s.hidden ≤ signal_limit
+  pub operators_are : s.operators ≡ operators_of (parts_in codes)
+  pub outputs_few : s.outputs ≤ kind_limit
+  pub observed_few : s.observed ≤ kind_limit
+  pub hidden_few : s.hidden ≤ kind_limit
+  pub signals_few : s.outputs + s.observed + s.hidden ≤ signal_limit
 
 -- ---- the words of letters: entry a * slotSize + k of a plane is bit k of the patterns that letter a carries back
 

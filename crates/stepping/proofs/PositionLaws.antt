@@ -27,20 +27,20 @@ use Rattle.wellformed.specs.WellFormed.{Sized, GoodRow}
 use Rattle.stepping.specs.Position.{move_to, get_ready, start_at, move_from, refused_at, is_standing, is_held, is_holding}
 use Rattle.stepping.specs.Position.{start_of, step_of, is_stopped, left_of, Standing, Held, Holds}
 use Rattle.wellformed.proofs.WellFormedLaws.{side_le, row_room, stops, moves}
-use Rattle.wellformed.proofs.TestsSay.{sized-says, row-says}
+use Rattle.wellformed.proofs.TestsSay.{sized_says, row_says}
 
 -- ---- on a row, whose first cell is x
 
 module _ (t : List ℕ) (row x : ℕ) (first : x ≡ first_cell Set t row) where
-  pub on-stop : x ≡ stop_cell → record { position = record { row = row; choice = x }; answer = Stop } ≡ move_to t row
-  on-stop e = rw (stops Set t row x first e, first) refl
+  pub on_stop : x ≡ stop_cell → record { position = record { row = row; choice = x }; answer = Stop } ≡ move_to t row
+  on_stop e = rw (stops Set t row x first e, first) refl
 
-  pub on-choice : (x ≡ stop_cell → ⊥) → record { position = record { row = row; choice = x }; answer = Choice x } ≡ move_to t row
-  on-choice n = rw (moves Set t row x first n, first) refl
+  pub on_choice : (x ≡ stop_cell → ⊥) → record { position = record { row = row; choice = x }; answer = Choice x } ≡ move_to t row
+  on_choice n = rw (moves Set t row x first n, first) refl
 
 module _ (t : List ℕ) (x : ℕ) (first : x ≡ first_cell Read t 0) where
-  pub ready-stop : x ≡ stop_cell → record { position = record { row = 0; choice = stop_cell }; answer = Stop } ≡ get_ready t
-  ready-stop e = rw (stops Read t 0 x first e) refl
+  pub ready_stop : x ≡ stop_cell → record { position = record { row = 0; choice = stop_cell }; answer = Stop } ≡ get_ready t
+  ready_stop e = rw (stops Read t 0 x first e) refl
 
   pub ready : (x ≡ stop_cell → ⊥) → record { position = record { row = 0; choice = stop_cell }; answer = Ready } ≡ get_ready t
   ready n = rw (moves Read t 0 x first n) refl
@@ -51,13 +51,13 @@ module _ (o : Order) (t : List ℕ) (m : Moved) where
   pub start_set : o ≡ Set → m ≡ move_to t 0 → m ≡ start_at o t
   start_set e q = rw e q
 
-  pub start-read : o ≡ Read → m ≡ get_ready t → m ≡ start_at o t
-  start-read e q = rw e q
+  pub start_read : o ≡ Read → m ≡ get_ready t → m ≡ start_at o t
+  start_read e q = rw e q
 
 module _ (o : Order) (t : List ℕ) (row s next : ℕ) (leads : next ≡ next_cell o t row s) where
   -- the cells of the next row
-  pub next-room : (cells : ℕ) → next_cell o t row s * row_size o + row_size o ≤ cells → next * row_size o + row_size o ≤ cells
-  next-room cells h = rw leads h
+  pub next_room : (cells : ℕ) → next_cell o t row s * row_size o + row_size o ≤ cells → next * row_size o + row_size o ≤ cells
+  next_room cells h = rw leads h
 
   pub move_set : o ≡ Set → (m : Moved) → m ≡ move_to t next → m ≡ move_from o t row s
   move_set e m q = q ∙ ap (move_to t) leads ∙ rw e refl
@@ -70,61 +70,61 @@ module _ (o : Order) (t : List ℕ) (p : Position) where
   pub held_set : o ≡ Set → (x : ℕ) → x ≡ first_cell o t p.row → eqb x p.choice ≡ is_held o t p
   held_set e x q = rw (q, e) refl
 
-  pub held-read : o ≡ Read → true ≡ is_held o t p
-  held-read e = rw e refl
+  pub held_read : o ≡ Read → true ≡ is_held o t p
+  held_read e = rw e refl
 
 -- ---- where a cabinet may stand
 
 module _ (t : List ℕ) (shape : Shape) (row : ℕ) where
   three : Says (is_standing t shape row) ((Sized (length t) shape × (row < shape.rows)) × GoodRow t shape row)
-  three = says_and (says_and (sized-says (length t) shape) (lt_says row shape.rows)) (row-says t shape row)
+  three = says_and (says_and (sized_says (length t) shape) (lt_says row shape.rows)) (row_says t shape row)
 
-  pub standing-says : Says (is_standing t shape row) (Standing t shape row)
-  standing-says = (
+  pub standing_says : Says (is_standing t shape row) (Standing t shape row)
+  standing_says = (
     λ e. let p = three.0 e in record { sized = p.0.0; inside = p.0.1; good = p.1 },
     λ w. three.1 ((w.sized, w.inside), w.good),
   )
 
   pub stands : (a : Bool) → a ≡ is_standing t shape row → not a ≡ false → Standing t shape row
-  stands a q f = standing-says.0 (sym q ∙ not-false a f)
+  stands a q f = standing_says.0 (sym q ∙ not-false a f)
 
   -- the table has the whole row
-  pub has-row : Standing t shape row → row * row_size shape.order + row_size shape.order ≤ length t
-  has-row w = row_room shape.order shape.rows row (length t) w.sized.room w.inside
+  pub has_row : Standing t shape row → row * row_size shape.order + row_size shape.order ≤ length t
+  has_row w = row_room shape.order shape.rows row (length t) w.sized.room w.inside
 
 pub has_first : (t : List ℕ) (shape : Shape) → Standing t shape 0 → row_size shape.order ≤ length t
-has_first t shape w = subst (λ (k : ℕ). k ≤ length t) (zero_rows shape.order) (has-row t shape 0 w)
+has_first t shape w = subst (λ (k : ℕ). k ≤ length t) (zero_rows shape.order) (has_row t shape 0 w)
   where
     zero_rows : (o : Order) → 0 * row_size o + row_size o ≡ row_size o
     zero_rows Set = refl
     zero_rows Read = refl
 
-held-says : (o : Order) (t : List ℕ) (p : Position) → Says (is_held o t p) (Held o t p)
-held-says Set t p = eqb_says (first_cell Set t p.row) p.choice
-held-says Read t p = says_true
+held_says : (o : Order) (t : List ℕ) (p : Position) → Says (is_held o t p) (Held o t p)
+held_says Set t p = eqb_says (first_cell Set t p.row) p.choice
+held_says Read t p = says_true
 
 module _ (t : List ℕ) (shape : Shape) (p : Position) where
-  pub holding-says : Says (is_holding t shape p) (Holds t shape p)
-  holding-says = says_and (standing-says t shape p.row) (held-says shape.order t p)
+  pub holding_says : Says (is_holding t shape p) (Holds t shape p)
+  holding_says = says_and (standing_says t shape p.row) (held_says shape.order t p)
 
   module _ (a : Bool) (e : a ≡ is_standing t shape p.row) where
     pub not_standing : not a ≡ true → false ≡ is_holding t shape p
     not_standing f = rw (sym e, not-true a f) refl
 
-    pub held-there : not a ≡ false → (b : Bool) → b ≡ is_held shape.order t p → b ≡ is_holding t shape p
-    held-there f b q = rw (sym e, not-false a f) q
+    pub held_there : not a ≡ false → (b : Bool) → b ≡ is_held shape.order t p → b ≡ is_holding t shape p
+    held_there f b q = rw (sym e, not-false a f) q
 
   module _ (a : Bool) (e : a ≡ is_holding t shape p) where
     pub holds : not a ≡ false → Holds t shape p
-    holds f = holding-says.0 (sym e ∙ not-false a f)
+    holds f = holding_says.0 (sym e ∙ not-false a f)
 
     pub not_stopped : not a ≡ true → false ≡ is_stopped t shape p
     unfolding is_stopped
     not_stopped f = rw (sym e, not-true a f) refl
 
-    pub stopped-there : not a ≡ false → (x : ℕ) → x ≡ first_cell shape.order t p.row → eqb x stop_cell ≡ is_stopped t shape p
+    pub stopped_there : not a ≡ false → (x : ℕ) → x ≡ first_cell shape.order t p.row → eqb x stop_cell ≡ is_stopped t shape p
     unfolding is_stopped
-    stopped-there f x q = rw (sym e, not-false a f, q) refl
+    stopped_there f x q = rw (sym e, not-false a f, q) refl
 
     -- how many steps are left
     pub left_nowhere : not a ≡ true → left.Refused BadTable ≡ left_of t shape p
@@ -138,13 +138,13 @@ module _ (t : List ℕ) (shape : Shape) (p : Position) where
 -- ---- the start
 
 module _ (t : List ℕ) (shape : Shape) (p : Position) where
-  pub start-refused : (a : Bool) → a ≡ is_standing t shape 0 → not a ≡ true → (m : Moved) → m ≡ refused_at p BadTable → m ≡ start_of t shape p
+  pub start_refused : (a : Bool) → a ≡ is_standing t shape 0 → not a ≡ true → (m : Moved) → m ≡ refused_at p BadTable → m ≡ start_of t shape p
   unfolding start_of
-  start-refused a e f m q = rw (sym e, not-true a f) q
+  start_refused a e f m q = rw (sym e, not-true a f) q
 
-  pub start-moves : Standing t shape 0 → (m : Moved) → m ≡ start_at shape.order t → m ≡ start_of t shape p
+  pub start_moves : Standing t shape 0 → (m : Moved) → m ≡ start_at shape.order t → m ≡ start_of t shape p
   unfolding start_of
-  start-moves w m q = rw ((standing-says t shape 0).1 w) q
+  start_moves w m q = rw ((standing_says t shape 0).1 w) q
 
 -- ---- a step
 
@@ -162,10 +162,10 @@ module _ (t : List ℕ) (shape : Shape) (p : Position) where
     unfolding step_of
     step_nowhere a e f q = rw (sym e, not-true a f) q
 
-    pub step-stopped : Holds t shape p → (x : ℕ) → x ≡ first_cell shape.order t p.row → x ≡ stop_cell → m ≡ refused_at p Stopped
+    pub step_stopped : Holds t shape p → (x : ℕ) → x ≡ first_cell shape.order t p.row → x ≡ stop_cell → m ≡ refused_at p Stopped
         → m ≡ step_of t shape observation p
     unfolding step_of
-    step-stopped h x first s q = rw ((holding-says t shape p).1 h, stops shape.order t p.row x first s) q
+    step_stopped h x first s q = rw ((holding_says t shape p).1 h, stops shape.order t p.row x first s) q
 
 module _ {t : List ℕ} {shape : Shape} {p : Position} (g : Goes t shape p) where
   -- how many observations there are
@@ -176,26 +176,26 @@ module _ {t : List ℕ} {shape : Shape} {p : Position} (g : Goes t shape p) wher
     pub step_unseen : 1 * 2 ^ shape.observed % 18446744073709551616 ≤ observation → (m : Moved) → m ≡ refused_at p BadObservation
         → m ≡ step_of t shape observation p
     unfolding step_of
-    step_unseen h m q = rw ((holding-says t shape p).1 g.holds, g.moves, le-ltb observation (2 ^ shape.observed) (rw shift at h)) q
+    step_unseen h m q = rw ((holding_says t shape p).1 g.holds, g.moves, le-ltb observation (2 ^ shape.observed) (rw shift at h)) q
 
     module _ (h : observation < 1 * 2 ^ shape.observed % 18446744073709551616) where
       sees : observation < 2 ^ shape.observed
       sees = rw shift at h
 
       -- what the move asks: the row's cells, one for the observation, and those of the next row
-      pub step-asks : (p.row * row_size shape.order + row_size shape.order ≤ length t)
+      pub step_asks : (p.row * row_size shape.order + row_size shape.order ≤ length t)
           × ((observation < side_limit)
           × (next_cell shape.order t p.row observation * row_size shape.order + row_size shape.order ≤ length t))
-      step-asks =
+      step_asks =
           let s = g.holds.0 in
           let on = s.good.formed.goes observation (eqb-false (first_cell shape.order t p.row) stop_cell g.moves, sees) in (
-            has-row t shape p.row s,
+            has_row t shape p.row s,
             (
               lt_of_lt_of_le sees (side_le shape.observed s.sized.seen),
               row_room shape.order shape.rows (next_cell shape.order t p.row observation) (length t) s.sized.room on.next,
             ),
           )
 
-      pub step-moves : (m : Moved) → m ≡ move_from shape.order t p.row observation → m ≡ step_of t shape observation p
+      pub step_moves : (m : Moved) → m ≡ move_from shape.order t p.row observation → m ≡ step_of t shape observation p
       unfolding step_of
-      step-moves m q = rw ((holding-says t shape p).1 g.holds, g.moves, lt-ltb observation (2 ^ shape.observed) sees) q
+      step_moves m q = rw ((holding_says t shape p).1 g.holds, g.moves, lt-ltb observation (2 ^ shape.observed) sees) q

@@ -13,25 +13,25 @@ use Rattle.basics.specs.declared.order.Order.{Order}
 use Rattle.basics.specs.declared.order.Order.TheVariants.{Set, Read}
 use Rattle.basics.proofs.Booleans.{test}
 use Rattle.lines.specs.Refusal.{Told, values}
-use Rattle.lines.proofs.RefusalLaws.{told-apart}
+use Rattle.lines.proofs.RefusalLaws.{told_apart}
 use Rattle.play.specs.Cells.{stop_cell, first_cell, is_stop, next_cell, rank_cell}
 use Rattle.tables.specs.declared.shape.Shape.{Shape}
 use Rattle.stepping.specs.declared.position.Position.{Position}
 use Rattle.stepping.specs.declared.position.Left.TheVariants.{Steps}
 use Rattle.stepping.specs.Position.{start_of, step_of, is_stopped, left_of, told_answer, Standing, start_choice, step_choice, started}
-use Rattle.stepping.specs.Position.{Held, Holds, SteppedAs, bad-place, stopped, bad-observation, moved}
+use Rattle.stepping.specs.Position.{Held, Holds, SteppedAs, bad_place, stopped, bad_observation, moved}
 use Rattle.stepping.specs.Stopping.{AllPossible, position_after, StopsWithin}
-use Rattle.stepping.proofs.PositionLaws.{holding-says}
-use Rattle.stepping.proofs.AnswersDue.{start_iff, step-due, step_iff}
+use Rattle.stepping.proofs.PositionLaws.{holding_says}
+use Rattle.stepping.proofs.AnswersDue.{start_iff, step_due, step_iff}
 
 -- the standing choice is the row's after a start, and after a step
-start-held : (o : Order) (t : List ℕ) → Held o t (record { row = 0; choice = start_choice o t })
-start-held Set t = refl
-start-held Read t = tt
+start_held : (o : Order) (t : List ℕ) → Held o t (record { row = 0; choice = start_choice o t })
+start_held Set t = refl
+start_held Read t = tt
 
-step-held : (o : Order) (t : List ℕ) (row s : ℕ) → Held o t (record { row = next_cell o t row s; choice = step_choice o t row s })
-step-held Set t row s = refl
-step-held Read t row s = tt
+step_held : (o : Order) (t : List ℕ) (row s : ℕ) → Held o t (record { row = next_cell o t row s; choice = step_choice o t row s })
+step_held Set t row s = refl
+step_held Read t row s = tt
 
 -- ---- any table
 
@@ -40,55 +40,55 @@ module _ (t : List ℕ) (shape : Shape) where
   rank p = rank_cell shape.order t p.row
 
   -- a step that is answered lowers the rank
-  pub step-lowers : (s c : ℕ) (p : Position) → told_answer (step_of t shape s p).answer ≡ values (c ∷ []) → rank (step_of t shape s p).position < rank p
-  step-lowers s c p = at (told_answer (step_of t shape s p).answer) (step_of t shape s p).position (step-due t shape s p)
+  pub step_lowers : (s c : ℕ) (p : Position) → told_answer (step_of t shape s p).answer ≡ values (c ∷ []) → rank (step_of t shape s p).position < rank p
+  step_lowers s c p = at (told_answer (step_of t shape s p).answer) (step_of t shape s p).position (step_due t shape s p)
     where
       at : (a : Told) (q : Position) → SteppedAs t shape s p a q → a ≡ values (c ∷ []) → rank q < rank p
-      at a q (bad-place n) e = told-apart e
-      at a q (stopped h o) e = told-apart e
-      at a q (bad-observation h n o) e = told-apart e
+      at a q (bad_place n) e = told_apart e
+      at a q (stopped h o) e = told_apart e
+      at a q (bad_observation h n o) e = told_apart e
       at a q (moved h n o) e = h.0.good.ranked.lower s (n, o)
 
   -- the number that is shown
-  shown-there : (p : Position) → Holds t shape p → left_of t shape p ≡ Steps (rank p)
+  shown_there : (p : Position) → Holds t shape p → left_of t shape p ≡ Steps (rank p)
   unfolding left_of
-  shown-there p h = rw ((holding-says t shape p).1 h) refl
+  shown_there p h = rw ((holding_says t shape p).1 h) refl
 
-  stopped-there : (p : Position) → Holds t shape p → is_stopped t shape p ≡ is_stop shape.order t p.row
+  stopped_there : (p : Position) → Holds t shape p → is_stopped t shape p ≡ is_stop shape.order t p.row
   unfolding is_stopped
-  stopped-there p h = rw ((holding-says t shape p).1 h) refl
+  stopped_there p h = rw ((holding_says t shape p).1 h) refl
 
 -- ---- a table on whose every row the cabinet may stand
 
 module _ (t : List ℕ) (shape : Shape) (stands : (row : ℕ) → row < shape.rows → Standing t shape row) where
   -- it stands on a row after a start, and after every step
-  pub start-holds : 0 < shape.rows → (old : Position) → Holds t shape (start_of t shape old).position
-  start-holds some old =
-      subst (Holds t shape) (sym ((start_iff t shape old _ _).1 (started (stands 0 some))).1) (stands 0 some, start-held shape.order t)
+  pub start_holds : 0 < shape.rows → (old : Position) → Holds t shape (start_of t shape old).position
+  start_holds some old =
+      subst (Holds t shape) (sym ((start_iff t shape old _ _).1 (started (stands 0 some))).1) (stands 0 some, start_held shape.order t)
 
   holds_on : (s : ℕ) (p : Position) → Holds t shape p → (a : Told) (q : Position) → SteppedAs t shape s p a q → Holds t shape q
-  holds_on s p h a q (bad-place n) = h
+  holds_on s p h a q (bad_place n) = h
   holds_on s p h a q (stopped k e) = h
-  holds_on s p h a q (bad-observation k n o) = h
+  holds_on s p h a q (bad_observation k n o) = h
   holds_on s p h a q (moved k n o) =
-      (stands (next_cell shape.order t p.row s) (h.0.good.formed.goes s (n, o)).next, step-held shape.order t p.row s)
+      (stands (next_cell shape.order t p.row s) (h.0.good.formed.goes s (n, o)).next, step_held shape.order t p.row s)
 
-  pub step-holds : (s : ℕ) (p : Position) → Holds t shape p → Holds t shape (step_of t shape s p).position
-  step-holds s p h = holds_on s p h (told_answer (step_of t shape s p).answer) (step_of t shape s p).position (step-due t shape s p)
+  pub step_holds : (s : ℕ) (p : Position) → Holds t shape p → Holds t shape (step_of t shape s p).position
+  step_holds s p h = holds_on s p h (told_answer (step_of t shape s p).answer) (step_of t shape s p).position (step_due t shape s p)
 
   -- where it has stopped
-  stops-here : (observation : ℕ → ℕ) (p : Position) → Holds t shape p → is_stop shape.order t p.row ≡ true
+  stops_here : (observation : ℕ → ℕ) (p : Position) → Holds t shape p → is_stop shape.order t p.row ≡ true
       → StopsWithin t shape observation p (rank t shape p)
-  stops-here observation p h e =
+  stops_here observation p h e =
       record {
         steps = 0;
         within = zero-le;
         goes = λ k l. absurd (omega arith);
-        stops = rw (stopped-there t shape p h, e) refl;
+        stops = rw (stopped_there t shape p h, e) refl;
         shown = λ k l.
             let z : 0 ≡ k = omega arith in
             subst (λ (k : ℕ). (left : ℕ) × (left_of t shape (position_after t shape observation p k) ≡ Steps left) × (0 ≤ k + left)) z
-            (rank t shape p, shown-there t shape p h, zero-le);
+            (rank t shape p, shown_there t shape p h, zero-le);
       }
 
   -- one step more
@@ -101,10 +101,10 @@ module _ (t : List ℕ) (shape : Shape) (stands : (row : ℕ) → row < shape.ro
     answers = ((step_iff t shape (observation 0) p _ _).1 (moved h (eqb-false (first_cell shape.order t p.row) stop_cell e) possible)).0
 
     lowers : rank t shape after < rank t shape p
-    lowers = step-lowers t shape (observation 0) _ p answers
+    lowers = step_lowers t shape (observation 0) _ p answers
 
-    stops-next : StopsWithin t shape (λ k. observation (suc k)) after (rank t shape after) → StopsWithin t shape observation p (rank t shape p)
-    stops-next w =
+    stops_next : StopsWithin t shape (λ k. observation (suc k)) after (rank t shape after) → StopsWithin t shape observation p (rank t shape p)
+    stops_next w =
         record {
           steps = suc w.steps;
           within = omega (arith, w.within, lowers);
@@ -116,41 +116,41 @@ module _ (t : List ℕ) (shape : Shape) (stands : (row : ℕ) → row < shape.ro
         goes : (k : ℕ) → k < suc w.steps
             → (is_stopped t shape (position_after t shape observation p k) ≡ false)
             × (c : ℕ) × (told_answer (step_of t shape (observation k) (position_after t shape observation p k)).answer ≡ values (c ∷ []))
-        goes zero l = (rw (stopped-there t shape p h, e) refl, _, answers)
+        goes zero l = (rw (stopped_there t shape p h, e) refl, _, answers)
         goes (suc k) l = w.goes k (omega arith)
 
         shown : (k : ℕ) → k ≤ suc w.steps
             → (left : ℕ) × (left_of t shape (position_after t shape observation p k) ≡ Steps left) × (suc w.steps ≤ k + left)
-        shown zero l = (rank t shape p, shown-there t shape p h, omega (arith, w.within, lowers))
+        shown zero l = (rank t shape p, shown_there t shape p h, omega (arith, w.within, lowers))
         shown (suc k) l = let (left, q, b) = w.shown k (omega arith) in (left, q, omega arith)
 
-  stops-below : (r : ℕ) (observation : ℕ → ℕ) → AllPossible shape observation → (p : Position) → Holds t shape p → rank t shape p < r
+  stops_below : (r : ℕ) (observation : ℕ → ℕ) → AllPossible shape observation → (p : Position) → Holds t shape p → rank t shape p < r
       → StopsWithin t shape observation p (rank t shape p)
-  stops-below zero observation possible p h b = absurd (omega arith)
-  stops-below (suc r) observation possible p h b =
+  stops_below zero observation possible p h b = absurd (omega arith)
+  stops_below (suc r) observation possible p h b =
       elim (test (is_stop shape.order t p.row)) [
-        | inl e ↦ stops-here observation p h e
+        | inl e ↦ stops_here observation p h e
         | inr f ↦
             let q = (step_of t shape (observation 0) p).position in
-            stops-next observation p h f (possible 0)
-            (stops-below r (λ k. observation (suc k)) (λ k. possible (suc k)) q (step-holds (observation 0) p h)
+            stops_next observation p h f (possible 0)
+            (stops_below r (λ k. observation (suc k)) (λ k. possible (suc k)) q (step_holds (observation 0) p h)
             (omega (arith, lowers observation p h f (possible 0))))
       ]
 
   -- from wherever it stands, within the rank of the row
-  pub stops-from : (observation : ℕ → ℕ) → AllPossible shape observation → (p : Position) → Holds t shape p
+  pub stops_from : (observation : ℕ → ℕ) → AllPossible shape observation → (p : Position) → Holds t shape p
       → StopsWithin t shape observation p (rank t shape p)
-  stops-from observation possible p h = stops-below (suc (rank t shape p)) observation possible p h (le_refl _)
+  stops_from observation possible p h = stops_below (suc (rank t shape p)) observation possible p h (le_refl _)
 
   -- started, within that of row 0
-  pub stops-started : 0 < shape.rows → (observation : ℕ → ℕ) → AllPossible shape observation → (old : Position)
+  pub stops_started : 0 < shape.rows → (observation : ℕ → ℕ) → AllPossible shape observation → (old : Position)
       → (c : ℕ) × (told_answer (start_of t shape old).answer ≡ values (c ∷ []))
       × StopsWithin t shape observation (start_of t shape old).position (rank_cell shape.order t 0)
-  stops-started some observation possible old =
+  stops_started some observation possible old =
       let (a, q) = (start_iff t shape old _ _).1 (started (stands 0 some)) in
       let row : (start_of t shape old).position.row ≡ 0 = ap (λ (p : Position). p.row) q in (
         start_choice shape.order t,
         a,
         subst (λ (k : ℕ). StopsWithin t shape observation (start_of t shape old).position (rank_cell shape.order t k)) row
-            (stops-from observation possible (start_of t shape old).position (start-holds some old)),
+            (stops_from observation possible (start_of t shape old).position (start_holds some old)),
       )

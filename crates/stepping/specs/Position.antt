@@ -108,7 +108,7 @@ step_choice Set t row s = first_cell Set t (next_cell Set t row s)
 step_choice Read t row s = choice_cell Read t row s
 
 pub data StartedAs (t : List ℕ) (shape : Shape) (p : Position) : Told → Position → Type 0 where
-  bad-start : (¬ Standing t shape 0) → StartedAs t shape p (refused 13 0) p
+  bad_start : (¬ Standing t shape 0) → StartedAs t shape p (refused 13 0) p
   started : Standing t shape 0
       → StartedAs t shape p (values (start_choice shape.order t ∷ [])) (record { row = 0; choice = start_choice shape.order t })
 
@@ -126,9 +126,9 @@ abbrev pub OnStop : List ℕ → Shape → Position → Type 0
 OnStop t shape p = first_cell shape.order t p.row ≡ stop_cell
 
 pub data SteppedAs (t : List ℕ) (shape : Shape) (observation : ℕ) (p : Position) : Told → Position → Type 0 where
-  bad-place : (¬ Holds t shape p) → SteppedAs t shape observation p (refused 13 0) p
+  bad_place : (¬ Holds t shape p) → SteppedAs t shape observation p (refused 13 0) p
   stopped : Holds t shape p → OnStop t shape p → SteppedAs t shape observation p (refused 14 0) p
-  bad-observation : Holds t shape p → (¬ OnStop t shape p) → 2 ^ shape.observed ≤ observation
+  bad_observation : Holds t shape p → (¬ OnStop t shape p) → 2 ^ shape.observed ≤ observation
       → SteppedAs t shape observation p (refused 15 0) p
   moved : Holds t shape p → (¬ OnStop t shape p) → observation < 2 ^ shape.observed
       → SteppedAs t shape observation p (values (step_choice shape.order t p.row observation ∷ []))

@@ -36,8 +36,8 @@ module _ (P : ℤ → Type 0) where
 pub failed_at : (z : ℤ) (n : ℕ) → SFits w64 z → lt_z (to_z w64 (of_z w64 z)) (pos 0) ≡ true → Failed ≡ ended_at z n
 failed_at z n f e = if_failed (λ z. Failed ≡ ended_at z n) (λ k. refl) z f e
 
-pub whole-at : (z : ℤ) (n : ℕ) → SFits w64 z → lt_z (to_z w64 (of_z w64 z)) (pos 0) ≡ false → Whole n ≡ ended_at z n
-whole-at z n f e = if_counted (λ z. Whole n ≡ ended_at z n) (λ k. refl) z f e
+pub whole_at : (z : ℤ) (n : ℕ) → SFits w64 z → lt_z (to_z w64 (of_z w64 z)) (pos 0) ≡ false → Whole n ≡ ended_at z n
+whole_at z n f e = if_counted (λ z. Whole n ≡ ended_at z n) (λ k. refl) z f e
 
 pub within : (r : Input) (z : ℤ) (n : ℕ) (xs : List ℕ) → n ≤ length xs → r ≡ ended_at z n → Within r xs
 within r (pos k) n xs h e = subst (λ (i : Input). Within i xs) (sym e) (prefix_len_of_le n xs h)

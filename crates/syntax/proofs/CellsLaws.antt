@@ -14,8 +14,8 @@ use Rattle.basics.proofs.Stores.{sets_append}
 -- ---- the number of a part
 
 module _ (n k x : ℕ) where
-  from-leaf : x < 256 → code_from n k x ≡ k + 256 * x
-  from-leaf h = rw (lt-ltb x 256 h)
+  from_leaf : x < 256 → code_from n k x ≡ k + 256 * x
+  from_leaf h = rw (lt-ltb x 256 h)
 
   from_prefix : 256 ≤ x → x < 512 → code_from n k x ≡ k + 256 * (n - 1)
   from_prefix h i = rw (le-ltb x 256 h, lt-ltb x 512 i)
@@ -25,9 +25,9 @@ module _ (n k x : ℕ) where
 
 -- as the code works it out from a cell
 module _ (n c : ℕ) where
-  pub made-leaf : c / 256 < 256 → c ≡ code_at n c
+  pub made_leaf : c / 256 < 256 → c ≡ code_at n c
   unfolding code_at
-  made-leaf h = sym (from-leaf n (c % 256) (c / 256) h ∙ omega arith)
+  made_leaf h = sym (from_leaf n (c % 256) (c / 256) h ∙ omega arith)
 
   module _ (r : ℕ) (e : r ≡ n - 1 - 0) where
     pub made_prefix : 256 ≤ c / 256 → c / 256 < 512 → c % 256 + 256 * r ≡ code_at n c
@@ -50,7 +50,7 @@ module _ (k x : ℕ) (h : k < 256) where
   code_cell n = ap₂ (code_from n) kind_of beside
 
 pub leaf_code : (k v n : ℕ) → k < 256 → v < 256 → code_at n (cell k (v % 256)) ≡ k + 256 * v + 65536 * 0
-leaf_code k v n h i = code_cell k (v % 256) h n ∙ from-leaf n k (v % 256) (omega arith) ∙ omega arith
+leaf_code k v n h i = code_cell k (v % 256) h n ∙ from_leaf n k (v % 256) (omega arith) ∙ omega arith
 
 pub prefix_code : (k n : ℕ) → k < 256 → code_at n (cell k one_sided) ≡ k + 256 * (n - 1) + 65536 * 0
 prefix_code k n h = code_cell k 256 h n ∙ from_prefix n k 256 (omega arith) (omega arith) ∙ omega arith
@@ -75,14 +75,14 @@ codes_append n (x ∷ xs) ys =
     ap (λ t. code_at n x ∷ t) (codes_append (suc n) xs ys ∙ ap (λ k. codes_from (suc n) xs ++ codes_from k ys) e)
 
 -- those of the first i cells, and one more
-pub codes-none : (p : List ℕ) (n : ℕ) (cs : List ℕ) → p ≡ sets p n (codes_from n (take 0 cs))
+pub codes_none : (p : List ℕ) (n : ℕ) (cs : List ℕ) → p ≡ sets p n (codes_from n (take 0 cs))
 unfolding codes_from
-codes-none p n cs = refl
+codes_none p n cs = refl
 
-pub codes-more : (p : List ℕ) (n : ℕ) (cs : List ℕ) (i : ℕ) → i < length cs
+pub codes_more : (p : List ℕ) (n : ℕ) (cs : List ℕ) (i : ℕ) → i < length cs
     → set (sets p n (codes_from n (take i cs))) (n + i) (code_at (n + i) (get_or cs i 0)) ≡ sets p n (codes_from n (take (i + 1) cs))
 unfolding codes_from
-codes-more p n cs i h =
+codes_more p n cs i h =
     let e : length (take i cs) ≡ i = length-take-le i cs (omega arith) in
     let f : length (codes_from n (take i cs)) ≡ i = length_codes n (take i cs) ∙ e in
     sym (ap (λ k. sets p n (codes_from n (take k cs))) (add-one i) ∙ ap (λ t. sets p n (codes_from n t)) (take-suc cs i 0 h)

@@ -96,9 +96,9 @@ module _ (text : List ℕ) (at : ℕ) where
   unfolding token_at
   token_from_lem = from_cases (λ t. t.from ≡ skip text at) text (skip text at) (λ _. refl) (λ _ _ k. refl) (λ _. refl) (λ _ k. refl)
 
-  pub name-letter : (token_at text at).kind ≡ name_kind → lower (get_or text (skip text at) 0) ≡ true
+  pub name_letter : (token_at text at).kind ≡ name_kind → lower (get_or text (skip text at) 0) ≡ true
   unfolding token_at token_from lower
-  name-letter =
+  name_letter =
       let b = get_or text (skip text at) 0 in
       let P : Token → Type 0 = λ t. t.kind ≡ name_kind → lower b ≡ true in
       cond_elim P (leb (length text) (skip text at)) _ _ (λ _ z. absurd (omega arith)) (λ _.

@@ -47,16 +47,16 @@ delay_length zero cs = omega arith
 delay_length (suc n) cs = let e = delay_length n cs in prefix_length weak_next_kind (delay_cells n cs) ∙ omega (arith, e)
 
 -- one weak next more
-pub delay-more : (i j : ℕ) (cs : List ℕ) → j ≤ i → delay_cells (i + 1 - j) cs ≡ prefix_cells weak_next_kind (delay_cells (i - j) cs)
+pub delay_more : (i j : ℕ) (cs : List ℕ) → j ≤ i → delay_cells (i + 1 - j) cs ≡ prefix_cells weak_next_kind (delay_cells (i - j) cs)
 unfolding delay_cells
-delay-more i j cs h = let e : i + 1 - j ≡ suc (i - j) = omega arith in ap (λ n. delay_cells n cs) e
+delay_more i j cs h = let e : i + 1 - j ≡ suc (i - j) = omega arith in ap (λ n. delay_cells n cs) e
 
 -- the weak nexts stand behind the operand
-pub delay-behind : (n : ℕ) (cs : List ℕ) → delay_cells n cs ≡ cs ++ delay_cells n []
+pub delay_behind : (n : ℕ) (cs : List ℕ) → delay_cells n cs ≡ cs ++ delay_cells n []
 unfolding delay_cells
-delay-behind zero cs = sym (append-nil cs)
-delay-behind (suc n) cs =
-    ap (prefix_cells weak_next_kind) (delay-behind n cs) ∙ append_assoc cs (delay_cells n []) (cell weak_next_kind one_sided ∷ [])
+delay_behind zero cs = sym (append-nil cs)
+delay_behind (suc n) cs =
+    ap (prefix_cells weak_next_kind) (delay_behind n cs) ∙ append_assoc cs (delay_cells n []) (cell weak_next_kind one_sided ∷ [])
 
 pub once_length : (cs : List ℕ) → length (once_cells cs) ≡ 7 + 3 * length cs
 once_length cs = simp length-append (omega arith)

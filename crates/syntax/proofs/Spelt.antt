@@ -56,13 +56,13 @@ module _ (text : List ℕ) where
       same k m (token_at text at).next u (omega arith) (omega arith))
 
   module _ (at : ℕ) (h : at ≤ length text) where
-    pub tokens-end : (token_at text at).kind ≡ end_kind → tokens text at ≡ []
+    pub tokens_end : (token_at text at).kind ≡ end_kind → tokens text at ≡ []
     unfolding tokens tokens_f
-    tokens-end e = more_true _ _ _ (eq-eqb _ _ e)
+    tokens_end e = more_true _ _ _ (eq-eqb _ _ e)
 
-    pub tokens-more : ((token_at text at).kind ≡ end_kind → ⊥) → tokens text at ≡ token_at text at ∷ tokens text (token_at text at).next
+    pub tokens_more : ((token_at text at).kind ≡ end_kind → ⊥) → tokens text at ≡ token_at text at ∷ tokens text (token_at text at).next
     unfolding tokens tokens_f
-    tokens-more n =
+    tokens_more n =
         let f = falls at h n in
         let u = (ends text at h).high in
         more_false _ _ _ (ne_eqb _ _ n)
@@ -70,29 +70,29 @@ module _ (text : List ℕ) where
         (same (length text - at) (suc (length text - (token_at text at).next)) (token_at text at).next u (omega arith) (omega arith))
 
     -- by a test that the end does not pass
-    pub tokens-test : (p : ℕ → Bool) → p end_kind ≡ false → p (token_at text at).kind ≡ true
+    pub tokens_test : (p : ℕ → Bool) → p end_kind ≡ false → p (token_at text at).kind ≡ true
         → tokens text at ≡ token_at text at ∷ tokens text (token_at text at).next
-    tokens-test p z o = tokens-more (λ e. clash (sym (ap p e) ∙ o) z)
+    tokens_test p z o = tokens_more (λ e. clash (sym (ap p e) ∙ o) z)
 
     pub first_token : first (tokens text at) ≡ (token_at text at).kind
     unfolding first
     first_token = go (eqb (token_at text at).kind end_kind) refl
       where
         go : (b : Bool) → eqb (token_at text at).kind end_kind ≡ b → first (tokens text at) ≡ (token_at text at).kind
-        go true e = ap first (tokens-end (eqb-true _ _ e)) ∙ sym (eqb-true _ _ e)
-        go false e = ap first (tokens-more (eqb-false _ _ e))
+        go true e = ap first (tokens_end (eqb-true _ _ e)) ∙ sym (eqb-true _ _ e)
+        go false e = ap first (tokens_more (eqb-false _ _ e))
 
     -- a token that is there
     pub head_is : (t : Token) (ts : List Token) → tokens text at ≡ t ∷ ts → token_at text at ≡ t
     head_is t ts e = go (eqb (token_at text at).kind end_kind) refl
       where
         go : (b : Bool) → eqb (token_at text at).kind end_kind ≡ b → token_at text at ≡ t
-        go true z = let q = tokens-end (eqb-true _ _ z) in cc
-        go false z = let q = tokens-more (eqb-false _ _ z) in cc
+        go true z = let q = tokens_end (eqb-true _ _ z) in cc
+        go false z = let q = tokens_more (eqb-false _ _ z) in cc
 
-    pub tail-is : (t : Token) (ts : List Token) → tokens text at ≡ t ∷ ts → tokens text (token_at text at).next ≡ ts
-    tail-is t ts e = go (eqb (token_at text at).kind end_kind) refl
+    pub tail_is : (t : Token) (ts : List Token) → tokens text at ≡ t ∷ ts → tokens text (token_at text at).next ≡ ts
+    tail_is t ts e = go (eqb (token_at text at).kind end_kind) refl
       where
         go : (b : Bool) → eqb (token_at text at).kind end_kind ≡ b → tokens text (token_at text at).next ≡ ts
-        go true z = let q = tokens-end (eqb-true _ _ z) in cc
-        go false z = let q = tokens-more (eqb-false _ _ z) in cc
+        go true z = let q = tokens_end (eqb-true _ _ z) in cc
+        go false z = let q = tokens_more (eqb-false _ _ z) in cc

@@ -24,28 +24,28 @@ module _ (val : Token → ℕ) where
   stored_then : (a : Tree) (l : List ℕ) (n : ℕ) (b : List ℕ) → sets l n (cells val a ++ b) ≡ sets (sets l n (cells val a)) (n + size a) b
   stored_then a l n b = sets_append l n (cells val a) b ∙ ap (λ k. sets (sets l n (cells val a)) (n + k) b) (length_cells a)
 
-  pub stored-pre : (t : Token) (a : Tree) (l : List ℕ) (n : ℕ)
+  pub stored_pre : (t : Token) (a : Tree) (l : List ℕ) (n : ℕ)
       → sets l n (cells val (pre t a)) ≡ set (sets l n (cells val a)) (n + size a) (cell t.kind one_sided)
   unfolding cells
-  stored-pre t a l n = stored_then a l n _
+  stored_pre t a l n = stored_then a l n _
 
-  pub stored-bin : (t : Token) (a b : Tree) (l : List ℕ) (n : ℕ)
+  pub stored_bin : (t : Token) (a b : Tree) (l : List ℕ) (n : ℕ)
       → sets l n (cells val (bin t a b)) ≡ set (sets (sets l n (cells val a)) (n + size a) (cells val b)) (n + size a + size b)
       (cell t.kind (two_sided (size b)))
   unfolding cells
-  stored-bin t a b l n =
+  stored_bin t a b l n =
       stored_then a l n _ ∙ stored_then b (sets l n (cells val a)) (n + size a) _
       ∙ ap (λ k. set (sets (sets l n (cells val a)) (n + size a) (cells val b)) (n + size a + size b) (cell t.kind (two_sided k)))
       (length_cells b)
 
   -- cells stored from the front on
-  stored-front : (a : Tree) (l : List ℕ) → size a ≤ length l → sets l 0 (cells val a) ≡ cells val a ++ drop (size a) l
-  stored-front a l h =
+  stored_front : (a : Tree) (l : List ℕ) → size a ≤ length l → sets l 0 (cells val a) ≡ cells val a ++ drop (size a) l
+  stored_front a l h =
       let z : 0 + length (cells val a) ≡ size a = omega (arith, length_cells a) in
       sets-eq (cells val a) l 0 (omega (arith, z, h)) ∙ ap (λ k. cells val a ++ drop k l) z
 
   -- and taken from there again
-  pub stored-taken : (a : Tree) (l : List ℕ) → size a ≤ length l → take (size a) (sets l 0 (cells val a)) ≡ cells val a
-  stored-taken a l h =
-      ap (take (size a)) (stored-front a l h) ∙ ap (λ k. take k (cells val a ++ drop (size a) l)) (sym (length_cells a))
+  pub stored_taken : (a : Tree) (l : List ℕ) → size a ≤ length l → take (size a) (sets l 0 (cells val a)) ≡ cells val a
+  stored_taken a l h =
+      ap (take (size a)) (stored_front a l h) ∙ ap (λ k. take k (cells val a ++ drop (size a) l)) (sym (length_cells a))
       ∙ take-append_seam (cells val a) (drop (size a) l)

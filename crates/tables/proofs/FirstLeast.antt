@@ -11,7 +11,7 @@ use lib.Dec.{leb, ltb}
 use borrow.Author.Tests.{ltb-true, ltb-false, lt-ltb, le-leb, lt-leb}
 use Rattle.basics.specs.Bounded.{all, any, first_that}
 use Rattle.basics.proofs.Booleans.{test, clash}
-use Rattle.basics.proofs.BoundedLaws.{last_or_before, all_of, all-fails, any_at, any_not, first_passes, first-least, first-is, first_ext}
+use Rattle.basics.proofs.BoundedLaws.{last_or_before, all_of, all_fails, any_at, any_not, first_passes, first_least, first_is, first_ext}
 
 module _ (f : ℕ → ℕ) where
   -- the value of b is the least of the first c, and b the first such number
@@ -20,8 +20,8 @@ module _ (f : ℕ → ℕ) where
     pub least : (d : ℕ) → d < c → f b ≤ f d
     pub first : (d : ℕ) → d < b → f b < f d
 
-  pub leading-begin : Leading 1 0
-  leading-begin =
+  pub leading_begin : Leading 1 0
+  leading_begin =
       record {
         inside = omega arith;
         least = λ d h. let z : d ≡ 0 = omega arith in subst (λ i. f 0 ≤ f i) (sym z) (le_refl (f 0));
@@ -29,8 +29,8 @@ module _ (f : ℕ → ℕ) where
       }
 
   -- the next value is lower
-  pub leading-new : (c b : ℕ) → Leading c b → f c < f b → Leading (c + 1) c
-  leading-new c b l h =
+  pub leading_new : (c b : ℕ) → Leading c b → f c < f b → Leading (c + 1) c
+  leading_new c b l h =
       record {
         inside = omega arith;
         least = λ d i.
@@ -42,8 +42,8 @@ module _ (f : ℕ → ℕ) where
       }
 
   -- it is not
-  pub leading-kept : (c b : ℕ) → Leading c b → f b ≤ f c → Leading (c + 1) b
-  leading-kept c b l h =
+  pub leading_kept : (c b : ℕ) → Leading c b → f b ≤ f c → Leading (c + 1) b
+  leading_kept c b l h =
       record {
         inside = omega (arith, l.inside);
         least = λ d i. elim (last_or_before c d i) [ inl e ↦ subst (λ j. f b ≤ f j) (sym e) h | inr s ↦ l.least d s ];
@@ -57,8 +57,8 @@ module _ (f : ℕ → ℕ) where
 
     pub leading_end : (b : ℕ) → Leading n b → b ≡ first_that is_least n
     leading_end b l =
-        sym (first-is is_least n b l.inside (all_of n (λ d. leb (f b) (f d)) (λ d h. le-leb (f b) (f d) (l.least d h)))
-        (λ d h. all-fails n (λ e. leb (f d) (f e)) b l.inside (lt-leb (f d) (f b) (l.first d h))))
+        sym (first_is is_least n b l.inside (all_of n (λ d. leb (f b) (f d)) (λ d h. le-leb (f b) (f d) (l.least d h)))
+        (λ d h. all_fails n (λ e. leb (f d) (f e)) b l.inside (lt-leb (f d) (f b) (l.first d h))))
 
     -- the least value, searched below m
     abbrev pub least_below : ℕ → ℕ
@@ -69,13 +69,13 @@ module _ (f : ℕ → ℕ) where
       least_le d h =
           elim (dec_lt (f d) (least_below m)) [
             | yes l ↦
-                let none = any_not n (λ c. ltb (f c) (suc (f d))) (first-least (λ r. any n (λ c. ltb (f c) (suc r))) m (f d) l) d h in
+                let none = any_not n (λ c. ltb (f c) (suc (f d))) (first_least (λ r. any n (λ c. ltb (f c) (suc r))) m (f d) l) d h in
                 clash (lt-ltb (f d) (suc (f d)) (omega arith)) none
             | no l ↦ omega arith
           ]
 
-      within-least : (c : ℕ) → c < n → ltb (f c) (suc (least_below m)) ≡ is_least c
-      within-least c h =
+      within_least : (c : ℕ) → c < n → ltb (f c) (suc (least_below m)) ≡ is_least c
+      within_least c h =
           elim (test (ltb (f c) (suc (least_below m)))) [
             | inl t ↦
                 let b = ltb-true (f c) (suc (least_below m)) t in
@@ -84,9 +84,9 @@ module _ (f : ℕ → ℕ) where
                 let b = ltb-false (f c) (suc (least_below m)) g in
                 let (d, i, t) = any_at n (λ c. ltb (f c) (suc (least_below m))) (first_passes (λ r. any n (λ c. ltb (f c) (suc r))) m some) in
                 let s = ltb-true (f d) (suc (least_below m)) t in
-                g ∙ sym (all-fails n (λ d. leb (f c) (f d)) d i (lt-leb (f c) (f d) (omega arith)))
+                g ∙ sym (all_fails n (λ d. leb (f c) (f d)) d i (lt-leb (f c) (f d) (omega arith)))
           ]
 
       -- so the first number within it is the first whose value is the least
-      pub first-within : first_that is_least n ≡ first_that (λ c. ltb (f c) (suc (least_below m))) n
-      first-within = first_ext n _ _ (λ c h. sym (within-least c h))
+      pub first_within : first_that is_least n ≡ first_that (λ c. ltb (f c) (suc (least_below m))) n
+      first_within = first_ext n _ _ (λ c h. sym (within_least c h))

@@ -13,24 +13,24 @@ use borrow.Author.Tests.{lt-ltb}
 use Rattle.basics.specs.Bounded.{all, any, first_that}
 use Rattle.basics.specs.declared.order.Order.{Order}
 use Rattle.basics.specs.declared.order.Order.TheVariants.{Set, Read}
-use Rattle.basics.proofs.BoundedLaws.{all-at, all_ext, any_ext, first_of, first_ext}
+use Rattle.basics.proofs.BoundedLaws.{all_at, all_ext, any_ext, first_of, first_ext}
 use Rattle.basics.proofs.ListsLaws.{length_tabulate, get_d_tabulate}
 use Rattle.play.specs.Limits.{belief_limit, side_limit, pair_limit}
 use Rattle.play.specs.Rank.{Arena, can, rank_from, leads_within, next_rank, best_answer}
 use Rattle.play.proofs.StepOrder.{order_of, can_ext}
-use Rattle.play.proofs.RankLaws.{HasRank, goes_on_lem, rank-searched}
+use Rattle.play.proofs.RankLaws.{HasRank, goes_on_lem, rank_searched}
 use Rattle.tables.specs.PositionMemory.{arena_in, Positions, next_of, rank_after, works, can_lead, rank_if_below, ranks_below, is_best, answer_at}
-use Rattle.tables.proofs.RanksBelow.{Below, entry-ranked, entry-within}
-use Rattle.tables.proofs.FirstLeast.{least_below, first-within}
+use Rattle.tables.proofs.RanksBelow.{Below, entry_ranked, entry_within}
+use Rattle.tables.proofs.FirstLeast.{least_below, first_within}
 
 pub pair_le : (choices observations s : ℕ) → choices ≤ side_limit → observations ≤ side_limit → s < observations → s * choices ≤ 240
-pair_le choices observations s few-choices few sb =
+pair_le choices observations s few_choices few sb =
     let p : s * choices ≤ 15 * choices = mul-le-mul_right choices (omega arith) in
     omega arith
 
 pub spot_lt : (choices observations k c s : ℕ) → choices ≤ side_limit → observations ≤ side_limit → k < belief_limit → c < choices → s < observations
     → k * pair_limit + s * choices + c < belief_limit * pair_limit
-spot_lt choices observations k c s few-choices few kb cb sb = omega (arith, pair_le choices observations s few-choices few sb)
+spot_lt choices observations k c s few_choices few kb cb sb = omega (arith, pair_le choices observations s few_choices few sb)
 
 -- ---- ranks in memory
 
@@ -46,15 +46,15 @@ module _ (o : Order) (n choices observations r : ℕ) (moves finals : List ℕ) 
   ranks_length = length_tabulate n (rank_if_below o arena choices observations r)
 
   -- in front of other entries
-  pub ranks-taken : (ranks rest : List ℕ) → ranks ≡ kept ++ rest → take n ranks ≡ kept
-  ranks-taken ranks rest e = ap (take n) e ∙ take_at kept rest n ranks_length
+  pub ranks_taken : (ranks rest : List ℕ) → ranks ≡ kept ++ rest → take n ranks ≡ kept
+  ranks_taken ranks rest e = ap (take n) e ∙ take_at kept rest n ranks_length
 
-  pub ranks-passed : (ranks rest : List ℕ) → ranks ≡ kept ++ rest → drop n ranks ≡ rest
-  ranks-passed ranks rest e = ap (drop n) e ∙ drop_at kept rest n ranks_length
+  pub ranks_passed : (ranks rest : List ℕ) → ranks ≡ kept ++ rest → drop n ranks ≡ rest
+  ranks_passed ranks rest e = ap (drop n) e ∙ drop_at kept rest n ranks_length
 
-  pub rank-read : (ranks : List ℕ) → take n ranks ≡ kept → (k : ℕ) → k < n → get_or ranks k 0 ≡ rank_if_below o arena choices observations r k
+  pub rank_read : (ranks : List ℕ) → take n ranks ≡ kept → (k : ℕ) → k < n → get_or ranks k 0 ≡ rank_if_below o arena choices observations r k
   unfolding ranks_below
-  rank-read ranks e k h =
+  rank_read ranks e k h =
       sym (get_or-take n ranks k 0 h) ∙ ap (λ l. get_or l k 0) e ∙ get_d_tabulate n (rank_if_below o arena choices observations r) k 0 h
 
   -- entries that say which ranks are below r say whether the controller can lead below r
@@ -75,38 +75,38 @@ module _ (n choices observations : ℕ) (moves finals ranks : List ℕ) (P : Pos
   Ranked o = take n ranks ≡ ranks_below o n choices observations n moves finals
 
   -- an entry says whether a choice leads within q
-  within-read : (o : Order) → Ranked o → (q : ℕ) → q < n → (c s : ℕ) → c < choices → s < observations
+  within_read : (o : Order) → Ranked o → (q : ℕ) → q < n → (c s : ℕ) → c < choices → s < observations
       → leads_within o A choices observations q k c s ≡ ltb (rank_after moves ranks choices k c s) (suc q)
   unfolding rank_after next_of
-  within-read o e q h c s cb sb =
+  within_read o e q h c s cb sb =
       let j : ℕ = A.move k c s in
-      entry-within o A choices observations q n j h (omega (arith, P.few))
-      ∙ ap (λ i. ltb i (suc q)) (sym (rank-read o n choices observations n moves finals ranks e j (P.inside k c s inside cb sb)))
+      entry_within o A choices observations q n j h (omega (arith, P.few))
+      ∙ ap (λ i. ltb i (suc q)) (sym (rank_read o n choices observations n moves finals ranks e j (P.inside k c s inside cb sb)))
 
   -- the position's own entry is its rank
   pub own_read : (o : Order) → Ranked o → rank_from o A choices observations n k < n → get_or ranks k 0 ≡ rank_from o A choices observations n k
   own_read o e b =
-      rank-read o n choices observations n moves finals ranks e k inside
-      ∙ entry-ranked o A choices observations n k (lt-ltb (rank_from o A choices observations n k) n b)
+      rank_read o n choices observations n moves finals ranks e k inside
+      ∙ entry_ranked o A choices observations n k (lt-ltb (rank_from o A choices observations n k) n b)
 
-  pub answer-read : (o : Order) → Ranked o → (q : ℕ) → suc q < n → HasRank (order_of o choices observations) A k (suc q)
+  pub answer_read : (o : Order) → Ranked o → (q : ℕ) → suc q < n → HasRank (order_of o choices observations) A k (suc q)
       → (s : ℕ) → s < observations → answer_at o moves ranks choices observations k s ≡ best_answer o A choices observations n k s
   unfolding works is_best
-  answer-read Set e q small a s sb =
-      let is : rank_from Set A choices observations n k ≡ suc q = rank-searched (order_of Set choices observations) A n (suc q) k small a in
+  answer_read Set e q small a s sb =
+      let is : rank_from Set A choices observations n k ≡ suc q = rank_searched (order_of Set choices observations) A n (suc q) k small a in
       ap (λ r. first_that (works moves ranks choices observations r k) choices) (own_read Set e (omega arith) ∙ is)
-      ∙ first_ext choices _ _ (λ c cb. all_ext observations _ _ (λ t tb. sym (within-read Set e q (omega arith) c t cb tb)))
+      ∙ first_ext choices _ _ (λ c cb. all_ext observations _ _ (λ t tb. sym (within_read Set e q (omega arith) c t cb tb)))
       ∙ sym (ap (λ r. first_that (λ c. all observations (λ t. leads_within Set A choices observations (pred r) k c t)) choices) is)
-  answer-read Read e q small a s sb =
+  answer_read Read e q small a s sb =
       let f : ℕ → ℕ = λ c. rank_after moves ranks choices k c s in
       let leads : ℕ → ℕ → Bool = λ r c. leads_within Read A choices observations r k c s in
       let is : next_rank Read A choices observations n k s ≡ least_below f choices n =
-      first_ext n _ _ (λ r b. any_ext choices _ _ (λ c cb. within-read Read e r b c s cb sb)) in
+      first_ext n _ _ (λ r b. any_ext choices _ _ (λ c cb. within_read Read e r b c s cb sb)) in
       let can-go : any choices (leads q) ≡ true =
-      all-at observations (λ t. any choices (λ c. leads_within Read A choices observations q k c t))
+      all_at observations (λ t. any choices (λ c. leads_within Read A choices observations q k c t))
       (goes_on_lem (order_of Read choices observations) A k q a) s sb in
       let some : next_rank Read A choices observations n k s < n = (first_of (λ r. any choices (leads r)) n q (omega arith) can-go).0 in
       let some' : least_below f choices n < n = omega arith in
-      first-within f choices n some'
-      ∙ first_ext choices _ _ (λ c cb. sym (within-read Read e (least_below f choices n) some' c s cb sb))
+      first_within f choices n some'
+      ∙ first_ext choices _ _ (λ c cb. sym (within_read Read e (least_below f choices n) some' c s cb sb))
       ∙ sym (ap (λ r. first_that (leads r) choices) is)

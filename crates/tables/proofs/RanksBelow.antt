@@ -11,7 +11,7 @@ use lib.Dec.{ltb}
 use borrow.Author.Tests.{ltb-true, lt-ltb, le-ltb}
 use Rattle.basics.specs.declared.order.Order.{Order}
 use Rattle.basics.proofs.Booleans.{test, clash}
-use Rattle.basics.proofs.BoundedLaws.{first_of, first-is, first_passes, first-least, none_first}
+use Rattle.basics.proofs.BoundedLaws.{first_of, first_is, first_passes, first_least, none_first}
 use Rattle.play.specs.Rank.{Arena, can, rank_from}
 use Rattle.play.proofs.StepOrder.{StepOrder, order_of, can_ext}
 use Rattle.play.proofs.RankLaws.{In, within_le}
@@ -35,39 +35,39 @@ module _ (o : Order) (A : Arena) (choices observations : ℕ) where
   abbrev pub Below : ℕ → A.K → Bool
   Below r k = ltb (rank r k) r
 
-  pub entry-ranked : (r : ℕ) (k : A.K) → Below r k ≡ true → entry r k ≡ rank r k
-  entry-ranked r k t = ap (λ (b : Bool). cond b (rank r k) no_rank) t
+  pub entry_ranked : (r : ℕ) (k : A.K) → Below r k ≡ true → entry r k ≡ rank r k
+  entry_ranked r k t = ap (λ (b : Bool). cond b (rank r k) no_rank) t
 
-  pub entry-none : (r : ℕ) (k : A.K) → Below r k ≡ false → entry r k ≡ no_rank
-  entry-none r k f = ap (λ (b : Bool). cond b (rank r k) no_rank) f
+  pub entry_none : (r : ℕ) (k : A.K) → Below r k ≡ false → entry r k ≡ no_rank
+  entry_none r k f = ap (λ (b : Bool). cond b (rank r k) no_rank) f
 
   pub below_of : (r q : ℕ) (k : A.K) → q < r → Within q k ≡ true → Below r k ≡ true
   below_of r q k h t = lt-ltb (rank r k) r (first_of (λ i. Within i k) r q h t).0
 
-  pub below-within : (r : ℕ) (k : A.K) → Below r k ≡ true → (rank r k < r) × (Within (rank r k) k ≡ true)
-  below-within r k t = let b = ltb-true (rank r k) r t in (b, first_passes (λ i. Within i k) r b)
+  pub below_within : (r : ℕ) (k : A.K) → Below r k ≡ true → (rank r k < r) × (Within (rank r k) k ≡ true)
+  below_within r k t = let b = ltb-true (rank r k) r t in (b, first_passes (λ i. Within i k) r b)
 
   -- a rank that is found stays as it is under a higher bound
-  pub rank-kept : (r m : ℕ) (k : A.K) → r ≤ m → Below r k ≡ true → (rank m k ≡ rank r k) × (entry m k ≡ entry r k)
-  rank-kept r m k h t =
-      let (b, w) = below-within r k t in
-      let e : rank m k ≡ rank r k = first-is (λ i. Within i k) m (rank r k) (omega arith) w (first-least (λ i. Within i k) r) in
-      (e, entry-ranked m k (below_of m (rank r k) k (omega arith) w) ∙ e ∙ sym (entry-ranked r k t))
+  pub rank_kept : (r m : ℕ) (k : A.K) → r ≤ m → Below r k ≡ true → (rank m k ≡ rank r k) × (entry m k ≡ entry r k)
+  rank_kept r m k h t =
+      let (b, w) = below_within r k t in
+      let e : rank m k ≡ rank r k = first_is (λ i. Within i k) m (rank r k) (omega arith) w (first_least (λ i. Within i k) r) in
+      (e, entry_ranked m k (below_of m (rank r k) k (omega arith) w) ∙ e ∙ sym (entry_ranked r k t))
 
   -- one that is found under the higher bound alone is not below the lower one
-  pub rank-from : (r m : ℕ) (k : A.K) → Below r k ≡ false → Below m k ≡ true → r ≤ rank m k
-  rank-from r m k f t =
-      elim (dec_lt (rank m k) r) [ yes l ↦ clash (below_of r (rank m k) k l (below-within m k t).1) f | no l ↦ omega arith ]
+  pub rank_from_lem : (r m : ℕ) (k : A.K) → Below r k ≡ false → Below m k ≡ true → r ≤ rank m k
+  rank_from_lem r m k f t =
+      elim (dec_lt (rank m k) r) [ yes l ↦ clash (below_of r (rank m k) k l (below_within m k t).1) f | no l ↦ omega arith ]
 
   -- an entry below r says that the rank is below r, also one under a higher bound: what a round reads may have been written by itself
-  pub entry-below : (r m : ℕ) (k : A.K) → r ≤ m → m ≤ no_rank → ltb (entry m k) r ≡ Below r k
-  entry-below r m k h small =
+  pub entry_below : (r m : ℕ) (k : A.K) → r ≤ m → m ≤ no_rank → ltb (entry m k) r ≡ Below r k
+  entry_below r m k h small =
       elim (test (Below r k)) [
-        | inl t ↦ ap (λ i. ltb i r) ((rank-kept r m k h t).1 ∙ entry-ranked r k t)
+        | inl t ↦ ap (λ i. ltb i r) ((rank_kept r m k h t).1 ∙ entry_ranked r k t)
         | inr f ↦
             elim (test (Below m k)) [
-              | inl u ↦ ap (λ i. ltb i r) (entry-ranked m k u) ∙ le-ltb (rank m k) r (rank-from r m k f u) ∙ sym f
-              | inr g ↦ ap (λ i. ltb i r) (entry-none m k g) ∙ le-ltb no_rank r (omega arith) ∙ sym f
+              | inl u ↦ ap (λ i. ltb i r) (entry_ranked m k u) ∙ le-ltb (rank m k) r (rank_from_lem r m k f u) ∙ sym f
+              | inr g ↦ ap (λ i. ltb i r) (entry_none m k g) ∙ le-ltb no_rank r (omega arith) ∙ sym f
             ]
       ]
 
@@ -90,5 +90,5 @@ module _ (o : Order) (A : Arena) (choices observations : ℕ) where
       ∙ ap (λ (b : Bool). A.final k || b) (can_ext O _ _ (λ c s cb sb. sym (below_suc q (A.move k c s))))
 
   -- an entry says of every rank below the bound whether the position is within it
-  pub entry-within : (q n : ℕ) (k : A.K) → q < n → n ≤ no_rank → Within q k ≡ ltb (entry n k) (suc q)
-  entry-within q n k h small = sym (entry-below (suc q) n k h small ∙ below_suc q k)
+  pub entry_within : (q n : ℕ) (k : A.K) → q < n → n ≤ no_rank → Within q k ≡ ltb (entry n k) (suc q)
+  entry_within q n k h small = sym (entry_below (suc q) n k h small ∙ below_suc q k)

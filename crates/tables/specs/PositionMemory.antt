@@ -24,12 +24,12 @@ arena_in choices moves finals =
 pub record Positions (n choices observations : ℕ) (moves finals : List ℕ) : Type 0 where
   pub some : 0 < n
   pub few : n ≤ belief_limit
-  pub few-choices : choices ≤ side_limit
-  pub few-observations : observations ≤ side_limit
-  pub some-choice : 0 < choices
-  pub some-observation : 0 < observations
+  pub few_choices : choices ≤ side_limit
+  pub few_observations : observations ≤ side_limit
+  pub some_choice : 0 < choices
+  pub some_observation : 0 < observations
   pub moves_long : length moves ≡ belief_limit * pair_limit
-  pub finals-long : length finals ≡ belief_limit
+  pub finals_long : length finals ≡ belief_limit
   pub inside : (i c s : ℕ) → i < n → c < choices → s < observations → get_or moves (i * pair_limit + s * choices + c) 0 < n
 
 -- where observation s leads from position k after choice c

@@ -19,7 +19,7 @@ use Rattle.play.specs.Cells.{row_size, stop_cell, first_cell, is_stop, choice_ce
 use Rattle.tables.specs.declared.shape.Shape.{Shape}
 use Rattle.basics.specs.Bounded.{all}
 use Rattle.basics.specs.Says.{Says}
-use Rattle.basics.proofs.BoundedLaws.{all-says}
+use Rattle.basics.proofs.BoundedLaws.{all_says}
 use Rattle.basics.proofs.Booleans.{test, or_cases, or_intro_left, or_intro_right}
 use Rattle.basics.proofs.SaysLaws.{says_and, says_or, lt_says, le_says, eqb_says}
 use Rattle.wellformed.specs.WellFormed.{Sized, first_limit, IsFirst, Used, GoesOn, RankFits, RankedRow, GoodRow, Unused, Printable}
@@ -33,8 +33,8 @@ module _ (cells : ℕ) (shape : Shape) where
       says_and (says_and (says_and (lt_says 0 shape.rows) (le_says shape.rows belief_limit)) (le_says (shape.rows * row_size shape.order) cells))
       (le_says shape.observed kind_limit)
 
-  pub sized-says : Says (is_sized cells shape) (Sized cells shape)
-  sized-says = (
+  pub sized_says : Says (is_sized cells shape) (Sized cells shape)
+  sized_says = (
     λ e. let p = four.0 e in record { some = p.0.0.0; few = p.0.0.1; room = p.0.1; seen = p.1 },
     λ s. four.1 (((s.some, s.few), s.room), s.seen),
   )
@@ -45,17 +45,17 @@ zero_says c = (eqb-true c 0, eq-eqb c 0)
 first_says : (o : Order) (c : ℕ) → Says (is_first o c) (IsFirst o c)
 first_says o c = says_or (lt_says c (first_limit o)) (eqb-true c stop_cell, eq-eqb c stop_cell)
 
-blank-says : (o : Order) (t : List ℕ) (row s : ℕ) → Says (is_blank_at o t row s) (Blank o t row s)
-blank-says Set t row s = zero_says (next_cell Set t row s)
-blank-says Read t row s = says_and (zero_says (choice_cell Read t row s)) (zero_says (next_cell Read t row s))
+blank_says : (o : Order) (t : List ℕ) (row s : ℕ) → Says (is_blank_at o t row s) (Blank o t row s)
+blank_says Set t row s = zero_says (next_cell Set t row s)
+blank_says Read t row s = says_and (zero_says (choice_cell Read t row s)) (zero_says (next_cell Read t row s))
 
 module _ (t : List ℕ) (shape : Shape) (row : ℕ) where
   abbrev o : Order
   o = shape.order
 
   -- the observations that the row has cells for, and the others
-  used-says : (s : ℕ) → Says (ltb s (next_count t shape row)) (Used t shape row s)
-  used-says s =
+  used_says : (s : ℕ) → Says (ltb s (next_count t shape row)) (Used t shape row s)
+  used_says s =
       elim (test (is_stop o t row)) [
         | inl e ↦ rw e (λ l. absurd (not-suc-le-zero (ltb-true s 0 l)), λ u. absurd (u.0 (eqb-true (first_cell o t row) stop_cell e)))
         | inr f ↦ rw f (λ l. (eqb-false (first_cell o t row) stop_cell f, ltb-true s (2 ^ shape.observed) l), λ u. lt-ltb s (2 ^ shape.observed) u.1)
@@ -69,16 +69,16 @@ module _ (t : List ℕ) (shape : Shape) (row : ℕ) where
       ]
 
   -- a statement on each observation that the row has cells for
-  each-says : (each : ℕ → Bool) (Each : ℕ → Type 0) → ((s : ℕ) → Says (each s) (Each s))
+  each_says : (each : ℕ → Bool) (Each : ℕ → Type 0) → ((s : ℕ) → Says (each s) (Each s))
       → Says (all (next_count t shape row) each) ((s : ℕ) → Used t shape row s → Each s)
-  each-says each Each says =
-      let p = all-says (next_count t shape row) each Each says in (
-        λ e s u. p.0 e s (ltb-true s (next_count t shape row) ((used-says s).1 u)),
-        λ f. p.1 (λ s h. f s ((used-says s).0 (lt-ltb s (next_count t shape row) h))),
+  each_says each Each says =
+      let p = all_says (next_count t shape row) each Each says in (
+        λ e s u. p.0 e s (ltb-true s (next_count t shape row) ((used_says s).1 u)),
+        λ f. p.1 (λ s h. f s ((used_says s).0 (lt-ltb s (next_count t shape row) h))),
       )
 
-  fits-says : Says (rank_fits t shape row) (RankFits t shape row)
-  fits-says =
+  fits_says : Says (rank_fits t shape row) (RankFits t shape row)
+  fits_says =
       let rank = rank_cell o t row in
       elim (test (is_stop o t row)) [
         | inl e ↦
@@ -96,33 +96,33 @@ module _ (t : List ℕ) (shape : Shape) (row : ℕ) where
   abbrev Leading : ℕ → Type 0
   Leading s = GoesOn t shape row s × RankFits t shape (next_cell shape.order t row s)
 
-  pair-says : (s : ℕ) → Says (is_pair t shape row s) (Leading s)
-  pair-says s =
+  pair_says : (s : ℕ) → Says (is_pair t shape row s) (Leading s)
+  pair_says s =
       let next = next_cell shape.order t row s in
       let p = says_and (lt_says (choice_cell shape.order t row s) side_limit)
-      (says_and (says_and (lt_says next shape.rows) (first_says shape.order (first_cell shape.order t next))) (fits-says t shape next)) in (
+      (says_and (says_and (lt_says next shape.rows) (first_says shape.order (first_cell shape.order t next))) (fits_says t shape next)) in (
         λ e. let q = p.0 e in (record { choice = q.0; next = q.1.0.0; first = q.1.0.1 }, q.1.1),
         λ g. p.1 (g.0.choice, ((g.0.next, g.0.first), g.1)),
       )
 
   leads_tests : Says (leads_on t shape row) (IsFirst shape.order (first_cell shape.order t row) × ((s : ℕ) → Used t shape row s → Leading s))
   unfolding leads_on
-  leads_tests = says_and (first_says shape.order (first_cell shape.order t row)) (each-says t shape row (is_pair t shape row) Leading pair-says)
+  leads_tests = says_and (first_says shape.order (first_cell shape.order t row)) (each_says t shape row (is_pair t shape row) Leading pair_says)
 
   -- what the tests of ranks ask
-  pub leads-asks : (a : Bool) → a ≡ leads_on t shape row → not a ≡ false → Leads t shape row
-  leads-asks a e f s h =
-      ((leads_tests.0 (sym e ∙ not-false a f)).1 s ((used-says t shape row s).0 (lt-ltb s (next_count t shape row) h))).0.next
+  pub leads_asks : (a : Bool) → a ≡ leads_on t shape row → not a ≡ false → Leads t shape row
+  leads_asks a e f s h =
+      ((leads_tests.0 (sym e ∙ not-false a f)).1 s ((used_says t shape row s).0 (lt-ltb s (next_count t shape row) h))).0.next
 
   ranked_tests : Says (is_ranked t shape row)
       (RankFits t shape row × ((s : ℕ) → Used t shape row s → rank_cell shape.order t (next_cell shape.order t row s) < rank_cell shape.order t row))
   unfolding is_ranked
   ranked_tests =
-      says_and (fits-says t shape row) (each-says t shape row (is_lower t shape row) _
+      says_and (fits_says t shape row) (each_says t shape row (is_lower t shape row) _
       (λ s. lt_says (rank_cell shape.order t (next_cell shape.order t row s)) (rank_cell shape.order t row)))
 
-  pub ranked-says : Says (is_ranked t shape row) (RankedRow t shape row)
-  ranked-says = (
+  pub ranked_says : Says (is_ranked t shape row) (RankedRow t shape row)
+  ranked_says = (
     λ e. let p = ranked_tests.0 e in record { own = p.0; lower = p.1 },
     λ r. ranked_tests.1 (r.own, r.lower),
   )
@@ -130,10 +130,10 @@ module _ (t : List ℕ) (shape : Shape) (row : ℕ) where
   row_tests : Says (is_row t shape row)
       ((IsFirst shape.order (first_cell shape.order t row) × ((s : ℕ) → Used t shape row s → Leading s)) × RankedRow t shape row)
   unfolding is_row
-  row_tests = says_and leads_tests ranked-says
+  row_tests = says_and leads_tests ranked_says
 
-  pub row-says : Says (is_row t shape row) (GoodRow t shape row)
-  row-says = (
+  pub row_says : Says (is_row t shape row) (GoodRow t shape row)
+  row_says = (
     λ e. let ((first, leading), ranked) = row_tests.0 e in
         record { formed = record { first = first; goes = λ s u. (leading s u).0 }; ranked = ranked; next = λ s u. (leading s u).1 },
     λ g. row_tests.1 ((g.formed.first, λ s u. (g.formed.goes s u, g.next s u)), g.ranked),
@@ -142,31 +142,31 @@ module _ (t : List ℕ) (shape : Shape) (row : ℕ) where
   abbrev Kept : ℕ → Type 0
   Kept s = Unused t shape row s → Blank shape.order t row s
 
-  blank-at : (s : ℕ) → Says (ltb s (next_count t shape row) || is_blank_at shape.order t row s) (Kept s)
-  blank-at s = (to, from)
+  blank_at_lem : (s : ℕ) → Says (ltb s (next_count t shape row) || is_blank_at shape.order t row s) (Kept s)
+  blank_at_lem s = (to, from)
     where
       to : (ltb s (next_count t shape row) || is_blank_at shape.order t row s) ≡ true → Kept s
       to e u =
           elim (or_cases (ltb s (next_count t shape row)) (is_blank_at shape.order t row s) e) [
-            | inl l ↦ let (m, h) = (used-says t shape row s).0 l in absurd (elim u [ inl i ↦ m i | inr l ↦ omega arith ])
-            | inr z ↦ (blank-says shape.order t row s).0 z
+            | inl l ↦ let (m, h) = (used_says t shape row s).0 l in absurd (elim u [ inl i ↦ m i | inr l ↦ omega arith ])
+            | inr z ↦ (blank_says shape.order t row s).0 z
           ]
 
       from : Kept s → (ltb s (next_count t shape row) || is_blank_at shape.order t row s) ≡ true
       from z =
           elim (test (ltb s (next_count t shape row))) [
             | inl l ↦ or_intro_left (is_blank_at shape.order t row s) l
-            | inr f ↦ or_intro_right (ltb s (next_count t shape row)) ((blank-says shape.order t row s).1 (z (unused t shape row s f)))
+            | inr f ↦ or_intro_right (ltb s (next_count t shape row)) ((blank_says shape.order t row s).1 (z (unused t shape row s f)))
           ]
 
   print_tests : Says (is_printable_row t shape row) (GoodRow t shape row × ((s : ℕ) → s < side_limit → Kept s))
   unfolding is_printable_row is_blank
-  print_tests = says_and row-says (all-says side_limit (λ s. ltb s (next_count t shape row) || is_blank_at shape.order t row s) Kept blank-at)
+  print_tests = says_and row_says (all_says side_limit (λ s. ltb s (next_count t shape row) || is_blank_at shape.order t row s) Kept blank_at_lem)
 
 module _ (t : List ℕ) (shape : Shape) (worst : ℕ) where
   -- a row of a table whose rows are all as they must be
-  pub printable-row : Printable t shape worst → (row : ℕ) → row < shape.rows → GoodRow t shape row
-  printable-row p row h =
+  pub printable_row : Printable t shape worst → (row : ℕ) → row < shape.rows → GoodRow t shape row
+  printable_row p row h =
       let formed = (p.shaped.each row h).formed in
       record { formed = formed; ranked = p.ranked row h; next = λ s u. (p.ranked _ (formed.goes s u).next).own }
 
@@ -177,11 +177,11 @@ module _ (t : List ℕ) (shape : Shape) (worst : ℕ) where
       ((Sized (length t) shape × (rank_cell shape.order t 0 ≡ worst)) × ((row : ℕ) → row < shape.rows → PrintedRow row))
   unfolding is_printable
   three =
-      says_and (says_and (sized-says (length t) shape) (eqb_says (rank_cell shape.order t 0) worst))
-      (all-says shape.rows (is_printable_row t shape) PrintedRow (print_tests t shape))
+      says_and (says_and (sized_says (length t) shape) (eqb_says (rank_cell shape.order t 0) worst))
+      (all_says shape.rows (is_printable_row t shape) PrintedRow (print_tests t shape))
 
-  pub printable-says : Says (is_printable t shape worst) (Printable t shape worst)
-  printable-says = (to, from)
+  pub printable_says : Says (is_printable t shape worst) (Printable t shape worst)
+  printable_says = (to, from)
     where
       to : is_printable t shape worst ≡ true → Printable t shape worst
       to e =
@@ -199,4 +199,4 @@ module _ (t : List ℕ) (shape : Shape) (worst : ℕ) where
           }
 
       from : Printable t shape worst → is_printable t shape worst ≡ true
-      from p = three.1 ((p.shaped.sized, p.first), λ row h. (printable-row p row h, (p.shaped.each row h).blank))
+      from p = three.1 ((p.shaped.sized, p.first), λ row h. (printable_row p row h, (p.shaped.each row h).blank))

@@ -19,7 +19,7 @@ use Rattle.basics.specs.declared.order.Order.TheVariants.{Set, Read}
 use Rattle.play.specs.Cells.{row_size, stop_cell, first_cell, is_stop, choice_cell, next_cell, rank_cell}
 use Rattle.tables.specs.declared.shape.Shape.{Shape}
 use Rattle.basics.specs.Bounded.{all}
-use Rattle.basics.proofs.BoundedLaws.{all-fails, all_more, all_done}
+use Rattle.basics.proofs.BoundedLaws.{all_fails, all_more, all_done}
 use Rattle.basics.proofs.Booleans.{test, or_cases, or_left, or_right}
 use Rattle.wellformed.specs.WellFormed.{first_limit}
 use Rattle.wellformed.specs.WellFormed.{is_sized, is_first, rank_fits, is_next, next_count, is_pair, leads_on, is_lower, is_ranked, is_row}
@@ -41,8 +41,8 @@ first_goes Read c h e = omega arith
 
 -- ---- the sizes
 
-pub few-rows : (rows : ℕ) → (eqb rows 0 || ltb belief_limit rows) ≡ false → (0 < rows) × (rows ≤ belief_limit)
-few-rows rows e =
+pub few_rows : (rows : ℕ) → (eqb rows 0 || ltb belief_limit rows) ≡ false → (0 < rows) × (rows ≤ belief_limit)
+few_rows rows e =
     let some = eqb-false rows 0 (or_left (eqb rows 0) (ltb belief_limit rows) e) in
     (omega arith, ltb-false belief_limit rows (or_right (eqb rows 0) (ltb belief_limit rows) e))
 
@@ -50,16 +50,16 @@ module _ (cells : ℕ) (shape : Shape) where
   abbrev rows : ℕ
   rows = shape.rows
 
-  pub sized-fails : (eqb rows 0 || ltb belief_limit rows) ≡ true → false ≡ is_sized cells shape
-  sized-fails e =
+  pub sized_fails : (eqb rows 0 || ltb belief_limit rows) ≡ true → false ≡ is_sized cells shape
+  sized_fails e =
       elim (or_cases (eqb rows 0) (ltb belief_limit rows) e) [
         | inl z ↦ rw (le-ltb 0 rows (omega (arith, eqb-true rows 0 z))) refl
         | inr h ↦ let g = ltb-true belief_limit rows h in rw (lt-ltb 0 rows (omega arith), lt-leb rows belief_limit g) refl
       ]
 
-  pub sized-left : (size : ℕ) → size ≡ row_size shape.order → (eqb rows 0 || ltb belief_limit rows) ≡ false
+  pub sized_left : (size : ℕ) → size ≡ row_size shape.order → (eqb rows 0 || ltb belief_limit rows) ≡ false
       → (leb (rows * size) cells && leb shape.observed kind_limit) ≡ is_sized cells shape
-  sized-left size q e = let (some, few) = few-rows rows e in rw (q, lt-ltb 0 rows some, le-leb rows belief_limit few) refl
+  sized_left size q e = let (some, few) = few_rows rows e in rw (q, lt-ltb 0 rows some, le-leb rows belief_limit few) refl
 
 -- the product that the code makes
 pub size_fits : (o : Order) (rows size : ℕ) → rows ≤ belief_limit → size ≡ row_size o → rows * size < 2 ^ 64
@@ -76,11 +76,11 @@ module _ (o : Order) (t : List ℕ) (row x : ℕ) (first : x ≡ first_cell o t 
   moves n = ne_eqb (first_cell o t row) stop_cell (λ e. n (first ∙ e))
 
 module _ (t : List ℕ) (shape : Shape) (row x : ℕ) (first : x ≡ first_cell shape.order t row) where
-  pub stop-count : x ≡ stop_cell → 0 ≡ next_count t shape row
-  stop-count e = rw (stops shape.order t row x first e) refl
+  pub stop_count : x ≡ stop_cell → 0 ≡ next_count t shape row
+  stop_count e = rw (stops shape.order t row x first e) refl
 
-  pub move-count : (x ≡ stop_cell → ⊥) → shape.observed ≤ kind_limit → 1 * 2 ^ shape.observed % 18446744073709551616 ≡ next_count t shape row
-  move-count n h = rw (moves shape.order t row x first n) (shl_one shape.observed (omega arith))
+  pub move_count : (x ≡ stop_cell → ⊥) → shape.observed ≤ kind_limit → 1 * 2 ^ shape.observed % 18446744073709551616 ≡ next_count t shape row
+  move_count n h = rw (moves shape.order t row x first n) (shl_one shape.observed (omega arith))
 
 pub count_le : (t : List ℕ) (shape : Shape) (row : ℕ) → shape.observed ≤ kind_limit → next_count t shape row ≤ side_limit
 count_le t shape row h = at (is_stop shape.order t row)
@@ -92,29 +92,29 @@ count_le t shape row h = at (is_stop shape.order t row)
 -- ---- a row's rank, x, by itself
 
 module _ (t : List ℕ) (shape : Shape) (row x : ℕ) (rank : x ≡ rank_cell shape.order t row) where
-  pub rank-out : shape.rows ≤ x → false ≡ rank_fits t shape row
-  rank-out h = rw (sym rank, le-ltb x shape.rows h) refl
+  pub rank_out : shape.rows ≤ x → false ≡ rank_fits t shape row
+  rank_out h = rw (sym rank, le-ltb x shape.rows h) refl
 
   module _ (h : x < shape.rows) (y : ℕ) (first : y ≡ first_cell shape.order t row) where
-    pub rank-stops : y ≡ stop_cell → eqb x 0 ≡ rank_fits t shape row
-    rank-stops e = rw (sym rank, lt-ltb x shape.rows h, stops shape.order t row y first e) refl
+    pub rank_stops : y ≡ stop_cell → eqb x 0 ≡ rank_fits t shape row
+    rank_stops e = rw (sym rank, lt-ltb x shape.rows h, stops shape.order t row y first e) refl
 
-    pub rank-goes : (y ≡ stop_cell → ⊥) → ltb 0 x ≡ rank_fits t shape row
-    rank-goes n = rw (sym rank, lt-ltb x shape.rows h, moves shape.order t row y first n) refl
+    pub rank_goes : (y ≡ stop_cell → ⊥) → ltb 0 x ≡ rank_fits t shape row
+    rank_goes n = rw (sym rank, lt-ltb x shape.rows h, moves shape.order t row y first n) refl
 
 -- ---- a next row, and the cells of an observation
 
 module _ (t : List ℕ) (shape : Shape) (next : ℕ) where
-  pub next-out : shape.rows ≤ next → false ≡ is_next t shape next
-  next-out h = rw (le-ltb next shape.rows h) refl
+  pub next_out : shape.rows ≤ next → false ≡ is_next t shape next
+  next_out h = rw (le-ltb next shape.rows h) refl
 
   pub next_in : next < shape.rows → (x : ℕ) → x ≡ first_cell shape.order t next
       → is_next t shape next ≡ (is_first shape.order x && rank_fits t shape next)
   next_in h x first = rw (lt-ltb next shape.rows h, first) refl
 
 module _ (t : List ℕ) (shape : Shape) (row s x : ℕ) (choice : x ≡ choice_cell shape.order t row s) where
-  pub pair-out : side_limit ≤ x → false ≡ is_pair t shape row s
-  pair-out h = rw (sym choice, le-ltb x side_limit h) refl
+  pub pair_out : side_limit ≤ x → false ≡ is_pair t shape row s
+  pair_out h = rw (sym choice, le-ltb x side_limit h) refl
 
   pub pair_in : (a : Bool) → x < side_limit → (y : ℕ) → y ≡ next_cell shape.order t row s → a ≡ is_next t shape y → a ≡ is_pair t shape row s
   pair_in a h y next e = rw (sym choice, lt-ltb x side_limit h, sym next) e
@@ -122,18 +122,18 @@ module _ (t : List ℕ) (shape : Shape) (row s x : ℕ) (choice : x ≡ choice_c
 -- ---- a row: its first cell with its observations, and its rank with those of its next rows
 
 module _ (t : List ℕ) (shape : Shape) (row : ℕ) where
-  pub leads-is : (x : ℕ) → x ≡ first_cell shape.order t row
+  pub leads_is : (x : ℕ) → x ≡ first_cell shape.order t row
       → leads_on t shape row ≡ (is_first shape.order x && all (next_count t shape row) (is_pair t shape row))
   unfolding leads_on
-  leads-is x first = rw first refl
+  leads_is x first = rw first refl
 
-  pub lower-is : (s next x y : ℕ) → next ≡ next_cell shape.order t row s → x ≡ rank_cell shape.order t next → y ≡ rank_cell shape.order t row
+  pub lower_is : (s next x y : ℕ) → next ≡ next_cell shape.order t row s → x ≡ rank_cell shape.order t next → y ≡ rank_cell shape.order t row
       → ltb x y ≡ is_lower t shape row s
-  lower-is s next x y leads rank own = rw (rank, own, leads) refl
+  lower_is s next x y leads rank own = rw (rank, own, leads) refl
 
-  pub ranked-is : is_ranked t shape row ≡ (rank_fits t shape row && all (next_count t shape row) (is_lower t shape row))
+  pub ranked_is : is_ranked t shape row ≡ (rank_fits t shape row && all (next_count t shape row) (is_lower t shape row))
   unfolding is_ranked
-  ranked-is = refl
+  ranked_is = refl
 
   pub row_is : is_row t shape row ≡ (leads_on t shape row && is_ranked t shape row)
   unfolding is_row
@@ -144,9 +144,9 @@ module _ (t : List ℕ) (shape : Shape) (row : ℕ) where
 pub blank_set : (o : Order) → o ≡ Set → (t : List ℕ) (row s y : ℕ) → y ≡ next_cell o t row s → eqb y 0 ≡ is_blank_at o t row s
 blank_set o e t row s y next = rw (next, e) refl
 
-pub blank-read : (o : Order) → o ≡ Read → (t : List ℕ) (row s x y : ℕ) → x ≡ choice_cell o t row s → y ≡ next_cell o t row s
+pub blank_read : (o : Order) → o ≡ Read → (t : List ℕ) (row s x y : ℕ) → x ≡ choice_cell o t row s → y ≡ next_cell o t row s
     → (eqb x 0 && eqb y 0) ≡ is_blank_at o t row s
-blank-read o e t row s x y choice next = rw (choice, next, e) refl
+blank_read o e t row s x y choice next = rw (choice, next, e) refl
 
 -- ---- the unused cells of a row, which has cells for n observations
 
@@ -156,49 +156,49 @@ module _ (o : Order) (t : List ℕ) (row n : ℕ) where
   blank_at s = ltb s n || is_blank_at o t row s
 
   -- not both unused and filled
-  blank-test : (s : ℕ) (a : Bool) → a ≡ is_blank_at o t row s → (b : Bool) → (leb n s && not a) ≡ b → blank_at s ≡ not b
+  blank_test : (s : ℕ) (a : Bool) → a ≡ is_blank_at o t row s → (b : Bool) → (leb n s && not a) ≡ b → blank_at s ≡ not b
   unfolding blank_at
-  blank-test s a q b e = ap (λ c. ltb s n || c) (sym q) ∙ at (test (leb n s)) ∙ ap not e
+  blank_test s a q b e = ap (λ c. ltb s n || c) (sym q) ∙ at (test (leb n s)) ∙ ap not e
     where
       at : (leb n s ≡ true) ⊎ (leb n s ≡ false) → (ltb s n || a) ≡ not (leb n s && not a)
       at (inl l) = rw (l, le-ltb s n (leb-true n s l)) (sym (not-not a))
       at (inr l) = rw (l, lt-ltb s n (leb-false n s l)) refl
 
-  pub blank-more : (s : ℕ) (a : Bool) → a ≡ is_blank_at o t row s → (leb n s && not a) ≡ false → all s blank_at ≡ true → all (s + 1) blank_at ≡ true
-  blank-more s a q e l = all_more s blank_at l (blank-test s a q false e)
+  pub blank_more : (s : ℕ) (a : Bool) → a ≡ is_blank_at o t row s → (leb n s && not a) ≡ false → all s blank_at ≡ true → all (s + 1) blank_at ≡ true
+  blank_more s a q e l = all_more s blank_at l (blank_test s a q false e)
 
 module _ (t : List ℕ) (shape : Shape) (row n : ℕ) (m : n ≡ next_count t shape row) where
   abbrev tested : ℕ → Bool
   tested = blank_at shape.order t row n
 
-  blank-is : is_blank t shape row ≡ all side_limit tested
+  blank_is : is_blank t shape row ≡ all side_limit tested
   unfolding is_blank blank_at
-  blank-is = rw m refl
+  blank_is = rw m refl
 
-  pub blank-fails : (s : ℕ) (a : Bool) → a ≡ is_blank_at shape.order t row s → s < side_limit → (leb n s && not a) ≡ true
+  pub blank_fails : (s : ℕ) (a : Bool) → a ≡ is_blank_at shape.order t row s → s < side_limit → (leb n s && not a) ≡ true
       → false ≡ is_blank t shape row
-  blank-fails s a q h e = sym (blank-is ∙ all-fails side_limit tested s h (blank-test shape.order t row n s a q true e))
+  blank_fails s a q h e = sym (blank_is ∙ all_fails side_limit tested s h (blank_test shape.order t row n s a q true e))
 
-  pub blank-passes : (s : ℕ) → s ≤ side_limit → side_limit ≤ s → all s tested ≡ true → true ≡ is_blank t shape row
-  blank-passes s h g l = sym (blank-is ∙ all_done s side_limit tested (omega arith) l)
+  pub blank_passes : (s : ℕ) → s ≤ side_limit → side_limit ≤ s → all s tested ≡ true → true ≡ is_blank t shape row
+  blank_passes s h g l = sym (blank_is ∙ all_done s side_limit tested (omega arith) l)
 
 -- ---- all rows
 
 module _ (t : List ℕ) (shape : Shape) where
   module _ (row : ℕ) (a b : Bool) (p : a ≡ is_row t shape row) (q : b ≡ is_blank t shape row) where
-    prints-test : (o : Bool) → (not a || not b) ≡ o → is_printable_row t shape row ≡ not o
+    prints_test : (o : Bool) → (not a || not b) ≡ o → is_printable_row t shape row ≡ not o
     unfolding is_printable_row
-    prints-test o e = ap₂ ◌&&◌ (sym p) (sym q) ∙ both a b ∙ ap not e
+    prints_test o e = ap₂ ◌&&◌ (sym p) (sym q) ∙ both a b ∙ ap not e
       where
         both : (a b : Bool) → a && b ≡ not (not a || not b)
         both true b = sym (not-not b)
         both false b = refl
 
     pub rows_fail : row < shape.rows → (not a || not b) ≡ true → false ≡ all shape.rows (is_printable_row t shape)
-    rows_fail h e = sym (all-fails shape.rows (is_printable_row t shape) row h (prints-test true e))
+    rows_fail h e = sym (all_fails shape.rows (is_printable_row t shape) row h (prints_test true e))
 
     pub rows_more : (not a || not b) ≡ false → all row (is_printable_row t shape) ≡ true → all (row + 1) (is_printable_row t shape) ≡ true
-    rows_more e l = all_more row (is_printable_row t shape) l (prints-test false e)
+    rows_more e l = all_more row (is_printable_row t shape) l (prints_test false e)
 
   pub rows_pass : (row : ℕ) → row ≤ shape.rows → shape.rows ≤ row → all row (is_printable_row t shape) ≡ true
       → true ≡ all shape.rows (is_printable_row t shape)
@@ -212,9 +212,9 @@ module _ (t : List ℕ) (shape : Shape) (worst : ℕ) (a : Bool) (e : a ≡ is_s
   sizes_fail f = rw (sym e, not-true a f) refl
 
   module _ (f : not a ≡ false) (x : ℕ) (rank : x ≡ rank_cell shape.order t 0) where
-    pub worst-fails : (x ≡ worst → ⊥) → false ≡ is_printable t shape worst
+    pub worst_fails : (x ≡ worst → ⊥) → false ≡ is_printable t shape worst
     unfolding is_printable
-    worst-fails n = rw (sym e, not-false a f, sym rank, ne_eqb x worst n) refl
+    worst_fails n = rw (sym e, not-false a f, sym rank, ne_eqb x worst n) refl
 
     pub rows_left : x ≡ worst → (b : Bool) → b ≡ all shape.rows (is_printable_row t shape) → b ≡ is_printable t shape worst
     unfolding is_printable

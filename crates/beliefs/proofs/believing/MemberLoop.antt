@@ -15,9 +15,9 @@ use borrow.Author.Tests.{eqb-true, eq-eqb, ne_eqb}
 use Rattle.basics.specs.Bits.{bit}
 use Rattle.basics.specs.Bounded.{all, any}
 use Rattle.basics.specs.Lists.{tabulate, written}
-use Rattle.basics.proofs.BitsLaws.{bit_test, bit-low, low_lt}
+use Rattle.basics.proofs.BitsLaws.{bit_test, bit_low, low_lt}
 use Rattle.basics.proofs.Booleans.{test, clash, and_left, and_right, and_true, or_intro_left, or_intro_right}
-use Rattle.basics.proofs.BoundedLaws.{last_or_before, all-at, all_of, all_more, all-fails, all_not, any_suc, any_at, any_of, any_ext}
+use Rattle.basics.proofs.BoundedLaws.{last_or_before, all_at, all_of, all_more, all_fails, all_not, any_suc, any_at, any_of, any_ext}
 use Rattle.basics.proofs.Filling.{put_next}
 use Rattle.basics.proofs.ListsLaws.{get_d_tabulate, tabulate_ext}
 use Rattle.search.specs.Limits.{state_limit, set_size}
@@ -26,7 +26,7 @@ use Rattle.play.specs.Belief.{has, every}
 use Rattle.beliefs.specs.BeliefMemory.{belief_size, pack_belief, belief_in, successor_in, Successors, belief_after, accepts_in}
 use Rattle.beliefs.specs.BeliefMemory.{passing, members_of, Members, Leads, is_member, belief_of, all_accept, with_hidden, after_members}
 use Rattle.beliefs.proofs.LimitsLaws.{state_bits}
-use Rattle.beliefs.proofs.BeliefMemoryLaws.{Bits, bits-same, bits_unique, bits_none, bits-hidden, belief_bits, has-table, leads_to, letter_lt}
+use Rattle.beliefs.proofs.BeliefMemoryLaws.{Bits, bits_same, bits_unique, bits_none, bits_hidden, belief_bits, has_table, leads_to, letter_lt}
 
 -- ---- members and the belief that has them
 
@@ -34,39 +34,39 @@ pub member_is : (members : List ℕ) (count i : ℕ) → i < count → is_member
 unfolding is_member
 member_is members count i h = any_of count _ i h (eq-eqb (get_or members i 0) (get_or members i 0) refl)
 
-pub member-at : (members : List ℕ) (count s : ℕ) → is_member members count s ≡ true → (i : ℕ) × (i < count) × (get_or members i 0 ≡ s)
+pub member_at : (members : List ℕ) (count s : ℕ) → is_member members count s ≡ true → (i : ℕ) × (i < count) × (get_or members i 0 ≡ s)
 unfolding is_member
-member-at members count s t = let (i, h, e) = any_at count _ t in (i, h, eqb-true (get_or members i 0) s e)
+member_at members count s t = let (i, h, e) = any_at count _ t in (i, h, eqb-true (get_or members i 0) s e)
 
-member-more : (members : List ℕ) (c s : ℕ) → is_member members (suc c) s ≡ (eqb (get_or members c 0) s || is_member members c s)
+member_more : (members : List ℕ) (c s : ℕ) → is_member members (suc c) s ≡ (eqb (get_or members c 0) s || is_member members c s)
 unfolding is_member
-member-more members c s = any_suc c (λ i. eqb (get_or members i 0) s)
+member_more members c s = any_suc c (λ i. eqb (get_or members i 0) s)
 
 member_ext : (v w : List ℕ) (c s : ℕ) → ((i : ℕ) → i < c → get_or v i 0 ≡ get_or w i 0) → is_member v c s ≡ is_member w c s
 unfolding is_member
 member_ext v w c s e = any_ext c _ _ (λ i l. ap (λ x. eqb x s) (e i l))
 
-has-member : (n : ℕ) (members : List ℕ) (count s : ℕ) → s < n → has (belief_of n members count) s ≡ is_member members count s
+has_member : (n : ℕ) (members : List ℕ) (count s : ℕ) → s < n → has (belief_of n members count) s ≡ is_member members count s
 unfolding belief_of
-has-member n members count s h = get_d_tabulate n (is_member members count) s false h
+has_member n members count s h = get_d_tabulate n (is_member members count) s false h
 
 pub members_fewer : (n m : ℕ) (members : List ℕ) (count : ℕ) → n ≤ m → Members n members count → Members m members count
 members_fewer n m members count h g = record { fits = g.fits; small = λ i l. omega (arith, g.small i l) }
 
 module _ (n : ℕ) (members : List ℕ) (count : ℕ) (g : Members n members count) where
   -- some member passes a test, if some state of the belief does
-  any-member : (ok : ℕ → Bool) → any count (λ i. ok (get_or members i 0)) ≡ any n (λ s. has (belief_of n members count) s && ok s)
-  any-member ok = elim (test (any n (λ s. has (belief_of n members count) s && ok s))) [
+  any_member : (ok : ℕ → Bool) → any count (λ i. ok (get_or members i 0)) ≡ any n (λ s. has (belief_of n members count) s && ok s)
+  any_member ok = elim (test (any n (λ s. has (belief_of n members count) s && ok s))) [
     | inl t ↦
         let (s, h, e) = any_at n _ t in
-        let there = sym (has-member n members count s h) ∙ and_left (has (belief_of n members count) s) (ok s) e in
-        let (i, l, q) = member-at members count s there in
+        let there = sym (has_member n members count s h) ∙ and_left (has (belief_of n members count) s) (ok s) e in
+        let (i, l, q) = member_at members count s there in
         any_of count _ i l (ap ok q ∙ and_right (has (belief_of n members count) s) (ok s) e) ∙ sym t
     | inr f ↦ elim (test (any count (λ i. ok (get_or members i 0)))) [
       | inr e ↦ e ∙ sym f
       | inl t ↦
           let (i, l, e) = any_at count _ t in
-          let there = has-member n members count (get_or members i 0) (g.small i l) ∙ member_is members count i l in
+          let there = has_member n members count (get_or members i 0) (g.small i l) ∙ member_is members count i l in
           clash (any_of n _ (get_or members i 0) (g.small i l) (and_true there e)) f
     ]
   ]
@@ -79,23 +79,23 @@ module _ (n : ℕ) (members : List ℕ) (count : ℕ) (g : Members n members cou
     | inr f ↦
         let (i, l, e) = all_not count _ f in
         let s = get_or members i 0 in
-        let there = has-member n members count s (g.small i l) ∙ member_is members count i l in
-        f ∙ sym (all-fails n _ s (g.small i l) (ap₂ (λ b c. not b || c) there e))
+        let there = has_member n members count s (g.small i l) ∙ member_is members count i l in
+        f ∙ sym (all_fails n _ s (g.small i l) (ap₂ (λ b c. not b || c) there e))
   ]
     where
       passes : all count (λ i. accepts_in sets (get_or members i 0)) ≡ true → (s : ℕ) → s < n
           → (is_member members count s ≡ true) ⊎ (is_member members count s ≡ false)
           → (not (has (belief_of n members count) s) || accepts_in sets s) ≡ true
       passes t s h (inl m) =
-          let (i, l, q) = member-at members count s m in
-          or_intro_right (not (has (belief_of n members count) s)) (ap (accepts_in sets) (sym q) ∙ all-at count _ t i l)
-      passes t s h (inr m) = or_intro_left (accepts_in sets s) (ap not (has-member n members count s h ∙ m))
+          let (i, l, q) = member_at members count s m in
+          or_intro_right (not (has (belief_of n members count) s)) (ap (accepts_in sets) (sym q) ∙ all_at count _ t i l)
+      passes t s h (inr m) = or_intro_left (accepts_in sets s) (ap not (has_member n members count s h ∙ m))
 
 -- ---- the belief after a pair
 
-after-start : (successors members : List ℕ) (q pairs hiddens : ℕ) → after_members successors members q pairs hiddens 0 ≡ replicate belief_size 0
+after_start : (successors members : List ℕ) (q pairs hiddens : ℕ) → after_members successors members q pairs hiddens 0 ≡ replicate belief_size 0
 unfolding after_members
-after-start successors members q pairs hiddens = refl
+after_start successors members q pairs hiddens = refl
 
 after_next : (successors members : List ℕ) (q pairs hiddens c : ℕ)
     → after_members successors members q pairs hiddens (suc c)
@@ -113,19 +113,19 @@ module _ (successors members : List ℕ) (n count pairs hiddens q : ℕ) (few : 
   abbrev reaches : ℕ → ℕ → Bool
   reaches c p = any c (λ i. leads_to successors q pairs hiddens (get_or members i 0) p)
 
-  after-bits : (c : ℕ) → c ≤ count → Bits (after_members successors members q pairs hiddens c) (reaches c)
-  after-bits zero h = subst (λ l. Bits l (reaches 0)) (sym (after-start successors members q pairs hiddens)) (bits-same _ bits_none (λ p l. refl))
-  after-bits (suc c) h =
+  after_bits : (c : ℕ) → c ≤ count → Bits (after_members successors members q pairs hiddens c) (reaches c)
+  after_bits zero h = subst (λ l. Bits l (reaches 0)) (sym (after_start successors members q pairs hiddens)) (bits_same _ bits_none (λ p l. refl))
+  after_bits (suc c) h =
       subst (λ l. Bits l (reaches (suc c))) (sym (after_next successors members q pairs hiddens c))
-      (bits-same _ (bits-hidden (after-bits c (omega arith)) successors (get_or members c 0) q pairs hiddens
+      (bits_same _ (bits_hidden (after_bits c (omega arith)) successors (get_or members c 0) q pairs hiddens
       (λ k l. omega (arith, state_bits, members_lead.small c (q + k * pairs) h (letter_lt q pairs k hiddens q-lt l))))
       (λ p l. or_comm (reaches c p) (leads_to successors q pairs hiddens (get_or members c 0) p)
       ∙ sym (any_suc c (λ i. leads_to successors q pairs hiddens (get_or members i 0) p))))
 
   -- nothing leads out of the n states
-  reaches-inside : (p : ℕ) → n ≤ p → reaches count p ≡ false
+  reaches_inside : (p : ℕ) → n ≤ p → reaches count p ≡ false
   unfolding leads_to
-  reaches-inside p h = elim (test (reaches count p)) [
+  reaches_inside p h = elim (test (reaches count p)) [
     | inr e ↦ e
     | inl t ↦
         let (i, l, y) = any_at count _ t in
@@ -139,14 +139,14 @@ module _ (successors members : List ℕ) (n count pairs hiddens q : ℕ) (few : 
 
   after_is : belief_after successors n pairs hiddens (belief_of n members count) q ≡ tabulate n (reaches count)
   unfolding belief_after leads_to
-  after_is = tabulate_ext n _ _ (λ p h. sym (any-member n members count g (λ s. leads_to successors q pairs hiddens s p)))
+  after_is = tabulate_ext n _ _ (λ p h. sym (any_member n members count g (λ s. leads_to successors q pairs hiddens s p)))
 
   -- what the members lead to is the belief after the pair
   pub after_belief : after_members successors members q pairs hiddens count
       ≡ pack_belief (belief_after successors n pairs hiddens (belief_of n members count) q)
   after_belief =
-      bits_unique (after-bits count (omega arith)) (belief_bits (tabulate n (reaches count)))
-      (λ p l. sym (has-table n (reaches count) p (reaches-inside p)))
+      bits_unique (after_bits count (omega arith)) (belief_bits (tabulate n (reaches count)))
+      (λ p l. sym (has_table n (reaches count) p (reaches_inside p)))
       ∙ ap pack_belief (sym after_is)
 
 -- ---- what the functions do
@@ -155,9 +155,9 @@ passing_with : (ok : ℕ → Bool) (s : ℕ) → ok s ≡ true → passing ok (s
 unfolding passing
 passing_with ok s t = rw (add-one s, t)
 
-passing-without : (ok : ℕ → Bool) (s : ℕ) → ok s ≡ false → passing ok (s + 1) ≡ passing ok s
+passing_without : (ok : ℕ → Bool) (s : ℕ) → ok s ≡ false → passing ok (s + 1) ≡ passing ok s
 unfolding passing
-passing-without ok s f = rw (add-one s, f) (append-nil (passing ok s))
+passing_without ok s f = rw (add-one s, f) (append-nil (passing ok s))
 
 pub passing_ext : (ok ok' : ℕ → Bool) (n : ℕ) → ((s : ℕ) → s < n → ok s ≡ ok' s) → passing ok n ≡ passing ok' n
 unfolding passing
@@ -186,13 +186,13 @@ module _ {ok : ℕ → Bool} {old : List ℕ} {s c : ℕ} {w : List ℕ} (g : Ga
         size = length-set w c s ∙ g.size;
         few = omega (arith, g.few);
         count = omega (arith, g.count, ap length (passing_with ok s t) ∙ length-append (passing ok s) (s ∷ []));
-        listed = written-more;
+        listed = written_more;
         small = λ i l. small_at i (last_or_before c i l);
         holds = λ p l. holds_at p (last_or_before s p l);
       })
     where
-      written-more : set w c s ≡ passing ok (s + 1) ++ drop (c + 1) old
-      written-more =
+      written_more : set w c s ≡ passing ok (s + 1) ++ drop (c + 1) old
+      written_more =
           ap (λ l. set l c s) g.listed ∙ put_next (passing ok s) old c s (sym g.count) (omega (arith, g.few, size))
           ∙ ap (λ l. l ++ drop (c + 1) old) (sym (passing_with ok s t))
 
@@ -208,7 +208,7 @@ module _ {ok : ℕ → Bool} {old : List ℕ} {s c : ℕ} {w : List ℕ} (g : Ga
 
       more : (p : ℕ) → is_member (set w c s) (c + 1) p ≡ (eqb s p || is_member w c p)
       more p =
-          ap (λ j. is_member (set w c s) j p) (add-one c) ∙ member-more (set w c s) c p
+          ap (λ j. is_member (set w c s) j p) (add-one c) ∙ member_more (set w c s) c p
           ∙ ap₂ (λ x b. eqb x p || b) new (member_ext (set w c s) w c p before)
 
       holds_at : (p : ℕ) → (p ≡ s) ⊎ (p < s) → is_member (set w c s) (c + 1) p ≡ ok p
@@ -220,15 +220,15 @@ module _ {ok : ℕ → Bool} {old : List ℕ} {s c : ℕ} {w : List ℕ} (g : Ga
       rw (e, r) (record {
         size = g.size;
         few = omega (arith, g.few);
-        count = g.count ∙ sym (ap length (passing-without ok s f));
-        listed = g.listed ∙ sym (ap (λ l. l ++ drop c old) (passing-without ok s f));
+        count = g.count ∙ sym (ap length (passing_without ok s f));
+        listed = g.listed ∙ sym (ap (λ l. l ++ drop c old) (passing_without ok s f));
         small = λ i l. omega (arith, g.small i l);
         holds = λ p l. holds_at p (last_or_before s p l);
       })
     where
       none : is_member w c s ≡ false
       none = elim (test (is_member w c s)) [
-        | inl t ↦ let (i, l, q) = member-at w c s t in absurd (omega (arith, g.small i l, q))
+        | inl t ↦ let (i, l, q) = member_at w c s t in absurd (omega (arith, g.small i l, q))
         | inr q ↦ q
       ]
 
@@ -268,7 +268,7 @@ gathered_all mem i n {old} {s} {c} {w} g e h =
 
 -- `is_final`
 low_bit : (x : ℕ) → bit x 0 ≡ eqb (bit_and x 1) 1
-low_bit x = bit-low x ∙ ap (λ y. eqb y 1) (sym (and_mask x 1))
+low_bit x = bit_low x ∙ ap (λ y. eqb y 1) (sym (and_mask x 1))
 
 module _ (sets members : List ℕ) where
   pub accept_none : all_accept sets members 0 ≡ true
@@ -285,12 +285,12 @@ module _ (sets members : List ℕ) where
   pub accept_fails : (count i : ℕ) → i < count → bit_and (get_or sets (get_or members i 0 * set_size) 0) 1 ≡ 0 → all_accept sets members count ≡ false
   unfolding all_accept
   accept_fails count i h e =
-      all-fails count _ i h (low_bit (get_or sets (get_or members i 0 * set_size) 0) ∙ ap (λ y. eqb y 1) e)
+      all_fails count _ i h (low_bit (get_or sets (get_or members i 0 * set_size) 0) ∙ ap (λ y. eqb y 1) e)
 
 -- `put_after`
 pub after_none : (successors members : List ℕ) (q pairs hiddens : ℕ) (w : List ℕ) (m : ℕ) → m ≡ belief_size → w ≡ replicate m 0
     → w ≡ after_members successors members q pairs hiddens 0
-after_none successors members q pairs hiddens w m e r = r ∙ ap (λ k. replicate k 0) e ∙ sym (after-start successors members q pairs hiddens)
+after_none successors members q pairs hiddens w m e r = r ∙ ap (λ k. replicate k 0) e ∙ sym (after_start successors members q pairs hiddens)
 
 pub after_more : (successors members : List ℕ) (q pairs hiddens i : ℕ) (w v : List ℕ) → w ≡ after_members successors members q pairs hiddens i
     → v ≡ with_hidden successors (get_or members i 0) q pairs hiddens w → v ≡ after_members successors members q pairs hiddens (i + 1)

@@ -15,7 +15,7 @@ use Rattle.play.specs.Limits.{belief_limit, pair_limit}
 use Rattle.play.specs.Belief.{Belief}
 use Rattle.play.specs.Table.{list_of}
 use Rattle.beliefs.specs.BeliefMemory.{counted_beliefs, moves_of, finals_of, RanBeliefs}
-use Rattle.beliefs.proofs.ListedBeliefs.{counted-some, counted-over, beliefs-few}
+use Rattle.beliefs.proofs.ListedBeliefs.{counted_some, counted_over, beliefs_few}
 
 module _ (sets successors : List ℕ) (n pairs hiddens : ℕ) where
   abbrev l : Listing Belief
@@ -24,49 +24,49 @@ module _ (sets successors : List ℕ) (n pairs hiddens : ℕ) where
   -- the beliefs are k
   module _ (k : ℕ) (got : Found k ≡ explored_of l) where
     abbrev found : (bs : List Belief) × (l ≡ closed bs) × (length bs ≡ k)
-    found = counted-some l k got
+    found = counted_some l k got
 
     abbrev bs : List Belief
     bs = found.0
 
-    pub explored-few : k ≤ belief_limit
-    explored-few = subst (λ m. m ≤ belief_limit) found.2 (beliefs-few sets successors n pairs hiddens belief_limit bs found.1)
+    pub explored_few : k ≤ belief_limit
+    explored_few = subst (λ m. m ≤ belief_limit) found.2 (beliefs_few sets successors n pairs hiddens belief_limit bs found.1)
 
     module _ (marks : List ℕ) (size : length marks ≡ belief_limit) where
       -- the first k marks
       abbrev front : List ℕ
       front = take (k - 0) (drop 0 marks)
 
-      front-is : front ≡ take k marks
-      front-is = let z : k - 0 ≡ k = omega arith in ap (λ m. take m marks) z
+      front_is : front ≡ take k marks
+      front_is = let z : k - 0 ≡ k = omega arith in ap (λ m. take m marks) z
 
-      pub explored-room : (finals : List ℕ) → belief_limit ≤ length finals → 0 + length front ≤ length finals
-      explored-room finals room =
-          omega (arith, explored-few, ap length front-is ∙ length-take-le k marks (omega (arith, explored-few, size)))
+      pub explored_room : (finals : List ℕ) → belief_limit ≤ length finals → 0 + length front ≤ length finals
+      explored_room finals room =
+          omega (arith, explored_few, ap length front_is ∙ length-take-le k marks (omega (arith, explored_few, size)))
 
     module _ (moves marks : List ℕ) (ran : RanBeliefs sets successors n pairs hiddens l moves marks) where
       ran_closed : RanBeliefs sets successors n pairs hiddens (closed bs) moves marks
       ran_closed = subst (λ r. RanBeliefs sets successors n pairs hiddens r moves marks) found.1 ran
 
-      pub explored-moves : length moves ≡ belief_limit * pair_limit → moves ≡ padded (belief_limit * pair_limit) (moves_of sets successors n pairs hiddens l)
-      explored-moves size =
+      pub explored_moves : length moves ≡ belief_limit * pair_limit → moves ≡ padded (belief_limit * pair_limit) (moves_of sets successors n pairs hiddens l)
+      explored_moves size =
           ran_closed.0 ∙ ap₂ (λ m r. padded m (moves_of sets successors n pairs hiddens r)) size (sym found.1)
 
-      pub explored-finals : (size : length marks ≡ belief_limit) (finals finals' : List ℕ) → belief_limit ≤ length finals
+      pub explored_finals : (size : length marks ≡ belief_limit) (finals finals' : List ℕ) → belief_limit ≤ length finals
           → finals' ≡ stored finals 0 (front marks size)
           → finals' ≡ written (finals_of sets n (list_of l)) finals
       unfolding finals_of
-      explored-finals size finals finals' room e =
-          e ∙ put_front (front marks size) finals (omega (arith, explored-room marks size finals room))
-          ∙ ap (λ t. written t finals) (front-is marks size ∙ ap (λ m. take m marks) (sym found.2) ∙ ran_closed.1)
+      explored_finals size finals finals' room e =
+          e ∙ put_front (front marks size) finals (omega (arith, explored_room marks size finals room))
+          ∙ ap (λ t. written t finals) (front_is marks size ∙ ap (λ m. take m marks) (sym found.2) ∙ ran_closed.1)
           ∙ ap (λ r. written (finals_of sets n (list_of r)) finals) (sym found.1)
 
   -- they are too many
   module _ (many : TooMany ≡ explored_of l) where
-    pub cleared-moves : (m : ℕ) → m ≡ belief_limit * pair_limit → replicate m 0 ≡ padded (belief_limit * pair_limit) (moves_of sets successors n pairs hiddens l)
-    cleared-moves m size =
-        ap (λ j. replicate j 0) size ∙ ap (λ r. padded (belief_limit * pair_limit) (moves_of sets successors n pairs hiddens r)) (sym (counted-over l many))
+    pub cleared_moves : (m : ℕ) → m ≡ belief_limit * pair_limit → replicate m 0 ≡ padded (belief_limit * pair_limit) (moves_of sets successors n pairs hiddens l)
+    cleared_moves m size =
+        ap (λ j. replicate j 0) size ∙ ap (λ r. padded (belief_limit * pair_limit) (moves_of sets successors n pairs hiddens r)) (sym (counted_over l many))
 
-    pub left-finals : (finals : List ℕ) → finals ≡ written (finals_of sets n (list_of l)) finals
+    pub left_finals : (finals : List ℕ) → finals ≡ written (finals_of sets n (list_of l)) finals
     unfolding finals_of
-    left-finals finals = ap (λ r. written (finals_of sets n (list_of r)) finals) (sym (counted-over l many))
+    left_finals finals = ap (λ r. written (finals_of sets n (list_of r)) finals) (sym (counted_over l many))

@@ -20,7 +20,7 @@ use borrow.Author.Tests.{le-ltb}
 use Rattle.basics.proofs.BoundedLaws.{first_le}
 use Rattle.search.proofs.SlotsLaws.{length_items_in}
 use Rattle.search.proofs.SearchTurns.{whole_row}
-use Rattle.search.proofs.StepsFromItem.{reading-none, Adding, Answers, adding_all, adding_copy, adding_old, adding_new, adding_over}
+use Rattle.search.proofs.StepsFromItem.{reading_none, Adding, Answers, adding_all, adding_copy, adding_old, adding_new, adding_over}
 use Rattle.play.specs.Limits.{belief_limit}
 use Rattle.play.specs.Belief.{Belief}
 use Rattle.beliefs.specs.BeliefMemory.{belief_size, hint_size, pack_belief, beliefs_in, HoldsBeliefs, Apart}
@@ -30,15 +30,15 @@ use Rattle.beliefs.proofs.LimitsLaws.{belief_byte}
 use Rattle.beliefs.proofs.BeliefMemoryLaws.{belief_packing, length_after}
 use Rattle.beliefs.proofs.believing.MemberLoop.{members_fewer, members_lead, after_belief}
 use Rattle.beliefs.proofs.TwinsLaws.{twin_after}
-use Rattle.beliefs.proofs.ApartPlaces.{apart-items, distinct-grown}
+use Rattle.beliefs.proofs.ApartPlaces.{apart_items, distinct_grown}
 
 -- a place that is not the last one has a number of one byte
-pub place-small : (p : ℕ → Bool) (m t : ℕ) → t ≡ first_that p m → m ≤ belief_limit → (t ≡ belief_limit → ⊥) → t < 2 ^ 8
-place-small p m t e h ne = omega (arith, first_le p m, belief_byte)
+pub place_small : (p : ℕ → Bool) (m t : ℕ) → t ≡ first_that p m → m ≤ belief_limit → (t ≡ belief_limit → ⊥) → t < 2 ^ 8
+place_small p m t e h ne = omega (arith, first_le p m, belief_byte)
 
 -- the last place is found only where it is written
-last-place : (p : ℕ → Bool) (m t : ℕ) → t ≡ first_that p m → m ≤ belief_limit → t ≡ belief_limit → t ≡ m
-last-place p m t e h l = omega (arith, first_le p m)
+last_place : (p : ℕ → Bool) (m t : ℕ) → t ≡ first_that p m → m ≤ belief_limit → t ≡ belief_limit → t ≡ m
+last_place p m t e h l = omega (arith, first_le p m)
 
 -- ---- what is answered and left, with k beliefs in memory and a row lent
 
@@ -83,9 +83,9 @@ module _ (successors : List ℕ) (n hiddens : ℕ) (mem : List ℕ) (k : ℕ) (r
   same_tried pairs c c' b b' r mem' row' e f t =
       subst (λ x. TriedAll pairs c' x r mem' row') f (subst (λ j. TriedAll pairs j b r mem' row') e t)
 
-  pub same-pairs : (count : ℕ → ℕ) (pairs pairs' : ℕ) (b : Belief) (r : Explored) (mem' row' : List ℕ) → pairs ≡ pairs'
+  pub same_pairs_lem : (count : ℕ → ℕ) (pairs pairs' : ℕ) (b : Belief) (r : Explored) (mem' row' : List ℕ) → pairs ≡ pairs'
       → TriedAll pairs (count pairs) b r mem' row' → TriedAll pairs' (count pairs') b r mem' row'
-  same-pairs count pairs pairs' b r mem' row' e = subst (λ j. TriedAll j (count j) b r mem' row') e
+  same_pairs_lem count pairs pairs' b r mem' row' e = subst (λ j. TriedAll j (count j) b r mem' row') e
 
 -- ---- the loop
 
@@ -111,15 +111,15 @@ module _ (successors twins members : List ℕ) (c n hiddens : ℕ) (mem₀ : Lis
       Adding belief_size n pack_belief (belief_after successors n count hiddens) x (beliefs_in n mem₀ k) belief_limit count (length mem₀) q m mem row
       × Trying count × (pairs ≡ count) × (length hints ≡ hint_size)
 
-  pub kept-none : (hints row : List ℕ) → Trying (length row) → k ≤ belief_limit → HoldsBeliefs n mem₀ k → length hints ≡ hint_size
+  pub kept_none : (hints row : List ℕ) → Trying (length row) → k ≤ belief_limit → HoldsBeliefs n mem₀ k → length hints ≡ hint_size
       → Kept (length row) (length row) 0 k mem₀ hints row
-  kept-none hints row g few held long = (
+  kept_none hints row g few held long = (
     (
       omega arith,
       few,
       refl,
       refl,
-      reading-none belief_size n pack_belief (belief_after successors n (length row) hiddens) x (beliefs_in n mem₀ k) k mem₀ row refl held,
+      reading_none belief_size n pack_belief (belief_after successors n (length row) hiddens) x (beliefs_in n mem₀ k) k mem₀ row refl held,
     ),
     g,
     refl,
@@ -133,9 +133,9 @@ module _ (successors twins members : List ℕ) (c n hiddens : ℕ) (mem₀ : Lis
     -- the beliefs are different
     apart : Apart mem m
     apart =
-        apart-items n z.1.small mem m z.0.4.holds
+        apart_items n z.1.small mem m z.0.4.holds
         (subst Distinct (sym z.0.4.items)
-        (distinct-grown (belief_after successors n count hiddens) (below q) (beliefs_in n mem₀ k) x z.1.different))
+        (distinct_grown (belief_after successors n count hiddens) (below q) (beliefs_in n mem₀ k) x z.1.different))
 
     -- what `put_belief` asks
     pub put_asked : (length successors ≡ state_limit * letter_limit) × (Members state_limit members c × (Leads successors pairs hiddens members c
@@ -159,8 +159,8 @@ module _ (successors twins members : List ℕ) (c n hiddens : ℕ) (mem₀ : Lis
         )
 
     -- what it writes
-    target-bytes : after_members successors members q pairs hiddens c ≡ pack_belief (belief_after successors n count hiddens x q)
-    target-bytes =
+    target_bytes : after_members successors members q pairs hiddens c ≡ pack_belief (belief_after successors n count hiddens x q)
+    target_bytes =
         let g = z.1 in
         ap (λ j. after_members successors members q j hiddens c) z.2
         ∙ after_belief successors members n c count hiddens q g.small g.right g.listed within
@@ -180,17 +180,17 @@ module _ (successors twins members : List ℕ) (c n hiddens : ℕ) (mem₀ : Lis
     -- the belief is written behind the others, and found at place t
     module _ (w : List ℕ) (t : ℕ) (written : w ≡ with_item belief_size mem m (after_members successors members q pairs hiddens c))
         (found : t ≡ first_that (same_slot belief_size (with_item belief_size mem m (after_members successors members q pairs hiddens c)) m) m) where
-      w-is : w ≡ with_item belief_size mem m (pack_belief (belief_after successors n count hiddens x q))
-      w-is = written ∙ ap (with_item belief_size mem m) target-bytes
+      w_is : w ≡ with_item belief_size mem m (pack_belief (belief_after successors n count hiddens x q))
+      w_is = written ∙ ap (with_item belief_size mem m) target_bytes
 
       first : t ≡ first_that (same_slot belief_size w m) m
       first = found ∙ ap (λ v. first_that (same_slot belief_size v m) m) (sym written)
 
-      pub kept-old : (t ≡ m → ⊥) → (m' : ℕ) (mem' hints' row' : List ℕ) → mem' ≡ w → length hints' ≡ hint_size → row' ≡ set row q t → m' ≡ m
+      pub kept_old : (t ≡ m → ⊥) → (m' : ℕ) (mem' hints' row' : List ℕ) → mem' ≡ w → length hints' ≡ hint_size → row' ≡ set row q t → m' ≡ m
           → Kept count pairs (q + 1) m' mem' hints' row'
-      kept-old ne m' mem' hints' row' p h u s =
+      kept_old ne m' mem' hints' row' p h u s =
           rw (p, u, s) (
-            adding_old _ _ _ _ _ _ z.0 l (belief_packing n z.1.small) z.1.room (length_after _ n _ _ _ _) w t w-is first ne,
+            adding_old _ _ _ _ _ _ z.0 l (belief_packing n z.1.small) z.1.room (length_after _ n _ _ _ _) w t w_is first ne,
             z.1,
             z.2,
             h,
@@ -201,23 +201,23 @@ module _ (successors twins members : List ℕ) (c n hiddens : ℕ) (mem₀ : Lis
           → Kept count pairs (q + 1) m' mem' hints' row'
       kept_new e ne m' mem' hints' row' p h u s =
           rw (p, u, s) (
-            adding_new _ _ _ _ _ _ z.0 l (belief_packing n z.1.small) z.1.room (length_after _ n _ _ _ _) w t w-is first e (λ y. ne (e ∙ y)),
+            adding_new _ _ _ _ _ _ z.0 l (belief_packing n z.1.small) z.1.room (length_after _ n _ _ _ _) w t w_is first e (λ y. ne (e ∙ y)),
             z.1,
             z.2,
             h,
           )
 
       -- no place is left for it
-      pub kept-over : t ≡ belief_limit → (row₀ mem' row' : List ℕ) → length row₀ ≡ count
+      pub kept_over : t ≡ belief_limit → (row₀ mem' row' : List ℕ) → length row₀ ≡ count
           → TriedAll successors n hiddens mem₀ k row₀ count count x TooMany mem' row'
-      kept-over y row₀ mem' row' e =
-          let at = last-place (same_slot belief_size w m) m t first z.0.1 y in
+      kept_over y row₀ mem' row' e =
+          let at = last_place (same_slot belief_size w m) m t first z.0.1 y in
           tried_all successors n hiddens mem₀ k row₀ count x TooMany mem' row' e
-          (adding_over _ _ _ _ _ _ z.0 l (belief_packing n z.1.small) z.1.room (length_after _ n _ _ _ _) w t w-is first at (sym at
+          (adding_over _ _ _ _ _ _ z.0 l (belief_packing n z.1.small) z.1.room (length_after _ n _ _ _ _) w t w_is first at (sym at
           ∙ y) mem' row')
 
   -- every pair has been tried
-  pub kept-all : (count pairs q m : ℕ) (mem hints row : List ℕ) → Kept count pairs q m mem hints row → length row ≤ q → (row₀ : List ℕ) → length row₀ ≡ count
+  pub kept_all : (count pairs q m : ℕ) (mem hints row : List ℕ) → Kept count pairs q m mem hints row → length row ≤ q → (row₀ : List ℕ) → length row₀ ≡ count
       → TriedAll successors n hiddens mem₀ k row₀ count count x (Found m) mem row
-  kept-all count pairs q m mem hints row z l row₀ e =
+  kept_all count pairs q m mem hints row z l row₀ e =
       tried_all successors n hiddens mem₀ k row₀ count x (Found m) mem row e (adding_all _ _ _ _ _ _ z.0 l)

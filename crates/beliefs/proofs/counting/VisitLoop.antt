@@ -16,7 +16,7 @@ use Rattle.basics.specs.Bits.{digit}
 use Rattle.basics.specs.Lists.{below}
 use Rattle.basics.specs.Reach.{Listing, closed}
 use Rattle.basics.specs.Successors.{grown_over}
-use Rattle.basics.proofs.BitsLaws.{digit-is}
+use Rattle.basics.proofs.BitsLaws.{digit_is}
 use Rattle.basics.proofs.BoundedLaws.{last_or_before}
 use Rattle.basics.proofs.ListsLaws.{get_d_map_in}
 use Rattle.basics.proofs.ReachLaws.{added_all}
@@ -25,27 +25,27 @@ use Rattle.search.specs.declared.searching.Explored.TheVariants.{Found, TooMany}
 use Rattle.search.specs.Limits.{state_limit}
 use Rattle.search.specs.ReachableSets.{same_set}
 use Rattle.search.specs.Slots.{count_up_to, explored_of, RanItems}
-use Rattle.search.proofs.KeptItems.{count-found, count_many}
-use Rattle.search.proofs.ReachableSetsLaws.{same_set-says}
-use Rattle.search.proofs.SearchTurns.{Turn, turn-begin, turn-over, turn-closed, turn-answer, turn-left}
+use Rattle.search.proofs.KeptItems.{count_found, count_many}
+use Rattle.search.proofs.ReachableSetsLaws.{same_set_says}
+use Rattle.search.proofs.SearchTurns.{Turn, turn_begin, turn_over, turn_closed, turn_answer, turn_left}
 use Rattle.search.proofs.SlotsLaws.{length_items_in, get_d_items_in}
 use Rattle.play.specs.Limits.{belief_limit, pair_limit}
 use Rattle.play.specs.Belief.{Belief, alone}
 use Rattle.beliefs.specs.BeliefMemory.{belief_size, pack_belief, belief_in, beliefs_in, HoldsBeliefs}
 use Rattle.beliefs.specs.BeliefMemory.{belief_after, pairs_from, tried_from, Tried, counted_beliefs}
 use Rattle.beliefs.specs.BeliefMemory.{is_final, mark_of, finals_of, RanBeliefs, Members, belief_of, all_accept}
-use Rattle.beliefs.proofs.BeliefMemoryLaws.{belief_packing, length_first, beliefs-reachable, pairs_le, first_memory}
+use Rattle.beliefs.proofs.BeliefMemoryLaws.{belief_packing, length_first, beliefs_reachable, pairs_le, first_memory}
 use Rattle.beliefs.proofs.believing.MemberLoop.{final_belief_lem}
 use Rattle.beliefs.proofs.counting.PairLoop.{TriedAll, tried_none, same_tried}
 
 -- what `mark_belief` writes
-byte-is : (b : Bool) → bool_byte b ≡ digit b
-byte-is true = refl
-byte-is false = refl
+byte_is : (b : Bool) → bool_byte b ≡ digit b
+byte_is true = refl
+byte_is false = refl
 
-pub mark-is : (sets members : List ℕ) (n count : ℕ) (b : Belief) (r : Bool) → Members n members count → belief_of n members count ≡ b
+pub mark_is : (sets members : List ℕ) (n count : ℕ) (b : Belief) (r : Bool) → Members n members count → belief_of n members count ≡ b
     → r ≡ all_accept sets members count → bool_byte r ≡ mark_of sets n b
-mark-is sets members n count b r g e a = byte-is r ∙ ap digit (a ∙ final_belief_lem n members count g sets) ∙ ap (mark_of sets n) e
+mark_is sets members n count b r g e a = byte_is r ∙ ap digit (a ∙ final_belief_lem n members count g sets) ∙ ap (mark_of sets n) e
 
 -- the first i beliefs in memory have their marks
 pub record Marked (sets : List ℕ) (n : ℕ) (mem : List ℕ) (i : ℕ) (finals : List ℕ) : Type 0 where
@@ -58,14 +58,14 @@ marked_none sets n mem finals e = record { size = e; mark = λ j h. absurd (omeg
 -- the mark of a belief tells how many pairs are tried in it
 module _ (sets : List ℕ) (n : ℕ) (b : Belief) (finals finals' : List ℕ) (i pairs : ℕ) (h : i < length finals)
     (marked : finals' ≡ set finals i (mark_of sets n b)) where
-  mark-tells : eqb (get_or finals' i 0) 1 ≡ is_final sets n b
-  mark-tells = ap (λ t. eqb (get_or t i 0) 1) marked ∙ ap (λ y. eqb y 1) (get_or-set_same finals i _ 0 h) ∙ digit-is (is_final sets n b)
+  mark_tells : eqb (get_or finals' i 0) 1 ≡ is_final sets n b
+  mark_tells = ap (λ t. eqb (get_or t i 0) 1) marked ∙ ap (λ y. eqb y 1) (get_or-set_same finals i _ 0 h) ∙ digit_is (is_final sets n b)
 
-  final-pairs : get_or finals' i 0 ≡ 1 → 0 ≡ pairs_from sets n pairs b
-  final-pairs e = rw (sym mark-tells ∙ eq-eqb _ 1 e) refl
+  final_pairs : get_or finals' i 0 ≡ 1 → 0 ≡ pairs_from sets n pairs b
+  final_pairs e = rw (sym mark_tells ∙ eq-eqb _ 1 e) refl
 
-  other-pairs : (get_or finals' i 0 ≡ 1 → ⊥) → pairs ≡ pairs_from sets n pairs b
-  other-pairs ne = rw (sym mark-tells ∙ ne_eqb _ 1 ne) refl
+  other_pairs : (get_or finals' i 0 ≡ 1 → ⊥) → pairs ≡ pairs_from sets n pairs b
+  other_pairs ne = rw (sym mark_tells ∙ ne_eqb _ 1 ne) refl
 
 -- what `visit_belief` answers and leaves
 module _ (sets successors : List ℕ) (n hiddens : ℕ) (mem : List ℕ) (k : ℕ) (row : List ℕ) (b : Belief) (finals finals' : List ℕ) (i : ℕ)
@@ -79,13 +79,13 @@ module _ (sets successors : List ℕ) (n hiddens : ℕ) (mem : List ℕ) (k : �
   pub visited_final : get_or finals' i 0 ≡ 1 → k ≤ belief_limit → HoldsBeliefs n mem k → Visited (Found k) mem row
   visited_final e few held =
       same_tried successors n hiddens mem k row pairs 0 (pairs_from sets n pairs b) b b (Found k) mem row
-      (final-pairs sets n b finals finals' i pairs h marked e) refl (tried_none successors n hiddens mem k row pairs b few held)
+      (final_pairs sets n b finals finals' i pairs h marked e) refl (tried_none successors n hiddens mem k row pairs b few held)
 
   pub visited_other : (get_or finals' i 0 ≡ 1 → ⊥) → (x : Belief) → x ≡ b → (r : Explored) (mem' row' : List ℕ)
       → TriedAll successors n hiddens mem k row pairs pairs x r mem' row' → Visited r mem' row'
   visited_other ne x e r mem' row' =
       same_tried successors n hiddens mem k row pairs pairs (pairs_from sets n pairs b) x b r mem' row'
-      (other-pairs sets n b finals finals' i pairs h marked ne) e
+      (other_pairs sets n b finals finals' i pairs h marked ne) e
 
 -- the beliefs that are there stay where they are while pairs are tried
 pub belief_stays : (successors : List ℕ) (n pairs hiddens c : ℕ) (mem : List ℕ) (k : ℕ) (b : Belief) (m : ℕ) (row₀ mem' row : List ℕ)
@@ -93,8 +93,8 @@ pub belief_stays : (successors : List ℕ) (n pairs hiddens c : ℕ) (mem : List
     → (j : ℕ) → j < k → belief_in n mem' j ≡ belief_in n mem j
 unfolding grown_over
 belief_stays successors n pairs hiddens c mem k b m row₀ mem' row count tried j h =
-    let (few, is) = count-found belief_limit (tried_from successors n pairs hiddens c mem k b) m count in
-    let added = added_all same_set same_set-says _ (beliefs_in n mem k) in
+    let (few, is) = count_found belief_limit (tried_from successors n pairs hiddens c mem k b) m count in
+    let added = added_all same_set same_set_says _ (beliefs_in n mem k) in
     let items : beliefs_in n mem' m ≡ _ = ap (beliefs_in n mem') is ∙ tried.items_are few ∙ added.extends in
     let l : j < length (beliefs_in n mem k) = subst (λ y. j < y) (sym (length_items_in belief_size n mem k)) h in
     let long : m ≡ length (beliefs_in n mem k) + length added.tail = sym (length_items_in belief_size n mem' m) ∙ ap length items
@@ -151,11 +151,11 @@ module _ (sets successors : List ℕ) (n pairs hiddens : ℕ) where
   RanRows mem moves l =
       RanItems belief_size pack_belief (belief_after successors n pairs hiddens) (λ b. below (pairs_from sets n pairs b)) pair_limit l mem moves
 
-  pub turn-first : (m : ℕ) (moves : List ℕ) → 0 < n → n ≤ state_limit → belief_size ≤ m → moves ≡ replicate (belief_limit * pair_limit) 0
+  pub turn_first : (m : ℕ) (moves : List ℕ) → 0 < n → n ≤ state_limit → belief_size ≤ m → moves ≡ replicate (belief_limit * pair_limit) 0
       → BeliefTurn (set (replicate m 0) 0 1) moves 1 0
-  turn-first m moves some few room zeros =
+  turn_first m moves some few room zeros =
       subst (λ w. BeliefTurn w moves 1 0) (sym (first_memory n m some room))
-      (turn-begin (belief_packing n few) (length_first n) (omega arith) (beliefs-reachable sets successors n pairs hiddens belief_limit) belief_size
+      (turn_begin (belief_packing n few) (length_first n) (omega arith) (beliefs_reachable sets successors n pairs hiddens belief_limit) belief_size
       (replicate m 0) (pack_belief (alone n 0)) moves refl refl (subst (λ k. belief_size ≤ k) (sym (length-replicate {A = ℕ} m 0)) room)
       (belief_limit * pair_limit) zeros)
 
@@ -167,7 +167,7 @@ module _ (sets successors : List ℕ) (n pairs hiddens : ℕ) where
     turn_many here moves' finals q =
         let tried = pairs_from sets n pairs (belief_in n mem i) in
         subst (λ l. (TooMany ≡ explored_of l) × RanBeliefs sets successors n pairs hiddens l moves' finals)
-        (sym (turn-over t here tried refl
+        (sym (turn_over t here tried refl
         (count_many belief_limit (tried_from successors n pairs hiddens tried mem k (belief_in n mem i)) q)))
         (refl, tt)
 
@@ -176,13 +176,13 @@ module _ (sets successors : List ℕ) (n pairs hiddens : ℕ) where
         → (finals : List ℕ) → Marked sets n mem i finals
         → (Found k ≡ explored_of counted) × RanBeliefs sets successors n pairs hiddens counted moves finals
     turn_ran none_left few few-pairs room space finals g = (
-      turn-answer t none_left,
-      subst (λ l. RanBeliefs sets successors n pairs hiddens l moves finals) (sym (turn-closed t none_left))
+      turn_answer t none_left,
+      subst (λ l. RanBeliefs sets successors n pairs hiddens l moves finals) (sym (turn_closed t none_left))
           (rows.1, marked_all sets n mem k i finals g none_left t.few),
     )
       where
         rows : RanRows mem moves (closed (beliefs_in n mem k))
         rows =
-            subst (RanRows mem moves) (turn-closed t none_left)
-            (turn-left t none_left (belief_packing n few) (omega arith) (λ b. le_trans (pairs_le sets n pairs b) few-pairs)
+            subst (RanRows mem moves) (turn_closed t none_left)
+            (turn_left t none_left (belief_packing n few) (omega arith) (λ b. le_trans (pairs_le sets n pairs b) few-pairs)
             (omega (arith, t.few, room)) (omega (arith, t.few, space)))

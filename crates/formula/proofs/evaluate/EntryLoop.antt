@@ -12,7 +12,7 @@ use lib.Seq.{drop-cons}
 use borrow.Author.Tests.{ltb-true, ltb-false}
 use Rattle.basics.specs.Bits.{bit}
 use Rattle.basics.specs.Lists.{tabulate}
-use Rattle.basics.proofs.ListsLaws.{table-zeros, get_d_table, get_d_behind}
+use Rattle.basics.proofs.ListsLaws.{table_zeros, get_d_table, get_d_behind}
 use Rattle.basics.proofs.Filling.{table_more}
 use Rattle.formula.specs.Parts.{Part, part_at, last_of}
 use Rattle.formula.specs.Codes.{parts_in}
@@ -20,7 +20,7 @@ use Rattle.formula.specs.Values.{combine, owed, value_with, owed_with, owed_on, 
 use Rattle.formula.specs.Entries.{entry, entries_on, value_in, owed_in, with_values, with_owed}
 use Rattle.formula.proofs.CodesLaws.{length_in}
 use Rattle.formula.proofs.ValuesLaws.{with_any}
-use Rattle.formula.proofs.EntriesLaws.{entry_value, entries-back, entries-value}
+use Rattle.formula.proofs.EntriesLaws.{entry_value, entries_back, entries_value}
 
 -- ---- one more part
 
@@ -30,16 +30,16 @@ module _ (ps : List Part) (old : List ℕ) where
     abbrev valued : ℕ → ℕ
     valued j = entry (value_with ps a (owed_in old) j) false
 
-    pub values-none : (n : ℕ) → n ≡ 0 → old ≡ with_values ps a n old
+    pub values_none : (n : ℕ) → n ≡ 0 → old ≡ with_values ps a n old
     unfolding with_values
-    values-none n e = rw e
+    values_none n e = rw e
 
-    pub values-more : (n i : ℕ) → n ≡ i + 1 → i < length old → (r : List ℕ) → r ≡ with_values ps a i old
+    pub values_more : (n i : ℕ) → n ≡ i + 1 → i < length old → (r : List ℕ) → r ≡ with_values ps a i old
         → (q : Part) → q ≡ part_at ps i → (s o x y v : Bool) (e : ℕ) → s ≡ bit a q.left → o ≡ owed_in r i → x ≡ value_in r q.left
         → y ≡ value_in r q.right → v ≡ combine q.kind s o (ltb q.left i && x) (ltb q.right i && y) → e ≡ entry v false
         → set r i e ≡ with_values ps a n old
     unfolding with_values
-    values-more n i en room r er q eq s o x y v e es eo ex ey ev ee =
+    values_more n i en room r er q eq s o x y v e es eo ex ey ev ee =
         rw en (table_more i valued old r e room er (rw (ee, ev, es, eo, ex, ey, eq) (ap (λ b. entry b false) value)))
       where
         k : Part
@@ -91,19 +91,19 @@ module _ (codes : List ℕ) (w : ℕ) (π : List ℕ) where
   parts = parts_in codes
 
   -- behind the last step
-  pub entries-end : (t : ℕ) → t ≡ length π → replicate w 0 ≡ entries_on parts w (drop t π)
+  pub entries_end : (t : ℕ) → t ≡ length π → replicate w 0 ≡ entries_on parts w (drop t π)
   unfolding entries_on value_on owed_on
-  entries-end t e = rw (drop_of_length-le π {i = t} (omega arith)) (sym (table-zeros w))
+  entries_end t e = rw (drop_of_length-le π {i = t} (omega arith)) (sym (table_zeros w))
 
   -- at an earlier one
-  pub entries-step : (t : ℕ) → t < length π → length codes ≤ w → (r u v : List ℕ) → r ≡ entries_on parts w (drop (t + 1) π)
+  pub entries_step : (t : ℕ) → t < length π → length codes ≤ w → (r u v : List ℕ) → r ≡ entries_on parts w (drop (t + 1) π)
       → u ≡ with_values parts (get_or π t 0) (length codes) r → v ≡ with_owed parts (length codes) u → v ≡ entries_on parts w (drop t π)
-  entries-step t h fits r u v er eu ev =
-      rw (ev, eu, er, add-one, drop-cons π t 0, ← length_in) (entries-back parts w (rw length_in fits) (get_or π t 0) (drop (suc t) π))
+  entries_step t h fits r u v er eu ev =
+      rw (ev, eu, er, add-one, drop-cons π t 0, ← length_in) (entries_back parts w (rw length_in fits) (get_or π t 0) (drop (suc t) π))
 
   -- the last part's value in the entries at the first step
-  pub last-value : (r : List ℕ) → 0 < length codes → length codes ≤ w → r ≡ entries_on parts w π
+  pub last_value_lem : (r : List ℕ) → 0 < length codes → length codes ≤ w → r ≡ entries_on parts w π
       → bit (get_or r (length codes - 1) 0) 0 ≡ value_on parts π (last_of parts)
-  last-value r h fits e =
+  last_value_lem r h fits e =
       let last : length codes - 1 ≡ last_of parts = rw length_in (omega arith) in
-      rw (e, last) (entries-value parts w (rw length_in fits) π (last_of parts))
+      rw (e, last) (entries_value parts w (rw length_in fits) π (last_of parts))

@@ -18,13 +18,13 @@ use Rattle.formula.specs.Parts.{part_at, arity}
 use Rattle.rules.specs.Problem.{Outcome, problem_parts, accepted, refused}
 use Rattle.rules.specs.Trace.{counts_of}
 use Rattle.formula.proofs.CodesLaws.{length_in}
-use Rattle.rules.proofs.JudgeLaws.{Taken, taken_length, taken-parts, some-parts, few-parts, few-signals, taken-ready}
-use Rattle.rules.proofs.ProblemLaws.{inside, temporals-are}
+use Rattle.rules.proofs.JudgeLaws.{Taken, taken_length, taken_parts, some_parts, few_parts, few_signals, taken_ready}
+use Rattle.rules.proofs.ProblemLaws.{inside, temporals_are}
 use Rattle.obligations.specs.Obligation.{operators_of}
 use Rattle.obligations.specs.Values.{Stored}
 use Rattle.rules.proofs.ReadingLaws.{not_refused, same_refusal}
 use Rattle.states.specs.Planes.{Sized}
-use Rattle.obligations.proofs.OperatorSpots.{operators-are}
+use Rattle.obligations.proofs.OperatorSpots.{operators_are}
 use Rattle.game.specs.declared.solving.Solved.{Solved}
 use Rattle.game.specs.declared.solving.Solved.TheVariants.{Refused}
 use Rattle.game.specs.Solution.{parts_solution, solution}
@@ -37,40 +37,40 @@ use Rattle.game.specs.SolvedAs.{solved_of, solved_from, cells_of, cells_from}
 use Rattle.game.specs.StateMemory.{sets_from}
 
 -- a refusal is handed on
-pub refused-right : (o : Outcome) (r : Reading) (x : Refusal) (table sets : List ℕ) → r ≡ reading_of o → r ≡ reading.Refused x
+pub refused_right : (o : Outcome) (r : Reading) (x : Refusal) (table sets : List ℕ) → r ≡ reading_of o → r ≡ reading.Refused x
     → (Refused x ≡ solved_from o) × ((table ≡ written (cells_from o) table) × (sets ≡ sets_from o sets))
-refused-right (accepted p) r x table sets e h = not_refused x _ (sym h ∙ e)
-refused-right (refused y) r x table sets e h = (ap Refused (same_refusal x y (sym h ∙ e)), (refl, refl))
+refused_right (accepted p) r x table sets e h = not_refused x _ (sym h ∙ e)
+refused_right (refused y) r x table sets e h = (ap Refused (same_refusal x y (sym h ∙ e)), (refl, refl))
 
 module _ {o : Outcome} {s : Sizes} {codes : List ℕ} (t : Taken o s codes) where
   -- the numbers of the formula's parts
   abbrev front : List ℕ
   front = take s.parts codes
 
-  operators-taken : operators_of (parts_in front) ≡ (sizes_of t.problem).operators
-  operators-taken = ap operators_of (taken-parts t) ∙ operators-are (problem_parts t.problem) ∙ temporals-are t.problem
+  operators_taken : operators_of (parts_in front) ≡ (sizes_of t.problem).operators
+  operators_taken = ap operators_of (taken_parts t) ∙ operators_are (problem_parts t.problem) ∙ temporals_are t.problem
 
-  inside-taken : (i : ℕ) → i < length front → 1 ≤ arity (part_at (parts_in front) i).kind → (part_at (parts_in front) i).left < length front
-  inside-taken i h = rw (← length_in front, taken-parts t) (inside t.problem i (rw (← taken-parts t, length_in front) h))
+  inside_taken : (i : ℕ) → i < length front → 1 ≤ arity (part_at (parts_in front) i).kind → (part_at (parts_in front) i).left < length front
+  inside_taken i h = rw (← length_in front, taken_parts t) (inside t.problem i (rw (← taken_parts t, length_in front) h))
 
-  pub stored-taken : Stored front
-  stored-taken =
+  pub stored_taken : Stored front
+  stored_taken =
       record {
-        ready = taken-ready t;
-        inside = inside-taken;
-        some = some-parts t;
-        few = omega (arith, taken_length t, few-parts t);
-        operators = subst (λ m. m ≤ operator_limit) (sym operators-taken) t.within.operators;
+        ready = taken_ready t;
+        inside = inside_taken;
+        some = some_parts t;
+        few = omega (arith, taken_length t, few_parts t);
+        operators = subst (λ m. m ≤ operator_limit) (sym operators_taken) t.within.operators;
       }
 
-  pub sized-taken : Sized front s
-  sized-taken =
+  pub sized_taken : Sized front s
+  sized_taken =
       record {
-        operators-are = ap (λ (z : Sizes). z.operators) t.sizes ∙ sym operators-taken;
-        outputs-few = (few-signals t).0;
-        observed-few = (few-signals t).1;
-        hidden-few = (few-signals t).2;
-        signals-few = rw t.sizes t.within.few.total;
+        operators_are = ap (λ (z : Sizes). z.operators) t.sizes ∙ sym operators_taken;
+        outputs_few = (few_signals t).0;
+        observed_few = (few_signals t).1;
+        hidden_few = (few_signals t).2;
+        signals_few = rw t.sizes t.within.few.total;
       }
 
   -- the answer for these parts and signals is that for the text
@@ -81,11 +81,11 @@ module _ {o : Outcome} {s : Sizes} {codes : List ℕ} (t : Taken o s codes) wher
       → (r ≡ solved_from o) × ((table' ≡ written (cells_from o) table) × (sets' ≡ sets_from o sets))
   source_right r table table' sets sets' f g k =
       let same : parts_solution (order_in s) (parts_in front) (counts_of s) ≡ solution t.problem =
-      ap₂ (λ (z : Sizes) ps. parts_solution (order_in z) ps (counts_of z)) t.sizes (taken-parts t) in
+      ap₂ (λ (z : Sizes) ps. parts_solution (order_in z) ps (counts_of z)) t.sizes (taken_parts t) in
       rw t.is (
         f ∙ ap₂ (λ (z : Sizes) x. solved_of (order_in z) z.observed x) t.sizes same,
         (
           g ∙ ap (λ x. written (cells_of x) table) same,
-          k ∙ ap₂ (λ (z : Sizes) ps. padded (length sets) (sets_of (states_of ps (letters_of (counts_of z)) state_limit))) t.sizes (taken-parts t),
+          k ∙ ap₂ (λ (z : Sizes) ps. padded (length sets) (sets_of (states_of ps (letters_of (counts_of z)) state_limit))) t.sizes (taken_parts t),
         ),
       )

@@ -29,20 +29,20 @@ use Rattle.search.specs.Slots.{explored_of}
 use Rattle.search.specs.ReachableSets.{same_set}
 use Rattle.states.specs.States.{states_of}
 use Rattle.basics.specs.Successors.{steps_over}
-use Rattle.search.proofs.ReachableSetsLaws.{same_set-says, sets_reachable}
-use Rattle.states.proofs.ExploredStates.{letters-few}
+use Rattle.search.proofs.ReachableSetsLaws.{same_set_says, sets_reachable}
+use Rattle.states.proofs.ExploredStates.{letters_few}
 use Rattle.basics.proofs.BitsLaws.{shl_one}
-use Rattle.states.proofs.StatesLaws.{states-closed}
+use Rattle.states.proofs.StatesLaws.{states_closed}
 use Rattle.game.specs.Solution.{automaton_of, solution_from, parts_solution}
 use Rattle.game.specs.declared.solving.Solved.{Solved}
 use Rattle.game.specs.declared.solving.Solved.TheVariants.{Refused}
 use Rattle.game.specs.SolvedAs.{solved_of, cells_of}
 use Rattle.beliefs.specs.BeliefMemory.{Successors}
 use Rattle.game.specs.StateMemory.{Widths, memory_solution}
-use Rattle.game.proofs.LetterNumbers.{letter-count}
-use Rattle.basics.proofs.ReachLaws.{closed-begins}
+use Rattle.game.proofs.LetterNumbers.{letter_count_lem}
+use Rattle.basics.proofs.ReachLaws.{closed_begins}
 use Rattle.game.proofs.SameBeliefs.{memory_same}
-use Rattle.beliefs.proofs.ListedBeliefs.{counted-some, counted-over}
+use Rattle.beliefs.proofs.ListedBeliefs.{counted_some, counted_over}
 use Rattle.game.proofs.solving.FromBeliefs.{Answered}
 use Rattle.game.proofs.ExploredAutomaton.{explored_successors, explored_tables}
 
@@ -59,7 +59,7 @@ module _ (codes : List ℕ) (s : Sizes) where
   pub solved_many : TooMany ≡ explored_of l → (table : List ℕ)
       → Answered (order_in s) s.observed (parts_solution (order_in s) ps c) (Refused refusal.TooManyStates) table table
   solved_many e table =
-      let same = ap (solution_from (order_in s) ps c) (sym (counted-over l e)) in
+      let same = ap (solution_from (order_in s) ps c) (sym (counted_over l e)) in
       (ap (solved_of (order_in s) s.observed) same, ap (λ x. written (cells_of x) table) same)
 
   -- how many choices, observations and hidden values there are, as the code shifts them
@@ -73,66 +73,66 @@ module _ (codes : List ℕ) (s : Sizes) where
   hiddens = 1 * 2 ^ s.hidden % 18446744073709551616
 
   module _ (sized : Sized codes s) where
-    choices-are : choices ≡ 2 ^ s.outputs
-    choices-are = shl_one s.outputs (omega (arith, sized.outputs-few))
+    choices_are : choices ≡ 2 ^ s.outputs
+    choices_are = shl_one s.outputs (omega (arith, sized.outputs_few))
 
-    observations-are : observations ≡ 2 ^ s.observed
-    observations-are = shl_one s.observed (omega (arith, sized.observed-few))
+    observations_are : observations ≡ 2 ^ s.observed
+    observations_are = shl_one s.observed (omega (arith, sized.observed_few))
 
-    hiddens-are : hiddens ≡ 2 ^ s.hidden
-    hiddens-are = shl_one s.hidden (omega (arith, sized.hidden-few))
+    hiddens_are : hiddens ≡ 2 ^ s.hidden
+    hiddens_are = shl_one s.hidden (omega (arith, sized.hidden_few))
 
     pub widths_right : Widths choices observations hiddens
     widths_right =
-        rw (choices-are, observations-are, hiddens-are)
+        rw (choices_are, observations_are, hiddens_are)
         (record {
-          some-choice = pow_pos s.outputs;
-          few-choices = pow-le-pow_right (lit< tt) sized.outputs-few;
-          some-observation = pow_pos s.observed;
-          few-observations = pow-le-pow_right (lit< tt) sized.observed-few;
-          few-letters = subst (λ m. m ≤ letter_limit) (letter-count c) (letters-few c sized.signals-few);
+          some_choice = pow_pos s.outputs;
+          few_choices = pow-le-pow_right (lit< tt) sized.outputs_few;
+          some_observation = pow_pos s.observed;
+          few_observations = pow-le-pow_right (lit< tt) sized.observed_few;
+          few_letters = subst (λ m. m ≤ letter_limit) (letter_count_lem c) (letters_few c sized.signals_few);
         })
 
   module _ (sized : Sized codes s) (a b : ℕ) (sets successors : List ℕ) (sets-are : sets ≡ padded a (sets_of l))
       (successors-are : successors ≡ padded b (successors_of s.operators (back ps) (letters_of c) l)) (n : ℕ) (got : Found n ≡ explored_of l) where
     abbrev found : (xs : List PatternSet) × (l ≡ closed xs) × (length xs ≡ n)
-    found = counted-some l n got
+    found = counted_some l n got
 
     abbrev xs : List PatternSet
     xs = found.0
 
     successors_of_lem : successors ≡ padded b (successors_of (operators_of ps) (back ps) (letters_of c) l)
-    successors_of_lem = successors-are ∙ ap (λ d. padded b (successors_of d (back ps) (letters_of c) l)) sized.operators-are
+    successors_of_lem = successors-are ∙ ap (λ d. padded b (successors_of d (back ps) (letters_of c) l)) sized.operators_are
 
     pub states_successors : Successors successors n (choices * observations) hiddens
     states_successors =
-        rw (choices-are sized, observations-are sized, hiddens-are sized, sym found.2)
-        (explored_successors ps c sized.signals-few xs found.1 b successors successors_of_lem)
+        rw (choices_are sized, observations_are sized, hiddens_are sized, sym found.2)
+        (explored_successors ps c sized.signals_few xs found.1 b successors successors_of_lem)
 
-    pub states-few : n ≤ state_limit
-    states-few = subst (λ m. m ≤ state_limit) found.2 (states-closed ps (letters_of c) state_limit xs found.1).1
+    pub states_few : n ≤ state_limit
+    states_few = subst (λ m. m ≤ state_limit) found.2 (states_closed ps (letters_of c) state_limit xs found.1).1
 
-    pub states-some : 0 < n
+    pub states_some : 0 < n
     unfolding states_of
-    states-some =
-        let (ys, e) = closed-begins same_set same_set-says (steps_over (next (operators_of ps) (back ps)) (letters_of c)) (start (operators_of ps)) state_limit xs
+    states_some =
+        let (ys, e) = closed_begins same_set same_set_says (steps_over (next (operators_of ps) (back ps)) (letters_of c)) (start (operators_of ps)) state_limit xs
         (sym (sets_reachable (operators_of ps) (back ps) (letters_of c) state_limit) ∙ found.1)
         in
         omega (arith, sym found.2 ∙ ap length e)
 
     -- what is answered from memory is what is answered from the parts
-    states-solution : (o : Order) → memory_solution o sets successors n choices observations hiddens ≡ parts_solution o ps c
-    states-solution o =
+    states_solution : (o : Order) → memory_solution o sets successors n choices observations hiddens ≡ parts_solution o ps c
+    states_solution o =
         ap (λ m. memory_solution o sets successors m choices observations hiddens) (sym found.2)
-        ∙ ap₂ (λ x y. memory_solution o sets successors (length xs) x y hiddens) (choices-are sized) (observations-are sized)
-        ∙ ap (memory_solution o sets successors (length xs) (2 ^ s.outputs) (2 ^ s.observed)) (hiddens-are sized)
+        ∙ ap₂ (λ x y. memory_solution o sets successors (length xs) x y hiddens) (choices_are sized) (observations_are sized)
+        ∙ ap (memory_solution o sets successors (length xs) (2 ^ s.outputs) (2 ^ s.observed)) (hiddens_are sized)
         ∙ memory_same (automaton_of ps xs) (2 ^ s.outputs) (2 ^ s.observed) (2 ^ s.hidden) letter_from sets successors
-        (explored_tables ps c sized.signals-few xs found.1 a sets sets-are b successors successors_of_lem) o (pow_pos s.outputs) (pow_pos s.observed)
+        (explored_tables ps c sized.signals_few xs found.1 a sets sets-are b successors successors_of_lem) o (pow_pos s.outputs) (pow_pos s.observed)
         ∙ ap (solution_from o ps c) (sym found.1)
 
-    pub solved-some : (o : Order) → o ≡ order_in s → (r : Solved) (table table' : List ℕ)
+    pub solved_some : (o : Order) → o ≡ order_in s → (r : Solved) (table table' : List ℕ)
         → Answered o s.observed (memory_solution o sets successors n choices observations hiddens) r table table'
         → Answered (order_in s) s.observed (parts_solution (order_in s) ps c) r table table'
-    solved-some o is r table table' a =
+    solved_some o is r table table' a =
         subst (λ q. Answered q s.observed (parts_solution q ps c) r table table') is
-        (subst (λ x. Answered o s.observed x r table table') (states-solution o) a)
+        (subst (λ x. Answered o s.observed x r table table') (states_solution o) a)

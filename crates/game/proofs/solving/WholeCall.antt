@@ -20,22 +20,22 @@ use Rattle.game.specs.declared.solving.Solved.{Solved}
 use Rattle.game.specs.declared.solving.Solved.TheVariants.{Table, Refused}
 use Rattle.game.specs.SolvedAs.{is_short, solved_from, solved_by, told_solved, cells_from, cells_by, table_after, work_after, used_rows}
 use Rattle.game.specs.SolvedAs.{SolvedAs, short_memory}
-use Rattle.game.proofs.SolvedAsLaws.{not_short, short-says, due-read, RowCells, due-cells}
+use Rattle.game.proofs.SolvedAsLaws.{not_short, short_says, due_read, RowCells, due_cells}
 
 -- ---- the rows that are used are the cells that are due
 
-used-rows : (r : Solved) (cells room : List ℕ) → RowCells (told_solved r) cells → used_rows r (written cells room) ≡ cells
-used-rows (Table shape q) cells room e =
+used_rows_lem : (r : Solved) (cells room : List ℕ) → RowCells (told_solved r) cells → used_rows r (written cells room) ≡ cells
+used_rows_lem (Table shape q) cells room e =
     take_at cells (drop (length cells) room) (shape.rows * row_size shape.order) (e shape.rows shape.observed q shape.order refl)
-used-rows (Refused x) cells room e = sym e
+used_rows_lem (Refused x) cells room e = sym e
 
 -- ---- memory that is too short
 
-pub short-right : (source work room : List ℕ) → is_short (length work) (length room) ≡ true
+pub short_right : (source work room : List ℕ) → is_short (length work) (length room) ≡ true
     → (Refused refusal.ShortMemory ≡ solved_by (length work) (length room) source) × (room ≡ table_after (length work) source room)
     × (work ≡ work_after (length room) work) × SolvedAs (length work) (length room) source (refused 12 0) []
 unfolding solved_by cells_by work_after
-short-right source work room e = rw e (refl, refl, refl, short_memory ((short-says (length work) (length room)).0 e))
+short_right source work room e = rw e (refl, refl, refl, short_memory ((short_says (length work) (length room)).0 e))
 
 -- ---- memory that is long enough
 
@@ -43,22 +43,22 @@ module _ (work room : List ℕ) (e : is_short (length work) (length room) ≡ fa
   pub long_work : 4128 ≤ length work
   long_work = omega (arith, ltb-false (length work) work_size (or_left (ltb (length work) work_size) (ltb (length room) table_size) e))
 
-  pub long-table : table_size ≤ length room
-  long-table = omega (arith, ltb-false (length room) table_size (or_right (ltb (length work) work_size) (ltb (length room) table_size) e))
+  pub long_table : table_size ≤ length room
+  long_table = omega (arith, ltb-false (length room) table_size (or_right (ltb (length work) work_size) (ltb (length room) table_size) e))
 
-  pub long-right : (source : List ℕ) (r : Solved) (room' : List ℕ) → r ≡ solved_from (read_problem source)
+  pub long_right : (source : List ℕ) (r : Solved) (room' : List ℕ) → r ≡ solved_from (read_problem source)
       → room' ≡ written (cells_from (read_problem source)) room → (m : ℕ) → m ≡ length work
       → (r ≡ solved_by (length work) (length room) source) × (room' ≡ table_after (length work) source room)
       × (replicate m 0 ≡ work_after (length room) work) × SolvedAs (length work) (length room) source (told_solved r) (used_rows r room')
   unfolding solved_by cells_by work_after
-  long-right source r room' p q m l =
-      let due = due-read source (length work) (length room) (not_short (length work) (length room) e) in
+  long_right source r room' p q m l =
+      let due = due_read source (length work) (length room) (not_short (length work) (length room) e) in
       rw e (
         p,
         q,
         ap (λ k. replicate k 0) l,
         rw (p, q) (subst (λ c. SolvedAs (length work) (length room) source (told_solved (solved_from (read_problem source))) c)
-            (sym (used-rows (solved_from (read_problem source)) (cells_from (read_problem source)) room
-            (due-cells (length work) (length room) source (told_solved (solved_from (read_problem source))) (cells_from (read_problem source)) due)))
+            (sym (used_rows_lem (solved_from (read_problem source)) (cells_from (read_problem source)) room
+            (due_cells (length work) (length room) source (told_solved (solved_from (read_problem source))) (cells_from (read_problem source)) due)))
             due),
       )

@@ -19,7 +19,7 @@ use Rattle.grammar.specs.PlanParse.{parse_formula}
 use Rattle.grammar.specs.Names.{names_in, leaf_value}
 use Rattle.grammar.specs.Answer.{answer, cells_after}
 use Rattle.grammar.proofs.ReadIffDerived.{sound}
-use Rattle.syntax.proofs.TreeLaws.{length_cells, stored-taken}
+use Rattle.syntax.proofs.TreeLaws.{length_cells, stored_taken}
 use Rattle.lines.specs.declared.refusal.Refusal.{Refusal}
 use Rattle.lines.specs.declared.refusal.Refusal.TheVariants.{BadLine, BadFormula, UnknownName, TooManyParts}
 use Rattle.lines.specs.declared.problem.Sizes.{Sizes}
@@ -36,9 +36,9 @@ use Rattle.syntax.specs.Cells.{codes_from, kinds_in}
 use Rattle.lines.specs.Memory.{join_part, stored_from, more_parts, reading_after, parts_after, cells_reading, cells_stored}
 use Rattle.basics.proofs.Stores.{sets_append}
 use Rattle.syntax.proofs.CellsLaws.{length_codes}
-use Rattle.lines.proofs.TreeCodes.{Stands, derived_stands, operators-standing}
+use Rattle.lines.proofs.TreeCodes.{Stands, derived_stands, operators_standing}
 use Rattle.lines.proofs.SignalSpans.{length_names}
-use Rattle.lines.proofs.DeclaredNames.{leaf-values}
+use Rattle.lines.proofs.DeclaredNames.{leaf_values}
 
 -- ---- what a text is read as
 
@@ -83,13 +83,13 @@ module _ (source spans text : List ℕ) where
   module _ {count : ℕ} (f : Parsed count) where
     stands : Stands (cells values f.tree) (formula_in f.tree)
     stands =
-        derived_stands (leaf-values (names_in source spans) text (length_names source spans)) text (sound text f.tree f.next f.is)
+        derived_stands (leaf_values (names_in source spans) text (length_names source spans)) text (sound text f.tree f.next f.is)
 
     cells_count : length (cells values f.tree) ≡ count
     cells_count = length_cells values f.tree ∙ sym f.counted
 
-    pub size-count : size (formula_in f.tree) ≡ count
-    size-count = sym stands.sized ∙ cells_count
+    pub size_count : size (formula_in f.tree) ≡ count
+    size_count = sym stands.sized ∙ cells_count
 
     -- the cells that were written to a list that has room for them
     module _ (p : List ℕ) {q : List ℕ} (l : q ≡ cells_after values (parse_formula text) p) (h : count ≤ length p)
@@ -97,30 +97,30 @@ module _ (source spans text : List ℕ) where
       taken : take count q ≡ cells values f.tree
       taken =
           ap₂ take f.counted (l ∙ ap (λ res. cells_after values res p) f.is)
-          ∙ stored-taken values f.tree p (omega (arith, f.counted, h))
+          ∙ stored_taken values f.tree p (omega (arith, f.counted, h))
 
-      pub taken-count : length (take count q) ≡ count
-      taken-count = ap length taken ∙ cells_count
+      pub taken_count : length (take count q) ≡ count
+      taken_count = ap length taken ∙ cells_count
 
       pub formed : Formed (take count q)
       formed =
-          let few' : size (formula_in f.tree) ≤ index_limit = omega (arith, size-count, few) in
+          let few' : size (formula_in f.tree) ≤ index_limit = omega (arith, size_count, few) in
           subst Formed (sym taken)
           (record {
             tree = f.tree;
             next = f.next;
             is = f.is;
             sized = stands.sized;
-            counted = operators-standing stands few';
+            counted = operators_standing stands few';
             codes = stands.codes few';
           })
 
 -- ---- what the line's effect is
 
 module _ (line : ℕ) (text : List ℕ) (g : Signals) (n m : ℕ) where
-  pub bad-line : is_text text ≡ false → state_effect line text g n m ≡ refuses (BadLine line)
+  pub bad_line : is_text text ≡ false → state_effect line text g n m ≡ refuses (BadLine line)
   unfolding state_effect
-  bad-line e = rw e
+  bad_line e = rw e
 
   module _ (t : is_text text ≡ true) where
     pub bad_formula : parse_formula text ≡ none → state_effect line text g n m ≡ refuses (BadFormula line)
@@ -141,10 +141,10 @@ module _ (line : ℕ) (text : List ℕ) (g : Signals) (n m : ℕ) where
       unfolding state_effect
       too_many d h = rw (t, e, d, lt-ltb part_limit (n + size φ + joint n) (omega arith))
 
-      pub read-effect : all_declared g text (tokens text 0) ≡ true
+      pub read_effect_lem : all_declared g text (tokens text 0) ≡ true
           → state_effect line text g n m ≡ cond (is_large n m φ) (refuses (TooManyParts line)) (states φ)
       unfolding state_effect
-      read-effect d = rw (t, e, d)
+      read_effect_lem d = rw (t, e, d)
 
 -- ---- what is answered
 
@@ -162,17 +162,17 @@ Left cs line s p q r = (r ≡ cells_reading cs line s) × (q ≡ cells_stored cs
 -- with the cells there are `count` parts, and `all` with the one that joins them
 module _ (cs : List ℕ) (line : ℕ) (s : Sizes) (p : List ℕ) (count all : ℕ) (c : count ≡ s.parts + length cs)
     (j : all ≡ count + joint s.parts) where
-  all-is : all ≡ s.parts + length cs + joint s.parts
-  all-is = j ∙ ap (λ k. k + joint s.parts) c
+  all_is : all ≡ s.parts + length cs + joint s.parts
+  all_is = j ∙ ap (λ k. k + joint s.parts) c
 
   pub many_parts : part_limit < all → Left cs line s p p (Refused (TooManyParts line))
-  many_parts h = rw (← all-is, lt-ltb part_limit all h) (refl, refl)
+  many_parts h = rw (← all_is, lt-ltb part_limit all h) (refl, refl)
 
   module _ (h : all ≤ part_limit) (o : ℕ) (e : o ≡ temporals (kinds_in cs)) where
     pub many_operators : operator_limit < s.operators + o → Left cs line s p p (Refused (TooManyParts line))
-    many_operators u = rw (← all-is, le-ltb part_limit all h, ← e, lt-ltb operator_limit (s.operators + o) u) (refl, refl)
+    many_operators u = rw (← all_is, le-ltb part_limit all h, ← e, lt-ltb operator_limit (s.operators + o) u) (refl, refl)
 
-    pub few-operators : s.operators + o ≤ operator_limit → (q r : List ℕ) → q ≡ sets p s.parts (codes_from s.parts cs)
+    pub few_operators : s.operators + o ≤ operator_limit → (q r : List ℕ) → q ≡ sets p s.parts (codes_from s.parts cs)
         → r ≡ stored_from (join_part s.parts (count - s.parts)) count q
         → Left cs line s p r (Accepted (record {
           outputs = s.outputs;
@@ -182,14 +182,14 @@ module _ (cs : List ℕ) (line : ℕ) (s : Sizes) (p : List ℕ) (count all : �
           operators = s.operators + o;
           order = s.order;
         }))
-    few-operators u q r i l =
+    few_operators u q r i l =
         let k : count - s.parts ≡ length cs = omega arith in
         let joined : r ≡ sets p s.parts (codes_from s.parts cs ++ codes_of (join_part s.parts (length cs))) =
         l ∙ ap₂ (λ m x. stored_from (join_part s.parts m) count x) k i
         ∙ ap (λ m. stored_from (join_part s.parts (length cs)) m (sets p s.parts (codes_from s.parts cs)))
         (c ∙ ap (λ m. s.parts + m) (sym (length_codes s.parts cs)))
         ∙ sym (sets_append p s.parts (codes_from s.parts cs) (codes_of (join_part s.parts (length cs)))) in
-        rw (← all-is, le-ltb part_limit all h, ← e, le-ltb operator_limit (s.operators + o) u) (refl, joined)
+        rw (← all_is, le-ltb part_limit all h, ← e, le-ltb operator_limit (s.operators + o) u) (refl, joined)
 
 -- the cells of a formula leave what its line does
 module _ {source spans text cs : List ℕ} (f : Formed source spans text cs) (line : ℕ) (s : Sizes) (p : List ℕ) where
@@ -205,6 +205,6 @@ module _ {source spans text cs : List ℕ} (f : Formed source spans text cs) (li
   by_fit_lem true = (refl, refl)
   by_fit_lem false = (refl, ap (sets p s.parts) (sym (map-append code_of (parts_from stated s.parts) (join_part s.parts (size stated)))))
 
-  pub left-answers : (x : Effect) → x ≡ by_fit (is_large s.parts s.operators stated) → {q : List ℕ} {r : Reading}
+  pub left_answers : (x : Effect) → x ≡ by_fit (is_large s.parts s.operators stated) → {q : List ℕ} {r : Reading}
       → Left cs line s p q r → Answers x s p q r
-  left-answers x e l = rw (e, l.0, l.1, f.sized, f.counted, f.codes s.parts) (by_fit_lem (is_large s.parts s.operators stated))
+  left_answers x e l = rw (e, l.0, l.1, f.sized, f.counted, f.codes s.parts) (by_fit_lem (is_large s.parts s.operators stated))

@@ -9,12 +9,12 @@ use lib.ListN.{set}
 use Rattle.lines.specs.Effect.{joint}
 use Rattle.lines.specs.Memory.{join_part, stored_from}
 
-pub joint-none : (n count : ℕ) → n ≡ 0 → count ≡ count + joint n
-joint-none n count e = rw e (sym (add-zero count))
+pub joint_none : (n count : ℕ) → n ≡ 0 → count ≡ count + joint n
+joint_none n count e = rw e (sym (add-zero count))
 
-pub joint-some : (n count : ℕ) → (n ≡ 0 → ⊥) → count + 1 ≡ count + joint n
-joint-some zero count f = absurd (f refl)
-joint-some (suc n) count f = refl
+pub joint_some : (n count : ℕ) → (n ≡ 0 → ⊥) → count + 1 ≡ count + joint n
+joint_some zero count f = absurd (f refl)
+joint_some (suc n) count f = refl
 
 pub join_none : (n count : ℕ) (p : List ℕ) → n ≡ 0 → p ≡ stored_from (join_part n (count - n)) count p
 join_none n count p e = rw e

@@ -15,18 +15,18 @@ use Rattle.grammar.specs.Limits.{text_limit}
 use Rattle.lines.specs.Lines.{tab_place, is_text}
 
 module _ (s : List ℕ) where
-  pub text-none : length s ≡ 0 → false ≡ is_text s
+  pub text_none : length s ≡ 0 → false ≡ is_text s
   unfolding is_text
-  text-none e = rw (le-ltb 0 (length s) (omega arith))
+  text_none e = rw (le-ltb 0 (length s) (omega arith))
 
   module _ (h : length s ≡ 0 → ⊥) where
-    pub text-long : text_limit < length s → false ≡ is_text s
+    pub text_long : text_limit < length s → false ≡ is_text s
     unfolding is_text
-    text-long l = rw (lt-ltb 0 (length s) (omega arith), lt-leb (length s) text_limit l)
+    text_long l = rw (lt-ltb 0 (length s) (omega arith), lt-leb (length s) text_limit l)
 
-    pub text-tab : length s ≤ text_limit → (i : ℕ) → i ≡ past not_tab s 0 → eqb i (length s) ≡ is_text s
+    pub text_tab : length s ≤ text_limit → (i : ℕ) → i ≡ past not_tab s 0 → eqb i (length s) ≡ is_text s
     unfolding is_text tab_place past
-    text-tab l i e = rw (lt-ltb 0 (length s) (omega arith), le-leb (length s) text_limit l, e, zero-add)
+    text_tab l i e = rw (lt-ltb 0 (length s) (omega arith), le-leb (length s) text_limit l, e, zero-add)
 
 -- a text is short
 middle : (a b c : Bool) → (a && (b && c)) ≡ true → b ≡ true
@@ -34,6 +34,6 @@ middle true true c e = refl
 middle true false c e = e
 middle false b c e = false_true e
 
-pub text-short : (s : List ℕ) → is_text s ≡ true → length s ≤ text_limit
+pub text_short : (s : List ℕ) → is_text s ≡ true → length s ≤ text_limit
 unfolding is_text
-text-short s e = leb-true (length s) text_limit (middle (ltb 0 (length s)) (leb (length s) text_limit) (eqb (tab_place s) (length s)) e)
+text_short s e = leb-true (length s) text_limit (middle (ltb 0 (length s)) (leb (length s) text_limit) (eqb (tab_place s) (length s)) e)

@@ -32,10 +32,10 @@ bit_below Output b f e h = omega arith
 bit_below Observed b f e h = omega arith
 bit_below Hidden b f e h = omega arith
 
-count-is : (k : Kind) (source : List ℕ) (s : Sizes) (spans : List ℕ) → count k (signals_in source s spans) ≡ count_in k s
-count-is Output source s spans = refl
-count-is Observed source s spans = refl
-count-is Hidden source s spans = refl
+count_is : (k : Kind) (source : List ℕ) (s : Sizes) (spans : List ℕ) → count k (signals_in source s spans) ≡ count_in k s
+count_is Output source s spans = refl
+count_is Observed source s spans = refl
+count_is Hidden source s spans = refl
 
 or_true_lem : (b : Bool) → (b || true) ≡ true
 or_true_lem true = refl
@@ -68,7 +68,7 @@ module _ (source : List ℕ) (start end line : ℕ) (k : Kind) (s : Sizes) (span
     module _ (h : bits ≤ i) where
       pub kind_full : count_in k s ≡ kind_limit → Answers (Refused (TooManySignals line)) spans
       unfolding declare_effect
-      kind_full e = answers (refuses (TooManySignals line)) (rw (n, ← it, le-ltb i bits h, count-is k source s spans, eq-eqb (count_in k s) kind_limit e))
+      kind_full e = answers (refuses (TooManySignals line)) (rw (n, ← it, le-ltb i bits h, count_is k source s spans, eq-eqb (count_in k s) kind_limit e))
 
       pub all_full : s.outputs + s.observed + s.hidden ≡ 9 → Answers (Refused (TooManySignals line)) spans
       unfolding declare_effect
@@ -76,10 +76,10 @@ module _ (source : List ℕ) (start end line : ℕ) (k : Kind) (s : Sizes) (span
           answers (refuses (TooManySignals line))
           (rw (n, ← it, le-ltb i bits h, eq-eqb (s.outputs + s.observed + s.hidden) 9 e, or_true_lem (eqb (count k g) kind_limit)))
 
-      pub new-signal : (count_in k s ≡ kind_limit → ⊥) → (s.outputs + s.observed + s.hidden ≡ 9 → ⊥) → (m : Sizes) → m ≡ more_signals k s
+      pub new_signal : (count_in k s ≡ kind_limit → ⊥) → (s.outputs + s.observed + s.hidden ≡ 9 → ⊥) → (m : Sizes) → m ≡ more_signals k s
           → (b : ℕ) → b ≡ first_bit k + count_in k s → Answers (Accepted m) (set (set spans (2 * b) start) (2 * b + 1) end)
       unfolding declare_effect
-      new-signal c a m em b eb =
+      new_signal c a m em b eb =
           rw (em, eb)
           (answers (declares k name)
-          (rw (n, ← it, le-ltb i bits h, count-is k source s spans, ne_eqb (count_in k s) kind_limit c, ne_eqb (s.outputs + s.observed + s.hidden) 9 a)))
+          (rw (n, ← it, le-ltb i bits h, count_is k source s spans, ne_eqb (count_in k s) kind_limit c, ne_eqb (s.outputs + s.observed + s.hidden) 9 a)))

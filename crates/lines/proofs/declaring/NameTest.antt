@@ -11,7 +11,7 @@ use lib.ListN.{length, take, get_or}
 use lib.Seq.{take-length}
 use Rattle.basics.specs.Bytes.{lower, word_byte, is_space, run, past, between}
 use Rattle.basics.proofs.BytesLaws.{past_stop, past_more}
-use Rattle.syntax.proofs.LexLaws.{tok_word, token_from_lem, name-letter, reserved_kind}
+use Rattle.syntax.proofs.LexLaws.{tok_word, token_from_lem, name_letter, reserved_kind}
 use Rattle.basics.proofs.Booleans.{test, clash, and_left, and_right}
 use Rattle.syntax.specs.declared.lex.Token.{Token}
 use Rattle.syntax.specs.Kinds.{name_kind}
@@ -83,7 +83,7 @@ module _ (b : ℕ) (s : List ℕ) where
       no_letter t =
           let k = eqb-true _ name_kind (and_left (eqb (token_at (b ∷ s) 0).kind name_kind) _ t) in
           let f = eqb-true _ 0 (and_left (eqb (token_at (b ∷ s) 0).from 0) _ (and_right (eqb (token_at (b ∷ s) 0).kind name_kind) _ t)) in
-          clash (ap (λ i. lower (get_or (b ∷ s) i 0)) (sym f ∙ token_from_lem (b ∷ s) 0) ∙ name-letter (b ∷ s) 0 k) l
+          clash (ap (λ i. lower (get_or (b ∷ s) i 0)) (sym f ∙ token_from_lem (b ∷ s) 0) ∙ name_letter (b ∷ s) 0 k) l
 
 token_name : (s : List ℕ) → is_token s ≡ is_name s
 unfolding is_token is_name token_at token_from past run
@@ -98,14 +98,14 @@ module _ (name : List ℕ) (t : Token) (it : t ≡ token_at name 0) where
   name_kind_lem n = rw (← token_name name, ← it, ne_eqb _ _ n)
 
   module _ (k : t.kind ≡ name_kind) where
-    pub name-from : (t.from ≡ 0 → ⊥) → false ≡ is_name name
+    pub name_from : (t.from ≡ 0 → ⊥) → false ≡ is_name name
     unfolding is_token
-    name-from n = rw (← token_name name, ← it, eq-eqb _ _ k, ne_eqb _ _ n)
+    name_from n = rw (← token_name name, ← it, eq-eqb _ _ k, ne_eqb _ _ n)
 
     module _ (f : t.from ≡ 0) where
-      pub name-next : (t.next ≡ length name → ⊥) → false ≡ is_name name
+      pub name_next : (t.next ≡ length name → ⊥) → false ≡ is_name name
       unfolding is_token
-      name-next n = rw (← token_name name, ← it, eq-eqb _ _ k, eq-eqb _ _ f, ne_eqb _ _ n)
+      name_next n = rw (← token_name name, ← it, eq-eqb _ _ k, eq-eqb _ _ f, ne_eqb _ _ n)
 
       pub name_length : t.next ≡ length name → leb (length name) name_limit ≡ is_name name
       unfolding is_token

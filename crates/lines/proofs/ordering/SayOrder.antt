@@ -19,8 +19,8 @@ module _ (line : ℕ) (s : Sizes) (named : OrderSoFar) where
   said_twice o e = rw e refl
 
   module _ (first : s.order ≡ Open) where
-    pub said-nothing : named ≡ Open → Refused (BadLine line) ≡ answer
-    said-nothing e = rw (first, e) refl
+    pub said_nothing : named ≡ Open → Refused (BadLine line) ≡ answer
+    said_nothing e = rw (first, e) refl
 
     pub said : (o : Order) → named ≡ Fixed o → (t : Sizes) → t ≡ fix_order o s → Accepted t ≡ answer
     said o e t i = rw (first, e) (ap Accepted i)

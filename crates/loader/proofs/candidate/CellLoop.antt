@@ -20,18 +20,18 @@ module _ (shape : Shape) (line cells₀ : List ℕ) (row size : ℕ) (is-size : 
   ends : row * size + length cells ≤ length cells₀
   ends = rw (is-size, row_length shape line) room
 
-  pub cell-place : (i : ℕ) → i < size → row * size + i < length cells₀
-  cell-place i h = omega (arith, ends, row_length shape line)
+  pub cell_place : (i : ℕ) → i < size → row * size + i < length cells₀
+  cell_place i h = omega (arith, ends, row_length shape line)
 
-  pub row-place : row * size ≤ length cells₀
-  row-place = omega (arith, ends)
+  pub row_place : row * size ≤ length cells₀
+  row_place = omega (arith, ends)
 
   module _ (i : ℕ) (w : List ℕ) (so_far : w ≡ paste cells₀ (row * size) cells i) where
-    pub cell-more : i < size → (x : ℕ) → x ≡ get_or cells i 0 → set w (row * size + i) x ≡ paste cells₀ (row * size) cells (i + 1)
-    cell-more h x e =
+    pub cell_more : i < size → (x : ℕ) → x ≡ get_or cells i 0 → set w (row * size + i) x ≡ paste cells₀ (row * size) cells (i + 1)
+    cell_more h x e =
         ap (set w (row * size + i)) e ∙ paste_more cells₀ (row * size) cells i ends (omega (arith, row_length shape line)) w so_far
 
-    pub cells-all : i ≡ size → w ≡ sets cells₀ (row * row_size shape.order) cells
-    cells-all e =
+    pub cells_all : i ≡ size → w ≡ sets cells₀ (row * row_size shape.order) cells
+    cells_all e =
         (paste_all cells₀ (row * size) cells i ends (e ∙ is-size ∙ sym (row_length shape line)) w so_far).1
         ∙ ap (λ k. sets cells₀ (row * k) cells) is-size

@@ -13,7 +13,7 @@ use Rattle.basics.specs.Limits.{kind_limit}
 use Rattle.basics.specs.Lists.{below, written}
 use Rattle.basics.specs.Pieces.{piece, behind, behind_all, line_at}
 use Rattle.basics.specs.declared.order.Order.{Order}
-use Rattle.basics.proofs.BoundedLaws.{first_found, first-end}
+use Rattle.basics.proofs.BoundedLaws.{first_found, first_end}
 use Rattle.basics.proofs.PiecesLaws.{behind_more}
 use Rattle.basics.proofs.Stores.{Put, put_front}
 use Rattle.basics.proofs.TextLaws.{turn}
@@ -44,11 +44,11 @@ module _ (text : List ℕ) where
 
     -- it is the first that goes on, or behind the rows
     module _ (rows : ℕ) (none : first_that (goes_on text) i ≡ i) where
-      pub move-here : i < rows → goes_on text i ≡ true → RowAt at (first_that (goes_on text) rows)
-      move-here h t = subst (RowAt at) (sym (first_found (goes_on text) rows i h none t)) here
+      pub move_here : i < rows → goes_on text i ≡ true → RowAt at (first_that (goes_on text) rows)
+      move_here h t = subst (RowAt at) (sym (first_found (goes_on text) rows i h none t)) here
 
-      pub move-none : i ≡ rows → RowAt at (first_that (goes_on text) rows)
-      move-none e = subst (RowAt at) (e ∙ first-end (goes_on text) rows i e none) here
+      pub move_none : i ≡ rows → RowAt at (first_that (goes_on text) rows)
+      move_none e = subst (RowAt at) (e ∙ first_end (goes_on text) rows i e none) here
 
   -- the shape, from line 0 and that line
   pub shape_is : (rows observed at : ℕ) (order : Order) (head l : List ℕ) → head ≡ line_at 0 text → rows ≡ rows_in head → order ≡ order_in head

@@ -23,14 +23,14 @@ not_both i m n e h k = clash (and_true (lt-ltb i m h) (lt-ltb i n k)) e
 
 module _ (a b : List ℕ) (n i : ℕ) where
   module _ (in-a : i < length a) (in_b : i < length b) where
-    pub differs-here : (get_or a i 0 ≡ get_or b i 0 → ⊥) → n ≡ difference n (drop i a) (drop i b)
+    pub differs_here : (get_or a i 0 ≡ get_or b i 0 → ⊥) → n ≡ difference n (drop i a) (drop i b)
     unfolding difference
-    differs-here ne = rw (drop-cons a i 0 in-a, drop-cons b i 0 in_b, ne_eqb _ _ ne) refl
+    differs_here ne = rw (drop-cons a i 0 in-a, drop-cons b i 0 in_b, ne_eqb _ _ ne) refl
 
     module _ (same : get_or a i 0 ≡ get_or b i 0) where
-      pub line-more : get_or a i 0 ≡ 10 → difference n (drop i a) (drop i b) ≡ difference (n + 1) (drop (i + 1) a) (drop (i + 1) b)
+      pub line_more : get_or a i 0 ≡ 10 → difference n (drop i a) (drop i b) ≡ difference (n + 1) (drop (i + 1) a) (drop (i + 1) b)
       unfolding difference
-      line-more e = rw (drop-cons a i 0 in-a, drop-cons b i 0 in_b, eq-eqb _ _ same, eq-eqb _ _ e, add-one n, add-one i) refl
+      line_more e = rw (drop-cons a i 0 in-a, drop-cons b i 0 in_b, eq-eqb _ _ same, eq-eqb _ _ e, add-one n, add-one i) refl
 
       pub line_same : (get_or a i 0 ≡ 10 → ⊥) → difference n (drop i a) (drop i b) ≡ difference n (drop (i + 1) a) (drop (i + 1) b)
       unfolding difference
@@ -46,9 +46,9 @@ module _ (a b : List ℕ) (n i : ℕ) where
           | no h ↦ rw (drop_of_length-le a {i = i} (omega arith), drop_of_length-le b {i = i} (omega arith)) refl
         ]
 
-    pub one-ends : (length a ≡ length b → ⊥) → n ≡ difference n (drop i a) (drop i b)
+    pub one_ends : (length a ≡ length b → ⊥) → n ≡ difference n (drop i a) (drop i b)
     unfolding difference
-    one-ends ne =
+    one_ends ne =
         elim (dec_lt i (length a)) [
           | yes h ↦
               elim (dec_lt i (length b)) [

@@ -21,7 +21,7 @@ mach_p p = LL.tuple_val T.the_type T'.the_laws ((T.the_type).to p)
 -- the numbers of a part in memory are bytes
 pub part_bytes : (p : Part) → Is R p (mach_p p ∷ []) → Bytes p
 part_bytes p g = let owed = LL.owed T.the_type T'.the_laws p
-    (mach_p p ∷ []) g in record { left-byte = owed.1.0.1; right-byte = owed.1.1.0.1 }
+    (mach_p p ∷ []) g in record { left_byte = owed.1.0.1; right_byte = owed.1.1.0.1 }
 
 abbrev pub word : Ty
 word = ty_int w64

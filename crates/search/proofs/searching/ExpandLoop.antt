@@ -15,14 +15,14 @@ use Rattle.search.specs.Maps.{map_at, IsMap, map_in, Maps}
 use Rattle.search.specs.Slots.{with_item, same_slot}
 use Rattle.search.specs.Memory.{spread, set_bytes, set_in, sets_in, Holds, bits_in, with_next}
 use Rattle.basics.proofs.BoundedLaws.{first_le}
-use Rattle.search.proofs.PatternSetLaws.{length_set_of, next_all-one}
+use Rattle.search.proofs.PatternSetLaws.{length_set_of, next_all_one}
 use Rattle.search.proofs.LimitsLaws.{place_byte, set_packing}
-use Rattle.search.proofs.SlotsLaws.{held_bytes, item-kept}
-use Rattle.search.proofs.StepsFromItem.{reading-none, Adding, Answers, adding_copy, front_kept, adding_old, adding_new, adding_over}
+use Rattle.search.proofs.SlotsLaws.{held_bytes, item_kept}
+use Rattle.search.proofs.StepsFromItem.{reading_none, Adding, Answers, adding_copy, front_kept, adding_old, adding_new, adding_over}
 
 -- a place has a number of one byte
-pub place-small : (p : ℕ → Bool) (m t : ℕ) → t ≡ first_that p m → m ≤ state_limit → t < 2 ^ 8
-place-small p m t e h = omega (arith, first_le p m, place_byte)
+pub place_small : (p : ℕ → Bool) (m t : ℕ) → t ≡ first_that p m → m ≤ state_limit → t < 2 ^ 8
+place_small p m t e h = omega (arith, first_le p m, place_byte)
 
 module _ (d : ℕ) (maps firsts mem₀ : List ℕ) (i n : ℕ) where
   abbrev by_map : PatternSet → ℕ → PatternSet
@@ -49,8 +49,8 @@ module _ (d : ℕ) (maps firsts mem₀ : List ℕ) (i n : ℕ) where
   target_first a e = sym (target_is (get_or firsts a 0)) ∙ ap by_place e ∙ target_is a
 
   -- that of a letter whose own map is kept
-  target-own : (a : ℕ) → get_or firsts a 0 ≡ a → by_place a ≡ target a
-  target-own a e = ap by_place (sym e) ∙ target_is a
+  target_own : (a : ℕ) → get_or firsts a 0 ≡ a → by_place a ≡ target a
+  target_own a e = ap by_place (sym e) ∙ target_is a
 
   -- ---- the facts that stay
 
@@ -74,12 +74,12 @@ module _ (d : ℕ) (maps firsts mem₀ : List ℕ) (i n : ℕ) where
       Adding set_size (2 ^ suc d) set_bytes by_map (set_in d mem₀ i) (sets_in d mem₀ n) state_limit count (length mem₀) a m mem row
       × Setting count present × Present m mem
 
-  pub kept-none : (present row : List ℕ) → d ≤ operator_limit → length maps ≡ letter_limit * map_size → length row ≤ letter_limit
+  pub kept_none : (present row : List ℕ) → d ≤ operator_limit → length maps ≡ letter_limit * map_size → length row ≤ letter_limit
       → Maps d (length row) maps firsts → i < n → n ≤ state_limit → length mem₀ ≡ (state_limit + 1) * set_size → Holds d mem₀ n
       → present ≡ spread (take (i * set_size + set_size - i * set_size) (drop (i * set_size) mem₀))
       → Kept (length row) present 0 n mem₀ row
-  kept-none present row small size few right l k room g e = (
-    (omega arith, k, refl, refl, reading-none set_size (2 ^ suc d) set_bytes by_map (set_in d mem₀ i) (sets_in d mem₀ n) n mem₀ row refl g),
+  kept_none present row small size few right l k room g e = (
+    (omega arith, k, refl, refl, reading_none set_size (2 ^ suc d) set_bytes by_map (set_in d mem₀ i) (sets_in d mem₀ n) n mem₀ row refl g),
     record {
       small = small;
       size = size;
@@ -121,18 +121,18 @@ module _ (d : ℕ) (maps firsts mem₀ : List ℕ) (i n : ℕ) where
         new_is : new ≡ with_item set_size mem m (set_bytes (target a))
         new_is =
             written
-            ∙ ap (λ s. with_item set_size mem m (set_bytes s)) (next_all-one d (map_at maps d) (set_in d mem i) a
-            ∙ ap (λ s. next d (map_at maps d) s a) z.2.1 ∙ target-own a own)
+            ∙ ap (λ s. with_item set_size mem m (set_bytes s)) (next_all_one d (map_at maps d) (set_in d mem i) a
+            ∙ ap (λ s. next d (map_at maps d) s a) z.2.1 ∙ target_own a own)
 
         -- set i is still there
         present_kept : set_in d new i ≡ set_in d mem₀ i
         present_kept =
             let packing = set_packing d z.1.small in
             let same = front_kept _ _ _ _ _ _ z.0 l packing z.1.room (length_target a) new t new_is first in
-            item-kept set_size (2 ^ suc d) set_bytes packing mem new m z.0.4.holds same i z.2.0 ∙ z.2.1
+            item_kept set_size (2 ^ suc d) set_bytes packing mem new m z.0.4.holds same i z.2.0 ∙ z.2.1
 
-        pub kept-old : (t ≡ m → ⊥) → (m' : ℕ) (mem' row' : List ℕ) → mem' ≡ new → row' ≡ set row a t → m' ≡ m → Kept count present (a + 1) m' mem' row'
-        kept-old ne m' mem' row' p q s =
+        pub kept_old : (t ≡ m → ⊥) → (m' : ℕ) (mem' row' : List ℕ) → mem' ≡ new → row' ≡ set row a t → m' ≡ m → Kept count present (a + 1) m' mem' row'
+        kept_old ne m' mem' row' p q s =
             rw (p, q, s) (
               adding_old _ _ _ _ _ _ z.0 l (set_packing d z.1.small) z.1.room (length_target a) new t new_is first ne,
               z.1,
@@ -148,7 +148,7 @@ module _ (d : ℕ) (maps firsts mem₀ : List ℕ) (i n : ℕ) where
               (omega (arith, z.2.0), present_kept),
             )
 
-        pub kept-over : t ≡ m → m ≡ state_limit → (mem' row' : List ℕ)
+        pub kept_over : t ≡ m → m ≡ state_limit → (mem' row' : List ℕ)
             → Answers set_size (2 ^ suc d) set_bytes by_map (set_in d mem₀ i) (sets_in d mem₀ n) state_limit count TooMany mem' row'
-        kept-over e k mem' row' =
+        kept_over e k mem' row' =
             adding_over _ _ _ _ _ _ z.0 l (set_packing d z.1.small) z.1.room (length_target a) new t new_is first e k mem' row'

@@ -11,10 +11,10 @@ use Rattle.search.specs.PatternSet.{next_all}
 use Rattle.search.specs.Maps.{map_at, IsMap}
 use Rattle.search.specs.Memory.{EachBelow, next_bytes, half_of, set_bytes, set_in, bits_in}
 use Rattle.basics.proofs.LentPart.{part_length, part_at}
-use Rattle.search.proofs.PatternSetLaws.{next_all-one}
+use Rattle.search.proofs.PatternSetLaws.{next_all_one}
 use Rattle.search.proofs.HalfSets.{half_some, half_stored}
 use Rattle.search.proofs.LimitsLaws.{set_room, half_map}
-use Rattle.search.proofs.PackedSets.{packed_length, spread_length, spread-binary, next-packed}
+use Rattle.search.proofs.PackedSets.{packed_length, spread_length, spread_binary, next_packed}
 use Rattle.search.proofs.SlotsLaws.{length_item_in}
 
 -- the map of letter a, as it is lent
@@ -36,7 +36,7 @@ module _ (d : ℕ) (few : d ≤ operator_limit) (maps : List ℕ) (a : ℕ) (siz
 
   module _ (mem : List ℕ) (i : ℕ) (present : List ℕ) (bits : present ≡ bits_in d mem i) (h : ℕ) (half : h ≡ half_of d) where
     binary : EachBelow (length present) 2 present
-    binary = subst (λ s. EachBelow (length s) 2 s) (sym bits) (spread-binary _)
+    binary = subst (λ s. EachBelow (length s) 2 s) (sym bits) (spread_binary _)
 
     present_length : length present ≡ set_size * 8
     present_length = ap length bits ∙ spread_length _ ∙ ap (λ n. n * 8) (packed_length set_size _)
@@ -52,8 +52,8 @@ module _ (d : ℕ) (few : d ≤ operator_limit) (maps : List ℕ) (a : ℕ) (siz
         (binary, omega (arith, entries_length, small), entries_fit, subst (λ b. 0 < b) (sym half) (half_some d), small)
 
     -- and what it writes: the set after the letter
-    pub next-made : next_bytes set_size present (entries maps a) h ≡ set_bytes (next_all d (map_at maps d) (set_in d mem i) (a ∷ []))
-    next-made =
+    pub next_made : next_bytes set_size present (entries maps a) h ≡ set_bytes (next_all d (map_at maps d) (set_in d mem i) (a ∷ []))
+    next_made =
         ap (λ s. next_bytes set_size s (entries maps a) h) bits ∙ ap (next_bytes set_size (bits_in d mem i) (entries maps a)) half
-        ∙ next-packed set_size d (set_room d few) (set_in d mem i) (length_item_in set_size (2 ^ suc d) mem i) (map_at maps d) a (entries maps a) stored reads is-map.fits
-        ∙ ap set_bytes (sym (next_all-one d (map_at maps d) (set_in d mem i) a))
+        ∙ next_packed set_size d (set_room d few) (set_in d mem i) (length_item_in set_size (2 ^ suc d) mem i) (map_at maps d) a (entries maps a) stored reads is-map.fits
+        ∙ ap set_bytes (sym (next_all_one d (map_at maps d) (set_in d mem i) a))

@@ -17,19 +17,19 @@ use Rattle.search.specs.Slots.{explored_of, items_of, RanItems}
 use Rattle.search.proofs.ReachableSetsLaws.{sets_closed}
 
 -- no more are answered than there may be
-pub listed-few : {K : Type 0} (l : Listing K) (limit n : ℕ) → ((xs : List K) → l ≡ closed xs → length xs ≤ limit) → Found n ≡ explored_of l → n ≤ limit
-listed-few (closed xs) limit n few q = let z : n ≡ length xs = cc in omega (arith, few xs refl)
-listed-few over limit n few q = let z : ◌≡◌ {A = ℕ} 0 1 = cc in absurd (omega arith)
+pub listed_few : {K : Type 0} (l : Listing K) (limit n : ℕ) → ((xs : List K) → l ≡ closed xs → length xs ≤ limit) → Found n ≡ explored_of l → n ≤ limit
+listed_few (closed xs) limit n few q = let z : n ≡ length xs = cc in omega (arith, few xs refl)
+listed_few over limit n few q = let z : ◌≡◌ {A = ℕ} 0 1 = cc in absurd (omega arith)
 
-pub answer-few : (d : ℕ) (back : ℕ → ℕ → ℕ) (letters : List ℕ) (limit n : ℕ) → Found n ≡ explored_of (reachable_sets d back letters limit) → n ≤ limit
-answer-few d back letters limit n q = listed-few (reachable_sets d back letters limit) limit n (λ xs e. (sets_closed d back letters limit xs e).1) q
+pub answer_few : (d : ℕ) (back : ℕ → ℕ → ℕ) (letters : List ℕ) (limit n : ℕ) → Found n ≡ explored_of (reachable_sets d back letters limit) → n ≤ limit
+answer_few d back letters limit n q = listed_few (reachable_sets d back letters limit) limit n (λ xs e. (sets_closed d back letters limit xs e).1) q
 
 module _ (w : ℕ) (pack : List Bool → List ℕ) (f : List Bool → ℕ → List Bool) (steps : List Bool → List ℕ) (width : ℕ) (l : Listing (List Bool))
     (mem rows : List ℕ) (ran : RanItems w pack f steps width l mem rows) where
   -- behind the items all is cleared
-  pub end-items : (n k m : ℕ) (rest : List ℕ) → Found n ≡ explored_of l → n * w ≤ length mem → k ≡ length mem - n * w
+  pub end_items : (n k m : ℕ) (rest : List ℕ) → Found n ≡ explored_of l → n * w ≤ length mem → k ≡ length mem - n * w
       → rest ≡ replicate (length (take k (drop (n * w) mem))) 0 → m ≡ length mem → put_mid (n * w) k mem rest ≡ padded m (items_of pack l)
-  end-items n k m rest q room is-k zeros is_m = at l ran q
+  end_items n k m rest q room is-k zeros is_m = at l ran q
     where
       tail : length (drop (n * w) mem) ≡ length mem - n * w
       tail = length-drop (n * w) mem
@@ -52,8 +52,8 @@ module _ (w : ℕ) (pack : List Bool → List ℕ) (f : List Bool → ℕ → Li
           whole ∙ ap₂ (λ x j. x ++ replicate j 0) front rest-size
       at over r p = let z : ◌≡◌ {A = ℕ} 0 1 = cc in absurd (omega arith)
 
-  pub end-rows : (n m : ℕ) → Found n ≡ explored_of l → m ≡ length rows → rows ≡ padded m (rows_over same_set f steps width l)
-  end-rows n m q is_m = at l ran q
+  pub end_rows : (n m : ℕ) → Found n ≡ explored_of l → m ≡ length rows → rows ≡ padded m (rows_over same_set f steps width l)
+  end_rows n m q is_m = at l ran q
     where
       at : (l : Listing (List Bool)) → RanItems w pack f steps width l mem rows → Found n ≡ explored_of l
           → rows ≡ padded m (rows_over same_set f steps width l)

@@ -16,11 +16,11 @@ use Rattle.basics.specs.Lists.{tabulate}
 use Rattle.basics.specs.Bounded.{agree}
 use Rattle.search.specs.Slots.{same_run, same_slot}
 use Rattle.search.specs.Memory.{start_byte, spread, EachBelow, next_byte, repeated, next_bytes}
-use Rattle.basics.proofs.BitsLaws.{low_digit, one-digit, table_from, from_all}
+use Rattle.basics.proofs.BitsLaws.{low_digit, one_digit, table_from, from_all}
 use Rattle.basics.proofs.ListsLaws.{tabulate_ext, table_take, get_d_table}
-use Rattle.basics.proofs.BoundedLaws.{agree-none, agree-more, agree-fails, agree_at, agree-all}
+use Rattle.basics.proofs.BoundedLaws.{agree_none, agree_more, agree_fails, agree_at, agree_all}
 use Rattle.basics.proofs.Booleans.{test, clash}
-use Rattle.basics.proofs.Filling.{table_more, table-all, filled}
+use Rattle.basics.proofs.Filling.{table_more, table_all, filled}
 
 -- ---- `start_byte`
 
@@ -28,13 +28,13 @@ use Rattle.basics.proofs.Filling.{table_more, table-all, filled}
 unfoldable pub start_bit : ℕ → ℕ → ℕ → Bool
 start_bit d i j = bit (i * 8 + j) d
 
-pub start-digit : (d i j : ℕ) → bit_and ((i * 8 + j) / 2 ^ d) 1 ≡ digit (start_bit d i j)
+pub start_digit : (d i j : ℕ) → bit_and ((i * 8 + j) / 2 ^ d) 1 ≡ digit (start_bit d i j)
 unfolding start_bit
-start-digit d i j = low_digit ((i * 8 + j) / 2 ^ d)
+start_digit d i j = low_digit ((i * 8 + j) / 2 ^ d)
 
-pub start-all : (d i : ℕ) → table_from (start_bit d i) 0 8 ≡ start_byte d i
+pub start_all : (d i : ℕ) → table_from (start_bit d i) 0 8 ≡ start_byte d i
 unfolding start_bit start_byte
-start-all d i = from_all (start_bit d i) 8
+start_all d i = from_all (start_bit d i) 8
 
 -- ---- `next_byte`
 
@@ -51,14 +51,14 @@ pub next_small : (present entries : List ℕ) (b j : ℕ) → EachBelow (length 
     → 0 < j → (get_or entries (b * 8 + (j - 1)) 0 < length present) × (get_or present (get_or entries (b * 8 + (j - 1)) 0) 0 < 2)
 next_small present entries b j bits fits h l = let k = fits.small (b * 8 + (j - 1)) (omega arith) in (k, bits.small _ k)
 
-pub next-digit : (present entries : List ℕ) (b j : ℕ) → get_or present (get_or entries (b * 8 + j) 0) 0 < 2
+pub next_digit : (present entries : List ℕ) (b j : ℕ) → get_or present (get_or entries (b * 8 + j) 0) 0 < 2
     → get_or present (get_or entries (b * 8 + j) 0) 0 ≡ digit (next_bit present entries b j)
 unfolding next_bit
-next-digit present entries b j h = one-digit _ h
+next_digit present entries b j h = one_digit _ h
 
-pub next-all : (present entries : List ℕ) (b : ℕ) → table_from (next_bit present entries b) 0 8 ≡ next_byte present entries b
+pub next_all_lem : (present entries : List ℕ) (b : ℕ) → table_from (next_bit present entries b) 0 8 ≡ next_byte present entries b
 unfolding next_bit next_byte
-next-all present entries b = from_all (next_bit present entries b) 8
+next_all_lem present entries b = from_all (next_bit present entries b) 8
 
 -- ---- `put_spread`
 
@@ -66,14 +66,14 @@ next-all present entries b = from_all (next_bit present entries b) 8
 unfoldable pub spread_at : List ℕ → ℕ → ℕ
 spread_at bytes p = digit (bit (get_or bytes (p / 8) 0) (p % 8))
 
-pub spread-digit : (bytes : List ℕ) (p : ℕ) → bit_and (get_or bytes (p / 8) 0 / 2 ^ (p % 8)) 1 ≡ spread_at bytes p
+pub spread_digit : (bytes : List ℕ) (p : ℕ) → bit_and (get_or bytes (p / 8) 0 / 2 ^ (p % 8)) 1 ≡ spread_at bytes p
 unfolding spread_at
-spread-digit bytes p = low_digit (get_or bytes (p / 8) 0 / 2 ^ (p % 8))
+spread_digit bytes p = low_digit (get_or bytes (p / 8) 0 / 2 ^ (p % 8))
 
-pub spread-done : (bytes d w : List ℕ) (p : ℕ) → p ≡ length bytes * 8 → length d ≡ length bytes * 8
+pub spread_done : (bytes d w : List ℕ) (p : ℕ) → p ≡ length bytes * 8 → length d ≡ length bytes * 8
     → w ≡ tabulate p (spread_at bytes) ++ drop p d → w ≡ spread bytes
 unfolding spread_at spread
-spread-done bytes d w p q l e = table-all p (length bytes * 8) (spread_at bytes) d w q l e
+spread_done bytes d w p q l e = table_all p (length bytes * 8) (spread_at bytes) d w q l e
 
 -- ---- `repeat` and `put_next`
 
@@ -82,66 +82,66 @@ unfoldable pub repeated_at : ℕ → List ℕ → ℕ → ℕ
 repeated_at h bytes b = get_or bytes (b % h) 0
 
 -- the first h bytes are as they were
-pub repeated-none : (h : ℕ) (d : List ℕ) → h ≤ length d → d ≡ tabulate h (repeated_at h d) ++ drop h d
+pub repeated_none : (h : ℕ) (d : List ℕ) → h ≤ length d → d ≡ tabulate h (repeated_at h d) ++ drop h d
 unfolding repeated_at
-repeated-none h d l =
+repeated_none h d l =
     sym (take-append-drop h d)
     ∙ ap (λ t. t ++ drop h d) (sym (table_take h d l) ∙ tabulate_ext h (λ i. get_or d i 0) (repeated_at h d) (λ i q. ap (λ k. get_or d k 0) (sym (mod-eq_of_lt q))))
 
 -- each further byte is the one h before it
-repeated-back : (h b : ℕ) (d : List ℕ) → h ≤ b → repeated_at h d (b - h) ≡ repeated_at h d b
+repeated_back : (h b : ℕ) (d : List ℕ) → h ≤ b → repeated_at h d (b - h) ≡ repeated_at h d b
 unfolding repeated_at
-repeated-back h b d l = ap (λ k. get_or d k 0) (sym (mod-eq-sub-mod l))
+repeated_back h b d l = ap (λ k. get_or d k 0) (sym (mod-eq-sub-mod l))
 
-pub repeated-more : (h b : ℕ) (d w : List ℕ) → 0 < h → h ≤ b → b < length d → w ≡ tabulate b (repeated_at h d) ++ drop b d
+pub repeated_more : (h b : ℕ) (d w : List ℕ) → 0 < h → h ≤ b → b < length d → w ≡ tabulate b (repeated_at h d) ++ drop b d
     → set w b (get_or w (b - h) 0) ≡ tabulate (b + 1) (repeated_at h d) ++ drop (b + 1) d
-repeated-more h b d w p l q e =
+repeated_more h b d w p l q e =
     table_more b (repeated_at h d) d w (get_or w (b - h) 0) q e
-    (ap (λ t. get_or t (b - h) 0) e ∙ get_d_table (repeated_at h d) b (b - h) (drop b d) (omega arith) ∙ repeated-back h b d l)
+    (ap (λ t. get_or t (b - h) 0) e ∙ get_d_table (repeated_at h d) b (b - h) (drop b d) (omega arith) ∙ repeated_back h b d l)
 
-pub repeated-done : (h : ℕ) (d w : List ℕ) (b : ℕ) → b ≡ length d → w ≡ tabulate b (repeated_at h d) ++ drop b d → w ≡ repeated h d
+pub repeated_done : (h : ℕ) (d w : List ℕ) (b : ℕ) → b ≡ length d → w ≡ tabulate b (repeated_at h d) ++ drop b d → w ≡ repeated h d
 unfolding repeated_at repeated
-repeated-done h d w b q e = table-all b (length d) (repeated_at h d) d w q refl e
+repeated_done h d w b q e = table_all b (length d) (repeated_at h d) d w q refl e
 
 -- the first bytes of the next set, again and again, are the next set
-next-bytes : (present entries : List ℕ) (h : ℕ) (w r : List ℕ) → 0 < h → w ≡ tabulate h (next_byte present entries) ++ r
+next_bytes_lem : (present entries : List ℕ) (h : ℕ) (w r : List ℕ) → 0 < h → w ≡ tabulate h (next_byte present entries) ++ r
     → repeated h w ≡ next_bytes (length w) present entries h
 unfolding repeated next_bytes
-next-bytes present entries h w r p e =
+next_bytes_lem present entries h w r p e =
     tabulate_ext (length w) (λ b. get_or w (b % h) 0) (λ b. next_byte present entries (b % h))
     (λ b q. ap (λ t. get_or t (b % h) 0) e ∙ get_d_table (next_byte present entries) h (b % h) r (mod-lt b p))
 
-pub next-done : (present entries : List ℕ) (h b : ℕ) (w d : List ℕ) → 0 < h → b ≡ h → length w ≡ length d
+pub next_done : (present entries : List ℕ) (h b : ℕ) (w d : List ℕ) → 0 < h → b ≡ h → length w ≡ length d
     → w ≡ tabulate b (next_byte present entries) ++ drop b d → repeated h w ≡ next_bytes (length d) present entries h
-next-done present entries h b w d p q l e =
-    next-bytes present entries h w (drop h d) p (filled b h (next_byte present entries) d w q e) ∙ ap (λ n. next_bytes n present entries h) l
+next_done present entries h b w d p q l e =
+    next_bytes_lem present entries h w (drop h d) p (filled b h (next_byte present entries) d w q e) ∙ ap (λ n. next_bytes n present entries h) l
 
 -- ---- `same_run`
 
 module _ (mem : List ℕ) (a b : ℕ) where
   pub run_none : same_run mem a b 0 ≡ true
   unfolding same_run
-  run_none = agree-none _ _
+  run_none = agree_none _ _
 
   pub run_more : (y : ℕ) → same_run mem a b y ≡ true → get_or mem (a + y) 0 ≡ get_or mem (b + y) 0 → same_run mem a b (y + 1) ≡ true
   unfolding same_run
-  run_more y p e = agree-more _ _ y p e
+  run_more y p e = agree_more _ _ y p e
 
-  pub run-fails : (k y : ℕ) → y < k → (get_or mem (a + y) 0 ≡ get_or mem (b + y) 0 → ⊥) → same_run mem a b k ≡ false
+  pub run_fails : (k y : ℕ) → y < k → (get_or mem (a + y) 0 ≡ get_or mem (b + y) 0 → ⊥) → same_run mem a b k ≡ false
   unfolding same_run
-  run-fails k y h ne = agree-fails _ _ k y h ne
+  run_fails k y h ne = agree_fails _ _ k y h ne
 
-  pub run-done : (k y : ℕ) → y ≡ k → same_run mem a b y ≡ true → same_run mem a b k ≡ true
-  run-done k y q p = sym (ap (same_run mem a b) q) ∙ p
+  pub run_done : (k y : ℕ) → y ≡ k → same_run mem a b y ≡ true → same_run mem a b k ≡ true
+  run_done k y q p = sym (ap (same_run mem a b) q) ∙ p
 
 -- ---- `same_slot`
 
 module _ (w : ℕ) (mem : List ℕ) (n i y : ℕ) where
   -- k bytes more
-  pub slot-more : (k : ℕ) → same_run mem (i * w) (n * w) y ≡ true → same_run mem (i * w + y) (n * w + y) k ≡ true
+  pub slot_more : (k : ℕ) → same_run mem (i * w) (n * w) y ≡ true → same_run mem (i * w + y) (n * w + y) k ≡ true
       → same_run mem (i * w) (n * w) (y + k) ≡ true
   unfolding same_run
-  slot-more k p q = agree-all _ _ (y + k) (λ j h. at j h (ltb j y) refl)
+  slot_more k p q = agree_all _ _ (y + k) (λ j h. at j h (ltb j y) refl)
     where
       at : (j : ℕ) → j < y + k → (b : Bool) → ltb j y ≡ b → get_or mem (i * w + j) 0 ≡ get_or mem (n * w + j) 0
       at j h true l = agree_at _ _ y j p (ltb-true j y l)
@@ -151,17 +151,17 @@ module _ (w : ℕ) (mem : List ℕ) (n i y : ℕ) where
           let at_n : n * w + y + (j - y) ≡ n * w + j = omega arith in
           sym (ap (λ m. get_or mem m 0) at_i) ∙ agree_at _ _ k (j - y) q (omega arith) ∙ ap (λ m. get_or mem m 0) at_n
 
-  pub slot-fails : (k : ℕ) → y + k ≤ w → same_run mem (i * w + y) (n * w + y) k ≡ false → same_slot w mem n i ≡ false
+  pub slot_fails : (k : ℕ) → y + k ≤ w → same_run mem (i * w + y) (n * w + y) k ≡ false → same_slot w mem n i ≡ false
   unfolding same_run same_slot
-  slot-fails k h e = elim (test (same_slot w mem n i)) [ inl t ↦ clash (part t) e | inr f ↦ f ]
+  slot_fails k h e = elim (test (same_slot w mem n i)) [ inl t ↦ clash (part t) e | inr f ↦ f ]
     where
       part : agree (λ j. get_or mem (i * w + j) 0) (λ j. get_or mem (n * w + j) 0) w ≡ true
           → agree (λ j. get_or mem (i * w + y + j) 0) (λ j. get_or mem (n * w + y + j) 0) k ≡ true
       part t =
-          agree-all _ _ k (λ j l. let at_i : i * w + y + j ≡ i * w + (y + j) = omega arith in
+          agree_all _ _ k (λ j l. let at_i : i * w + y + j ≡ i * w + (y + j) = omega arith in
           let at_n : n * w + y + j ≡ n * w + (y + j) = omega arith in
           ap (λ m. get_or mem m 0) at_i ∙ agree_at _ _ w (y + j) t (omega arith) ∙ sym (ap (λ m. get_or mem m 0) at_n))
 
-  pub slot-done : y ≡ w → same_run mem (i * w) (n * w) y ≡ true → same_slot w mem n i ≡ true
+  pub slot_done : y ≡ w → same_run mem (i * w) (n * w) y ≡ true → same_slot w mem n i ≡ true
   unfolding same_run same_slot
-  slot-done q a = sym (ap (agree (λ j. get_or mem (i * w + j) 0) (λ j. get_or mem (n * w + j) 0)) q) ∙ a
+  slot_done q a = sym (ap (agree (λ j. get_or mem (i * w + j) 0) (λ j. get_or mem (n * w + j) 0)) q) ∙ a

@@ -22,20 +22,20 @@ use Rattle.obligations.specs.Obligation.{is_operator, operators_of, spots, value
 use Rattle.obligations.specs.Words.{lanes, owed_lanes, value_lanes, back_lanes}
 use Rattle.obligations.specs.Values.{Stored, block_size, values_to}
 use Rattle.states.specs.Planes.{carried_lane}
-use Rattle.obligations.proofs.OperatorSpots.{listed-is, listed-spot}
+use Rattle.obligations.proofs.OperatorSpots.{listed_is, listed_spot}
 use Rattle.obligations.proofs.CarriedBack.{pattern_low, pattern_whole, pattern_above}
-use Rattle.obligations.proofs.WordsLaws.{bit-lanes, lanes_ext, carried, none}
-use Rattle.obligations.proofs.StoredParts.{left-inside}
+use Rattle.obligations.proofs.WordsLaws.{bit_lanes, lanes_ext, carried, none}
+use Rattle.obligations.proofs.StoredParts.{left_inside}
 use Rattle.obligations.proofs.ValuesLaws.{Evaluated, evaluated}
 
 -- ---- words
 
 -- the obligation of an operator, from the words of two values
-owed-values : (k : Op) (f g : ℕ → Bool) → owed_lanes k (lanes f) (lanes g) ≡ lanes (λ j. owed k (f j) (g j))
+owed_values : (k : Op) (f g : ℕ → Bool) → owed_lanes k (lanes f) (lanes g) ≡ lanes (λ j. owed k (f j) (g j))
 unfolding owed_lanes
-owed-values k f g =
+owed_values k f g =
     lanes_ext (λ j. owed k (bit (lanes f) j) (bit (lanes g) j)) (λ j. owed k (f j) (g j))
-    (λ j h. ap₂ (owed k) (bit-lanes f j h) (bit-lanes g j h))
+    (λ j h. ap₂ (owed k) (bit_lanes f j h) (bit_lanes g j h))
 
 last_lt : (n : ℕ) → 0 < n → pred n < n
 last_lt n h = omega arith
@@ -57,9 +57,9 @@ module _ (codes listed v : List ℕ) (d x k : ℕ) where
   unfolding carried_lane
   lane_low h = rw (lt-ltb k d h)
 
-  lane-top : k ≡ d → carried_lane ps listed d v x k ≡ get_or v (last_of ps * block_size + x) 0
+  lane_top : k ≡ d → carried_lane ps listed d v x k ≡ get_or v (last_of ps * block_size + x) 0
   unfolding carried_lane
-  lane-top e = rw (le-ltb k d (omega arith), eq-eqb k d e)
+  lane_top e = rw (le-ltb k d (omega arith), eq-eqb k d e)
 
   lane_above : d < k → carried_lane ps listed d v x k ≡ 0
   unfolding carried_lane
@@ -69,10 +69,10 @@ module _ (codes listed v : List ℕ) (d x k : ℕ) where
   pub read_low : k < d → (q : Part) (r : ℕ) → q ≡ part_at ps spot → r ≡ owed_by q → r ≡ carried_lane ps listed d v x k
   read_low h q r e f = f ∙ ap owed_by e ∙ sym (lane_low h)
 
-  pub read-top : k ≡ d → get_or v ((length codes - 1) * block_size + x) 0 ≡ carried_lane ps listed d v x k
-  read-top e =
+  pub read_top : k ≡ d → get_or v ((length codes - 1) * block_size + x) 0 ≡ carried_lane ps listed d v x k
+  read_top e =
       let last : length codes - 1 ≡ pred (length codes) = omega arith in
-      ap (λ n. get_or v (n * block_size + x) 0) (last ∙ ap pred (sym (length_in codes))) ∙ sym (lane-top e)
+      ap (λ n. get_or v (n * block_size + x) 0) (last ∙ ap pred (sym (length_in codes))) ∙ sym (lane_top e)
 
   pub read_above : d ≤ k → ¬ (k ≡ d) → 0 ≡ carried_lane ps listed d v x k
   read_above h n = sym (lane_above (omega (arith, n)))
@@ -89,28 +89,28 @@ module _ (codes : List ℕ) (s : Stored codes) (letters v : List ℕ) (w : ℕ) 
   letter = get_or letters x 0
 
   -- the bits of what is carried back
-  bit-low : (p : ℕ) → k < d → bit (back parts letter p) k ≡ owed_at parts letter p (get_or listed k 0)
+  bit_low : (p : ℕ) → k < d → bit (back parts letter p) k ≡ owed_at parts letter p (get_or listed k 0)
   unfolding back
-  bit-low p h =
+  bit_low p h =
       pattern_low parts (owed_at parts letter p) _ k (subst (λ n. k < n) count h)
-      ∙ ap (owed_at parts letter p) (sym (listed-is parts listed d count front k h))
+      ∙ ap (owed_at parts letter p) (sym (listed_is parts listed d count front k h))
 
-  bit-top : (p : ℕ) → k ≡ d → bit (back parts letter p) k ≡ value_at parts letter p (last_of parts)
+  bit_top : (p : ℕ) → k ≡ d → bit (back parts letter p) k ≡ value_at parts letter p (last_of parts)
   unfolding back
-  bit-top p e = ap (bit (back parts letter p)) (e ∙ count) ∙ pattern_whole parts (owed_at parts letter p) (value_at parts letter p (last_of parts))
+  bit_top p e = ap (bit (back parts letter p)) (e ∙ count) ∙ pattern_whole parts (owed_at parts letter p) (value_at parts letter p (last_of parts))
 
-  bit-above : (p : ℕ) → d < k → bit (back parts letter p) k ≡ false
+  bit_above : (p : ℕ) → d < k → bit (back parts letter p) k ≡ false
   unfolding back
-  bit-above p h = pattern_above parts (owed_at parts letter p) _ k (subst (λ n. n < k) count h)
+  bit_above p h = pattern_above parts (owed_at parts letter p) _ k (subst (λ n. n < k) count h)
 
   -- an operator's obligation
-  carried-low : k < d → carried_lane parts listed d v x k ≡ back_lanes parts letter w k
+  carried_low : k < d → carried_lane parts listed d v x k ≡ back_lanes parts letter w k
   unfolding back_lanes value_lanes owed_at
-  carried-low h =
+  carried_low h =
       lane_low codes listed v d x k h
       ∙ ap₂ (owed_lanes q.kind) (ev.value q.left x below xs) (ev.value i x inside xs)
-      ∙ owed-values q.kind (λ j. value_at parts letter (w * word_size + j) q.left) (λ j. value_at parts letter (w * word_size + j) i)
-      ∙ lanes_ext _ (λ j. bit (back parts letter (w * word_size + j)) k) (λ j l. sym (bit-low (w * word_size + j) h))
+      ∙ owed_values q.kind (λ j. value_at parts letter (w * word_size + j) q.left) (λ j. value_at parts letter (w * word_size + j) i)
+      ∙ lanes_ext _ (λ j. bit (back parts letter (w * word_size + j)) k) (λ j l. sym (bit_low (w * word_size + j) h))
     where
       i : ℕ
       i = get_or listed k 0
@@ -119,44 +119,44 @@ module _ (codes : List ℕ) (s : Stored codes) (letters v : List ℕ) (w : ℕ) 
       q = part_at parts i
 
       there : (i < length parts) × (is_operator parts i ≡ true)
-      there = listed-spot parts listed d count front k h
+      there = listed_spot parts listed d count front k h
 
       inside : i < length codes
       inside = omega (arith, there.0, length_in codes)
 
       below : q.left < length codes
-      below = left-inside codes s i inside there.1
+      below = left_inside codes s i inside there.1
 
   -- the whole formula's
-  carried-top : k ≡ d → carried_lane parts listed d v x k ≡ back_lanes parts letter w k
+  carried_top : k ≡ d → carried_lane parts listed d v x k ≡ back_lanes parts letter w k
   unfolding back_lanes value_lanes
-  carried-top e =
+  carried_top e =
       let inside : last_of parts < length codes = subst (λ n. pred n < length codes) (sym (length_in codes)) (last_lt (length codes) s.some) in
-      lane-top codes listed v d x k e ∙ ev.value (last_of parts) x inside xs
+      lane_top codes listed v d x k e ∙ ev.value (last_of parts) x inside xs
       ∙ lanes_ext (λ j. value_at parts letter (w * word_size + j) (last_of parts)) (λ j. bit (back parts letter (w * word_size + j)) k)
-      (λ j l. sym (bit-top (w * word_size + j) e))
+      (λ j l. sym (bit_top (w * word_size + j) e))
 
   -- none
-  carried-above : d < k → carried_lane parts listed d v x k ≡ back_lanes parts letter w k
+  carried_above : d < k → carried_lane parts listed d v x k ≡ back_lanes parts letter w k
   unfolding back_lanes
-  carried-above h =
+  carried_above h =
       lane_above codes listed v d x k h ∙ carried none
-      ∙ lanes_ext (λ j. false) (λ j. bit (back parts letter (w * word_size + j)) k) (λ j l. sym (bit-above (w * word_size + j) h))
+      ∙ lanes_ext (λ j. false) (λ j. bit (back parts letter (w * word_size + j)) k) (λ j l. sym (bit_above (w * word_size + j) h))
 
   -- what code reads is what the letter carries back
-  carried-is : carried_lane parts listed d v x k ≡ back_lanes parts letter w k
-  carried-is = at (ltb k d) refl (eqb k d) refl
+  carried_is : carried_lane parts listed d v x k ≡ back_lanes parts letter w k
+  carried_is = at (ltb k d) refl (eqb k d) refl
     where
       at : (b : Bool) → ltb k d ≡ b → (c : Bool) → eqb k d ≡ c → carried_lane parts listed d v x k ≡ back_lanes parts letter w k
-      at true e c f = carried-low (ltb-true k d e)
-      at false e true f = carried-top (eqb-true k d f)
-      at false e false f = carried-above (omega (arith, ltb-false k d e, eqb-false k d f))
+      at true e c f = carried_low (ltb-true k d e)
+      at false e true f = carried_top (eqb-true k d f)
+      at false e false f = carried_above (omega (arith, ltb-false k d e, eqb-false k d f))
 
 -- a word that is read from the values as they are left
-pub carried-read : (codes : List ℕ) → Stored codes → (letters v u : List ℕ) (w : ℕ) → length v ≡ index_limit * block_size
+pub carried_read : (codes : List ℕ) → Stored codes → (letters v u : List ℕ) (w : ℕ) → length v ≡ index_limit * block_size
     → u ≡ values_to (parts_in codes) letters w (length codes) v → (listed : List ℕ) (d : ℕ) → d ≡ operators_of (parts_in codes)
     → take d listed ≡ spots (parts_in codes) → (x k : ℕ) → x < block_size → (r : ℕ) → r ≡ carried_lane (parts_in codes) listed d u x k
     → r ≡ back_lanes (parts_in codes) (get_or letters x 0) w k
-carried-read codes s letters v u w long e listed d count front x k xs r f =
+carried_read codes s letters v u w long e listed d count front x k xs r f =
     f ∙ ap (λ t. carried_lane (parts_in codes) listed d t x k) e
-    ∙ carried-is codes s letters _ w (evaluated codes letters w (length codes) v s (le_refl _) long) listed d count front x k xs
+    ∙ carried_is codes s letters _ w (evaluated codes letters w (length codes) v s (le_refl _) long) listed d count front x k xs

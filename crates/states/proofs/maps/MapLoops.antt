@@ -25,10 +25,10 @@ use Rattle.basics.specs.Bounded.{agree}
 use Rattle.states.specs.Limits.{slot_size, plane_size, plane_count}
 use Rattle.states.specs.Planes.{slot_at, lane_of, map_of, place_of, same_words, first_of, maps_to}
 use Rattle.basics.proofs.BitsLaws.{low_digit, table_from, from_all, bits_small}
-use Rattle.basics.proofs.BoundedLaws.{agree-none, agree-more, agree-fails, agree_at, first_le, first_passes, first-least, agree-all}
+use Rattle.basics.proofs.BoundedLaws.{agree_none, agree_more, agree_fails, agree_at, first_le, first_passes, first_least, agree_all}
 use Rattle.basics.proofs.Stores.{get_d_sets_other, get_d_sets_same}
 use Rattle.basics.proofs.LentPart.{mid_sets}
-use Rattle.states.proofs.LimitsLaws.{slot-byte, letter-bytes, planes_fit}
+use Rattle.states.proofs.LimitsLaws.{slot_byte, letter_bytes, planes_fit}
 
 -- ---- the words of two letters
 
@@ -46,20 +46,20 @@ word_code words a y = ap (λ i. get_or words i 0) (add_right_comm (y / slot_size
 
 module _ (words : List ℕ) (a b : ℕ) where
   pub same_none : agree (word_at words a) (word_at words b) 0 ≡ true
-  same_none = agree-none (word_at words a) (word_at words b)
+  same_none = agree_none (word_at words a) (word_at words b)
 
   pub same_more : (y : ℕ) → agree (word_at words a) (word_at words b) y ≡ true
       → code_word words a y ≡ code_word words b y → agree (word_at words a) (word_at words b) (y + 1) ≡ true
-  same_more y h e = agree-more (word_at words a) (word_at words b) y h (sym (word_code words a y) ∙ e ∙ word_code words b y)
+  same_more y h e = agree_more (word_at words a) (word_at words b) y h (sym (word_code words a y) ∙ e ∙ word_code words b y)
 
-  pub same-fails : (y : ℕ) → y < plane_count * slot_size → (code_word words a y ≡ code_word words b y → ⊥) → false ≡ same_words words a b
+  pub same_fails : (y : ℕ) → y < plane_count * slot_size → (code_word words a y ≡ code_word words b y → ⊥) → false ≡ same_words words a b
   unfolding same_words word_at
-  same-fails y h ne =
-      sym (agree-fails (word_at words a) (word_at words b) (plane_count * slot_size) y h (λ e. ne (word_code words a y ∙ e ∙ sym (word_code words b y))))
+  same_fails y h ne =
+      sym (agree_fails (word_at words a) (word_at words b) (plane_count * slot_size) y h (λ e. ne (word_code words a y ∙ e ∙ sym (word_code words b y))))
 
-  pub same-all : (y : ℕ) → y ≡ plane_count * slot_size → agree (word_at words a) (word_at words b) y ≡ true → true ≡ same_words words a b
+  pub same_all : (y : ℕ) → y ≡ plane_count * slot_size → agree (word_at words a) (word_at words b) y ≡ true → true ≡ same_words words a b
   unfolding same_words word_at
-  same-all y e h = sym h ∙ ap (agree (word_at words a) (word_at words b)) e
+  same_all y e h = sym h ∙ ap (agree (word_at words a) (word_at words b)) e
 
 -- ---- a number across a letter's words
 
@@ -68,19 +68,19 @@ unfoldable pub bit_in : List ℕ → ℕ → ℕ → ℕ → Bool
 bit_in words at j k = bit (get_or words (at + k) 0) j
 
 -- a bit more leaves it a byte
-pub lane-small : (f : ℕ → Bool) (n k : ℕ) → 0 < k → n ≡ table_from f k (slot_size - k) → n < 2 ^ 7
-lane-small f n k h e =
-    let fits : slot_size - 1 ≤ 7 = omega (arith, slot-byte) in
+pub lane_small : (f : ℕ → Bool) (n k : ℕ) → 0 < k → n ≡ table_from f k (slot_size - k) → n < 2 ^ 7
+lane_small f n k h e =
+    let fits : slot_size - 1 ≤ 7 = omega (arith, slot_byte) in
     lt_of_lt_of_le (bits_small slot_size f n k h e) (pow_mono {i = slot_size - 1} {j = 7} fits)
 
 module _ (words : List ℕ) (at j : ℕ) where
-  pub lane-digit : (k : ℕ) → bit_and (get_or words (at + k) 0 / 2 ^ j) 1 ≡ digit (bit_in words at j k)
+  pub lane_digit : (k : ℕ) → bit_and (get_or words (at + k) 0 / 2 ^ j) 1 ≡ digit (bit_in words at j k)
   unfolding bit_in
-  lane-digit k = low_digit (get_or words (at + k) 0 / 2 ^ j)
+  lane_digit k = low_digit (get_or words (at + k) 0 / 2 ^ j)
 
-  pub lane-all : table_from (bit_in words at j) 0 slot_size ≡ lane_of words at j
+  pub lane_all : table_from (bit_in words at j) 0 slot_size ≡ lane_of words at j
   unfolding lane_of bit_in
-  lane-all = from_all (bit_in words at j) slot_size
+  lane_all = from_all (bit_in words at j) slot_size
 
 -- ---- a letter's map
 
@@ -108,23 +108,23 @@ module _ (words : List ℕ) where
 
   same_trans : (a b d : ℕ) → same_words words a b ≡ true → same_words words b d ≡ true → same_words words a d ≡ true
   unfolding same_words word_at
-  same_trans a b d e f = agree-all (word_at words a) (word_at words d) (plane_count * slot_size) (λ y h. same_at a b y e h ∙ same_at b d y f h)
+  same_trans a b d e f = agree_all (word_at words a) (word_at words d) (plane_count * slot_size) (λ y h. same_at a b y e h ∙ same_at b d y f h)
 
-  first-same : (a : ℕ) → first_of words a < a → same_words words a (first_of words a) ≡ true
+  first_same : (a : ℕ) → first_of words a < a → same_words words a (first_of words a) ≡ true
   unfolding first_of
-  first-same a h = first_passes (same_words words a) a h
+  first_same a h = first_passes (same_words words a) a h
 
-  first-before : (a : ℕ) → first_of words a ≤ a
+  first_before : (a : ℕ) → first_of words a ≤ a
   unfolding first_of
-  first-before a = first_le (same_words words a) a
+  first_before a = first_le (same_words words a) a
 
   none_before : (a i : ℕ) → i < first_of words a → same_words words a i ≡ false
   unfolding first_of
-  none_before a i h = first-least (same_words words a) a i h
+  none_before a i h = first_least (same_words words a) a i h
 
   -- it is the first with its own words
-  first-first : (a : ℕ) → first_of words (first_of words a) ≡ first_of words a
-  first-first a = at (eq-or-lt_of_le (first-before a)) (eq-or-lt_of_le (first-before (first_of words a)))
+  first_first : (a : ℕ) → first_of words (first_of words a) ≡ first_of words a
+  first_first a = at (eq-or-lt_of_le (first_before a)) (eq-or-lt_of_le (first_before (first_of words a)))
     where
       at : (first_of words a ≡ a) ⊎ (first_of words a < a)
           → (first_of words (first_of words a) ≡ first_of words a) ⊎ (first_of words (first_of words a) < first_of words a)
@@ -132,7 +132,7 @@ module _ (words : List ℕ) where
       at (inl e) s = ap (first_of words) e
       at (inr l) (inl e) = e
       at (inr l) (inr k) =
-          absurd (true≢false (sym (same_trans a (first_of words a) (first_of words (first_of words a)) (first-same a l) (first-same (first_of words a) k))
+          absurd (true≢false (sym (same_trans a (first_of words a) (first_of words (first_of words a)) (first_same a l) (first_same (first_of words a) k))
           ∙ none_before a (first_of words (first_of words a)) k))
 
   -- word k of plane w
@@ -153,15 +153,15 @@ module _ (words : List ℕ) where
       word k l = sym (word_in a (p / word_size) k l) ∙ same_at a b (p / word_size * slot_size + k) e (omega arith) ∙ word_in b (p / word_size) k l
 
   map_first : (a p : ℕ) → p < map_size → map_entry words (first_of words a) p ≡ map_entry words a p
-  map_first a p h = at (eq-or-lt_of_le (first-before a))
+  map_first a p h = at (eq-or-lt_of_le (first_before a))
     where
       at : (first_of words a ≡ a) ⊎ (first_of words a < a) → map_entry words (first_of words a) p ≡ map_entry words a p
       at (inl e) = ap (λ b. map_entry words b p) e
-      at (inr l) = sym (map_same a (first_of words a) p (first-same a l) h)
+      at (inr l) = sym (map_same a (first_of words a) p (first_same a l) h)
 
 -- it fits two bytes
 pub first_small : (words : List ℕ) (a b : ℕ) → b ≡ first_of words a → a < letter_limit → b < 2 ^ 16
-first_small words a b e h = lt_of_le_of_lt (subst (λ x. x ≤ a) (sym e) (first-before words a)) (lt_of_lt_of_le h letter-bytes)
+first_small words a b e h = lt_of_le_of_lt (subst (λ x. x ≤ a) (sym e) (first_before words a)) (lt_of_lt_of_le h letter_bytes)
 
 -- ---- the maps that are kept
 
@@ -236,16 +236,16 @@ module _ (words : List ℕ) (m : ℕ) (few : m ≤ plane_count) (d : List ℕ) w
       → firsts ≡ tabulate n (first_of words) ++ rest → Classified m n words maps firsts
   unfolding map_entry
   classified n maps firsts rest room em ef = record {
-    before = λ a h. subst (λ x. x ≤ a) (sym (first-is a h)) (first-before words a);
-    first = λ a h. ap (λ x. get_or firsts x 0) (first-is a h) ∙ first-is (first_of words a) (first_lt a h) ∙ first-first words a ∙ sym (first-is a h);
+    before = λ a h. subst (λ x. x ≤ a) (sym (first_is a h)) (first_before words a);
+    first = λ a h. ap (λ x. get_or firsts x 0) (first_is a h) ∙ first_is (first_of words a) (first_lt a h) ∙ first_first words a ∙ sym (first_is a h);
     entry = λ a p h l.
-        ap₂ (λ t x. get_or t (x * map_size + p) 0) em (first-is a h)
-        ∙ map_kept n room (first_of words a) p (first_lt a h) (first-first words a) l
+        ap₂ (λ t x. get_or t (x * map_size + p) 0) em (first_is a h)
+        ∙ map_kept n room (first_of words a) p (first_lt a h) (first_first words a) l
         ∙ map_first words a p (lt_of_lt_of_le l (planes_fit m few));
   }
     where
-      first-is : (a : ℕ) → a < n → get_or firsts a 0 ≡ first_of words a
-      first-is a h = ap (λ t. get_or t a 0) ef ∙ get_d_table (first_of words) n a rest h
+      first_is : (a : ℕ) → a < n → get_or firsts a 0 ≡ first_of words a
+      first_is a h = ap (λ t. get_or t a 0) ef ∙ get_d_table (first_of words) n a rest h
 
       first_lt : (a : ℕ) → a < n → first_of words a < n
-      first_lt a h = lt_of_le_of_lt (first-before words a) h
+      first_lt a h = lt_of_le_of_lt (first_before words a) h

@@ -41,8 +41,8 @@ abbrev pub word : Answer → Val
 word a = EL.val E.the_type E'.the_laws a
 
 -- what whoever holds a result knows of its fields
-pub position-is : (r : Moved) (w : Val) → Is RS r (w ∷ []) → Is R r.position (mach r.position ∷ [])
-position-is r w is = (LL.owed S.the_type S'.the_laws r (w ∷ []) is).0
+pub position_is : (r : Moved) (w : Val) → Is RS r (w ∷ []) → Is R r.position (mach r.position ∷ [])
+position_is r w is = (LL.owed S.the_type S'.the_laws r (w ∷ []) is).0
 
-pub answer-is : (r : Moved) (w : Val) → Is RS r (w ∷ []) → Is RE r.answer (word r.answer ∷ [])
-answer-is r w is = (LL.owed S.the_type S'.the_laws r (w ∷ []) is).1.0
+pub answer_is : (r : Moved) (w : Val) → Is RS r (w ∷ []) → Is RE r.answer (word r.answer ∷ [])
+answer_is r w is = (LL.owed S.the_type S'.the_laws r (w ∷ []) is).1.0

@@ -61,10 +61,10 @@ module _ {p q q₂ cs : List ℕ} {n m : ℕ} (k : ℕ) (w : Wrote p n cs m q) w
         let d : m₂ - m ≡ length ds = omega (arith, v.ends) in
         wrote_then w (wrote_then v (wrote_one (s ∙ ap (λ t. set q₂ m₂ (cell k (two_sided t))) d)))
 
-pub wrote-joined : {p q q₂ q₃ cs ds : List ℕ} {n m m₂ r : ℕ} (k op : ℕ) → Wrote p n cs m q → Wrote q m ds m₂ q₂
+pub wrote_joined : {p q q₂ q₃ cs ds : List ℕ} {n m m₂ r : ℕ} (k op : ℕ) → Wrote p n cs m q → Wrote q m ds m₂ q₂
     → (r ≡ m₂ + 2) × (q₃ ≡ set (set q₂ m₂ (cell op (two_sided (m₂ - m)))) (m₂ + 1) (cell k one_sided))
     → Wrote p n (prefix_cells k (infix_cells op cs ds)) r q₃
-wrote-joined {m₂ = m₂} k op w v e =
+wrote_joined {m₂ = m₂} k op w v e =
     let z : m₂ + 2 ≡ m₂ + 1 + 1 = omega arith in
     wrote_as refl (e.0 ∙ z) (wrote_prefix k (wrote_infix op w v refl) e.1)
 
@@ -75,10 +75,10 @@ set_on n c e f = f ∙ ap (λ t. set t n c) e
 -- ---- a word that is known
 
 module _ {word known : PlanWord} (e : word ≡ known) (cs ds : List ℕ) (n : ℕ) where
-  pub room-known : n + plan_size word (length cs) (length ds) < 65536 → n + plan_size known (length cs) (length ds) < 65536
-  room-known h = subst (λ w. n + plan_size w (length cs) (length ds) < 65536) e h
+  pub room_known : n + plan_size word (length cs) (length ds) < 65536 → n + plan_size known (length cs) (length ds) < 65536
+  room_known h = subst (λ w. n + plan_size w (length cs) (length ds) < 65536) e h
 
-  pub told-known : (p : List ℕ) {q : List ℕ} {r : ℕ}
+  pub told_known : (p : List ℕ) {q : List ℕ} {r : ℕ}
       → (r ≡ n + plan_size known (length cs) (length ds)) × (q ≡ sets p n (plan_cells known cs ds))
       → (r ≡ n + plan_size word (length cs) (length ds)) × (q ≡ sets p n (plan_cells word cs ds))
-  told-known p {q} {r} h = subst (λ w. (r ≡ n + plan_size w (length cs) (length ds)) × (q ≡ sets p n (plan_cells w cs ds))) (sym e) h
+  told_known p {q} {r} h = subst (λ w. (r ≡ n + plan_size w (length cs) (length ds)) × (q ≡ sets p n (plan_cells w cs ds))) (sym e) h

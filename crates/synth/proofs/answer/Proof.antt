@@ -3,7 +3,7 @@
 use native.Mathlib.Omega.{arith}
 use mathlib.Core.Path.{sym}
 use lib.Seq.{length-take-le}
-use Rattle.cabinet.proofs.ResponseLaws.{text-within}
+use Rattle.cabinet.proofs.ResponseLaws.{text_within}
 use borrow.Author.Rules.{rules}
 use Rattle.synth.proofs.answer.Statement.{statement}
 use Rattle.synth.proofs.answer.Tie as tie
@@ -27,7 +27,7 @@ array-share-prefix-text : tie.Need-array-share-prefix-text
 array-share-prefix-text c =
     let respond = c.before.before.before.before.before.before.respond in
     let n = c.before.n.given in
-    let inside = text-within c.before.before.before.before.before.before.before.before.before.before.before.args.source.now _ _ _
+    let inside = text_within c.before.before.before.before.before.before.before.before.before.before.before.args.source.now _ _ _
     respond.result respond.new.1.1.1.0 respond.ensures.0 respond.ensures.1.0 n.0.0 n.1 in
     omega (arith, respond.auto.1.1.1.0)
 
@@ -35,7 +35,7 @@ slice-aggregate-write : tie.Need-slice-aggregate-write
 slice-aggregate-write c =
     let respond = c.before.before.before.before.before.before.before.respond in
     let n = c.before.before.n.given in
-    sym (length-take-le n.0.0 respond.new.1.1.1.0 (text-within
+    sym (length-take-le n.0.0 respond.new.1.1.1.0 (text_within
     c.before.before.before.before.before.before.before.before.before.before.before.before.args.source.now _ _ _ respond.result
     respond.new.1.1.1.0 respond.ensures.0 respond.ensures.1.0 n.0.0 n.1))
 

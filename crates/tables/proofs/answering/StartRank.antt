@@ -19,7 +19,7 @@ use Rattle.basics.specs.declared.order.Order.{Order}
 use Rattle.play.specs.Answer.{start_rank, verdict_of, cells_of}
 use Rattle.tables.specs.Outcome.{outcome_of}
 use Rattle.tables.specs.PositionMemory.{arena_in, Positions, ranks_below, no_rank}
-use Rattle.tables.proofs.PositionMemoryLaws.{rank-read}
+use Rattle.tables.proofs.PositionMemoryLaws.{rank_read}
 
 module _ (o : Order) (n choices observations : ℕ) (moves finals ranks : List ℕ) (positions : Positions n choices observations moves finals)
     (ranked : take n ranks ≡ ranks_below o n choices observations n moves finals) where
@@ -30,37 +30,37 @@ module _ (o : Order) (n choices observations : ℕ) (moves finals ranks : List �
   start = start_rank o A eqb choices observations n
 
   rank_is : get_or ranks 0 0 ≡ cond (ltb start n) start no_rank
-  rank_is = rank-read o n choices observations n moves finals ranks ranked 0 positions.some
+  rank_is = rank_read o n choices observations n moves finals ranks ranked 0 positions.some
 
-  rank-found : start < n → get_or ranks 0 0 ≡ start
-  rank-found b = rank_is ∙ ap (λ (t : Bool). cond t start no_rank) (lt-ltb start n b)
+  rank_found : start < n → get_or ranks 0 0 ≡ start
+  rank_found b = rank_is ∙ ap (λ (t : Bool). cond t start no_rank) (lt-ltb start n b)
 
   -- the start's entry says whether it has a rank
   start_none : get_or ranks 0 0 ≡ no_rank → ltb start n ≡ false
   start_none e =
       elim (test (ltb start n)) [
-        | inl t ↦ let b = ltb-true start n t in absurd (omega (arith, sym (rank-found b) ∙ e, b, positions.few))
+        | inl t ↦ let b = ltb-true start n t in absurd (omega (arith, sym (rank_found b) ∙ e, b, positions.few))
         | inr f ↦ f
       ]
 
-  pub start-found : (get_or ranks 0 0 ≡ no_rank → ⊥) → start < n
-  start-found ne =
+  pub start_found : (get_or ranks 0 0 ≡ no_rank → ⊥) → start < n
+  start_found ne =
       elim (test (ltb start n)) [
         | inl t ↦ ltb-true start n t
         | inr f ↦ absurd (ne (rank_is ∙ ap (λ (t : Bool). cond t start no_rank) f))
       ]
 
   pub start_small : (get_or ranks 0 0 ≡ no_rank → ⊥) → get_or ranks 0 0 < belief_limit
-  start_small ne = let b = start-found ne in omega (arith, rank-found b, b, positions.few)
+  start_small ne = let b = start_found ne in omega (arith, rank_found b, b, positions.few)
 
   -- the two answers
-  pub none-answer : (table : List ℕ) → get_or ranks 0 0 ≡ no_rank
+  pub none_answer : (table : List ℕ) → get_or ranks 0 0 ≡ no_rank
       → (Unrealizable ≡ outcome_of (verdict_of o A eqb choices observations n)) × (table ≡ written (cells_of (verdict_of o A eqb choices observations n)) table)
-  none-answer table e = rw (start_none e) (refl, refl)
+  none_answer table e = rw (start_none e) (refl, refl)
 
-  pub table-answer : (k r : ℕ) (table table' : List ℕ) → (get_or ranks 0 0 ≡ no_rank → ⊥) → r ≡ get_or ranks 0 0 → k ≡ length (rows o A eqb choices observations n)
+  pub table_answer : (k r : ℕ) (table table' : List ℕ) → (get_or ranks 0 0 ≡ no_rank → ⊥) → r ≡ get_or ranks 0 0 → k ≡ length (rows o A eqb choices observations n)
       → table' ≡ table_cells o A eqb choices observations n ++ drop (length (table_cells o A eqb choices observations n)) table
       → (Table k r ≡ outcome_of (verdict_of o A eqb choices observations n)) × (table' ≡ written (cells_of (verdict_of o A eqb choices observations n)) table)
-  table-answer k r table table' ne e l t =
-      let b = start-found ne in
-      rw (lt-ltb start n b) (ap₂ Table l (e ∙ rank-found b), t)
+  table_answer k r table table' ne e l t =
+      let b = start_found ne in
+      rw (lt-ltb start n b) (ap₂ Table l (e ∙ rank_found b), t)

@@ -8,7 +8,7 @@ use mathlib.Core.List.{List}
 use lib.Dec.{ltb}
 use lib.ListN.{get_or}
 use borrow.Author.Tests.{lt-ltb, le-ltb}
-use Rattle.basics.proofs.BoundedLaws.{first_more, first_found, all-fails, all_more, any_of, any-first}
+use Rattle.basics.proofs.BoundedLaws.{first_more, first_found, all_fails, all_more, any_of, any_first}
 use Rattle.play.specs.Limits.{pair_limit}
 use Rattle.basics.specs.Bounded.{all, any, first_that}
 use Rattle.basics.specs.declared.order.Order.TheVariants.{Set, Read}
@@ -36,26 +36,26 @@ module _ (moves ranks : List ℕ) (choices observations r k : ℕ) where
   abbrev pub ok : ℕ → Bool
   ok = works moves ranks choices observations r k
 
-  works-is : (c : ℕ) → ok c ≡ all observations (leads c)
+  works_is : (c : ℕ) → ok c ≡ all observations (leads c)
   unfolding works leads
-  works-is c = refl
+  works_is c = refl
 
   -- the observation passed
-  pub leads-more : (c s : ℕ) → all s (leads c) ≡ true → reached c s < r → all (s + 1) (leads c) ≡ true
-  leads-more c s a h = all_more s (leads c) a (passes c s h)
+  pub leads_more : (c s : ℕ) → all s (leads c) ≡ true → reached c s < r → all (s + 1) (leads c) ≡ true
+  leads_more c s a h = all_more s (leads c) a (passes c s h)
 
   -- the observation fails: the next choice
-  pub choice-fails : (c s : ℕ) → first_that ok c ≡ c → s < observations → r ≤ reached c s → first_that ok (c + 1) ≡ c + 1
-  choice-fails c s e hs h = first_more ok c e (works-is c ∙ all-fails observations (leads c) s hs (fails c s h))
+  pub choice_fails : (c s : ℕ) → first_that ok c ≡ c → s < observations → r ≤ reached c s → first_that ok (c + 1) ≡ c + 1
+  choice_fails c s e hs h = first_more ok c e (works_is c ∙ all_fails observations (leads c) s hs (fails c s h))
 
   -- all passed
-  pub choice-found : (c : ℕ) → c < choices → first_that ok c ≡ c → all observations (leads c) ≡ true → c ≡ first_that ok choices
-  choice-found c h e a = sym (first_found ok choices c h e (works-is c ∙ a))
+  pub choice_found : (c : ℕ) → c < choices → first_that ok c ≡ c → all observations (leads c) ≡ true → c ≡ first_that ok choices
+  choice_found c h e a = sym (first_found ok choices c h e (works_is c ∙ a))
 
   -- the controller can lead if there is such a choice
   pub lead_set : (c : ℕ) → c ≡ first_that ok choices → ltb c choices ≡ can_lead Set moves ranks choices observations r k
   unfolding can_lead works
-  lead_set c e = ap (λ i. ltb i choices) e ∙ sym (any-first ok choices)
+  lead_set c e = ap (λ i. ltb i choices) e ∙ sym (any_first ok choices)
 
   -- ---- a choice for each observation
 
@@ -74,19 +74,19 @@ module _ (moves ranks : List ℕ) (choices observations r k : ℕ) where
   none_more s c e h = first_more (at s) c e (fails c s h)
 
   -- the choice leads below r: the next observation
-  pub observation-more : (s c : ℕ) → all s some_at ≡ true → c < choices → reached c s < r → all (s + 1) some_at ≡ true
-  observation-more s c a hc h = all_more s some_at a (any_of choices (at s) c hc (passes c s h))
+  pub observation_more : (s c : ℕ) → all s some_at ≡ true → c < choices → reached c s < r → all (s + 1) some_at ≡ true
+  observation_more s c a hc h = all_more s some_at a (any_of choices (at s) c hc (passes c s h))
 
   -- no choice does
-  pub observation-fails : (s : ℕ) → s < observations → (c : ℕ) → c ≡ choices → first_that (at s) c ≡ c
+  pub observation_fails : (s : ℕ) → s < observations → (c : ℕ) → c ≡ choices → first_that (at s) c ≡ c
       → false ≡ can_lead Read moves ranks choices observations r k
-  observation-fails s hs c q e =
+  observation_fails s hs c q e =
       let none : first_that (at s) choices ≡ choices = subst (λ i. first_that (at s) i ≡ i) q e in
       let past : choices ≤ first_that (at s) choices = subst (λ i. choices ≤ i) (sym none) (le_refl choices) in
-      sym (lead_read_is ∙ all-fails observations some_at s hs (any-first (at s) choices ∙ le-ltb (first_that (at s) choices) choices past))
+      sym (lead_read_is ∙ all_fails observations some_at s hs (any_first (at s) choices ∙ le-ltb (first_that (at s) choices) choices past))
 
-  pub observations-pass : (s : ℕ) → s ≡ observations → all s some_at ≡ true → true ≡ can_lead Read moves ranks choices observations r k
-  observations-pass s q a = sym (lead_read_is ∙ subst (λ i. all i some_at ≡ true) q a)
+  pub observations_pass : (s : ℕ) → s ≡ observations → all s some_at ≡ true → true ≡ can_lead Read moves ranks choices observations r k
+  observations_pass s q a = sym (lead_read_is ∙ subst (λ i. all i some_at ≡ true) q a)
 
 -- the loops are through
 pub none_left : (c n : ℕ) (ok : ℕ → Bool) → c ≡ n → first_that ok c ≡ c → n ≡ first_that ok n

@@ -23,13 +23,13 @@ use Rattle.tables.specs.PositionMemory.{with_choice, with_pair}
 
 -- ---- the first cell
 
-pub first-at : (o : Order) → 0 * row_size o ≡ 0
-first-at o = omega arith
+pub first_at : (o : Order) → 0 * row_size o ≡ 0
+first_at o = omega arith
 
 -- written over zeros
-pub first-put : (o : Order) (n : ℕ) (cells : List ℕ) (v w : ℕ) → n ≡ row_size o → cells ≡ replicate n 0 → v ≡ w
+pub first_put : (o : Order) (n : ℕ) (cells : List ℕ) (v w : ℕ) → n ≡ row_size o → cells ≡ replicate n 0 → v ≡ w
     → set cells (0 * row_size o) v ≡ set (replicate (row_size o) 0) 0 w
-first-put o n cells v w e f g = ap₂ (λ l i. set l i v) (f ∙ ap (λ i. replicate i 0) e) (first-at o) ∙ ap (set (replicate (row_size o) 0) 0) g
+first_put o n cells v w e f g = ap₂ (λ l i. set l i v) (f ∙ ap (λ i. replicate i 0) e) (first_at o) ∙ ap (set (replicate (row_size o) 0) 0) g
 
 -- where the table stops that is all
 pub stop_is : (o : Order) → set (replicate (row_size o) 0) 0 stop_cell ≡ stop_row o
@@ -40,32 +40,32 @@ stop_is Read = refl
 -- ---- the last cell
 
 -- written over what is there
-pub rank-put : (o : Order) (cells row : List ℕ) (r : ℕ) → cells ≡ row → set cells (0 * row_size o + rank_at o) r ≡ with_rank o r row
+pub rank_put : (o : Order) (cells row : List ℕ) (r : ℕ) → cells ≡ row → set cells (0 * row_size o + rank_at o) r ≡ with_rank o r row
 unfolding with_rank
-rank-put o cells row r e =
+rank_put o cells row r e =
     let at : 0 * row_size o + rank_at o ≡ rank_at o = omega arith in
     ap₂ (λ l i. set l i r) e at
 
 -- where the table stops it is 0 as it is
-pub stop-ranked : (o : Order) → with_rank o 0 (stop_row o) ≡ stop_row o
+pub stop_ranked : (o : Order) → with_rank o 0 (stop_row o) ≡ stop_row o
 unfolding with_rank stop_row
-stop-ranked Set = refl
-stop-ranked Read = refl
+stop_ranked Set = refl
+stop_ranked Read = refl
 
 -- ---- the cells of the observations
 
 module _ (o : Order) (cells : List ℕ) (s c : ℕ) (after : List ℕ) where
   -- the choice is written under `Read` alone
-  pub choice-none : o ≡ Set → after ≡ cells → after ≡ with_choice o cells s c
-  choice-none told e = e ∙ ap (λ (o : Order). with_choice o cells s c) (sym told)
+  pub choice_none : o ≡ Set → after ≡ cells → after ≡ with_choice o cells s c
+  choice_none told e = e ∙ ap (λ (o : Order). with_choice o cells s c) (sym told)
 
-  pub choice-put : o ≡ Read → after ≡ set cells (0 * row_size o + choice_at o s) c → after ≡ with_choice o cells s c
-  choice-put told e =
+  pub choice_put : o ≡ Read → after ≡ set cells (0 * row_size o + choice_at o s) c → after ≡ with_choice o cells s c
+  choice_put told e =
       let at : 0 * row_size o + choice_at o s ≡ choice_at o s = omega arith in
       e ∙ ap (λ i. set cells i c) at ∙ ap (λ (o : Order). set cells (choice_at o s) c) told ∙ ap (λ (o : Order). with_choice o cells s c) (sym told)
 
-  pub next-put : after ≡ with_choice o cells s c → (next : ℕ) → set after (0 * row_size o + next_at o s) next ≡ with_pair o cells s c next
-  next-put is next =
+  pub next_put : after ≡ with_choice o cells s c → (next : ℕ) → set after (0 * row_size o + next_at o s) next ≡ with_pair o cells s c next
+  next_put is next =
       let at : 0 * row_size o + next_at o s ≡ next_at o s = omega arith in
       ap₂ (λ l i. set l i next) is at
 
@@ -121,10 +121,10 @@ module _ (answer next : ℕ → ℕ) where
       ]
 
   -- no observation is written yet
-  pub row-begin : (o : Order) → set (replicate (row_size o) 0) 0 (first_of o answer) ≡ choice_row o 0 answer next
+  pub row_begin : (o : Order) → set (replicate (row_size o) 0) 0 (first_of o answer) ≡ choice_row o 0 answer next
   unfolding choice_row
-  row-begin Set = refl
-  row-begin Read = refl
+  row_begin Set = refl
+  row_begin Read = refl
 
   -- one more
   pub row_more : (o : Order) (s : ℕ) → with_pair o (choice_row o s answer next) s (answer s) (next s) ≡ choice_row o (s + 1) answer next

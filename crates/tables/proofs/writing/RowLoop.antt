@@ -22,7 +22,7 @@ use Rattle.play.specs.Cells.{rank_at, row_size, first_of, choice_row, with_rank}
 use Rattle.tables.specs.PositionMemory.{next_of, next_by, rows_with, row_with, with_pair}
 use Rattle.play.proofs.CellsLaws.{choice_length}
 use Rattle.tables.proofs.writing.RowNumbers.{index_le, index_out, index_in_lem}
-use Rattle.tables.proofs.writing.RowCells.{rank-put, row-begin, row_more}
+use Rattle.tables.proofs.writing.RowCells.{rank_put, row_begin, row_more}
 use Rattle.basics.proofs.SaysLaws.{eqb_says}
 
 -- ---- a list to which things are added one after another
@@ -97,16 +97,16 @@ module _ (o : Order) (moves answers : List ℕ) (choices observations k m : ℕ)
       added_end eqb eqb_says (take m rows₀) (tabulate observations next) s
       (subst (λ n. n ≤ s) (sym (length_tabulate observations next)) h)
 
-  rows-tail : (s : ℕ) → (ys : List ℕ) × (rows_all ≡ rows_to s ++ ys)
+  rows_tail : (s : ℕ) → (ys : List ℕ) × (rows_all ≡ rows_to s ++ ys)
   unfolding rows_to rows_with
-  rows-tail s = added_tail eqb eqb_says (take m rows₀) (tabulate observations next) s
+  rows_tail s = added_tail eqb eqb_says (take m rows₀) (tabulate observations next) s
 
   rows_le : (s : ℕ) → length (rows_to s) ≤ length rows_all
-  rows_le s = let t = rows-tail s in omega (arith, ap length t.1 ∙ length-append (rows_to s) t.0)
+  rows_le s = let t = rows_tail s in omega (arith, ap length t.1 ∙ length-append (rows_to s) t.0)
 
   -- what is there keeps its number
-  number-kept : (s x : ℕ) → is_in eqb x (rows_to s) ≡ true → index_in eqb x rows_all ≡ index_in eqb x (rows_to s)
-  number-kept s x h = let t = rows-tail s in ap (index_in eqb x) t.1 ∙ (index_kept eqb x (rows_to s) t.0 h).0
+  number_kept : (s x : ℕ) → is_in eqb x (rows_to s) ≡ true → index_in eqb x rows_all ≡ index_in eqb x (rows_to s)
+  number_kept s x h = let t = rows_tail s in ap (index_in eqb x) t.1 ∙ (index_kept eqb x (rows_to s) t.0 h).0
 
   -- ---- turn by turn
 
@@ -121,20 +121,20 @@ module _ (o : Order) (moves answers : List ℕ) (choices observations k m : ℕ)
         count = sym (ap length rows_none ∙ length-take-le m rows₀ (omega arith));
         front = sym rows_none;
         rest = refl;
-        cells_are = is ∙ row-begin (λ t. get_or answers t 0) (λ t. index_in eqb (next t) rows_all) o;
+        cells_are = is ∙ row_begin (λ t. get_or answers t 0) (λ t. index_in eqb (next t) rows_all) o;
       }
 
   -- the cells have room
-  pub cells-room : (s n : ℕ) (rows cells : List ℕ) → Adding s n rows cells → length cells ≡ row_size o
+  pub cells_room : (s n : ℕ) (rows cells : List ℕ) → Adding s n rows cells → length cells ≡ row_size o
   unfolding cells_to
-  cells-room s n rows cells a = ap length a.cells_are ∙ choice_length s (λ t. get_or answers t 0) (λ t. index_in eqb (next t) rows_all) o
+  cells_room s n rows cells a = ap length a.cells_are ∙ choice_length s (λ t. get_or answers t 0) (λ t. index_in eqb (next t) rows_all) o
 
   -- observation s leads to position t, which is found at row j
   module _ (s n : ℕ) (rows cells : List ℕ) (a : Adding s n rows cells) (inside : s < observations) (t j : ℕ)
       (is-t : t ≡ get_or moves (k * pair_limit + s * choices + get_or answers s 0) 0) (found : j ≡ index_in eqb t (take n rows)) where
-    next-is : t ≡ next s
+    next_is : t ≡ next s
     unfolding next_of
-    next-is = is-t
+    next_is = is-t
 
     place : j ≡ index_in eqb t (rows_to s)
     place = found ∙ ap (index_in eqb t) a.front
@@ -143,21 +143,21 @@ module _ (o : Order) (moves answers : List ℕ) (choices observations k m : ℕ)
     place_le = omega (arith, place, a.count, index_le eqb t (rows_to s))
 
     -- the cells of observation s are written
-    cells-more : index_in eqb t rows_all ≡ j → (cells' : List ℕ) → cells' ≡ with_pair o cells s (get_or answers s 0) j → cells' ≡ cells_to (s + 1)
+    cells_more : index_in eqb t rows_all ≡ j → (cells' : List ℕ) → cells' ≡ with_pair o cells s (get_or answers s 0) j → cells' ≡ cells_to (s + 1)
     unfolding cells_to
-    cells-more e cells' q =
-        q ∙ ap₂ (λ l i. with_pair o l s (get_or answers s 0) i) a.cells_are (sym (ap (λ x. index_in eqb x rows_all) (sym next-is) ∙ e))
+    cells_more e cells' q =
+        q ∙ ap₂ (λ l i. with_pair o l s (get_or answers s 0) i) a.cells_are (sym (ap (λ x. index_in eqb x rows_all) (sym next_is) ∙ e))
         ∙ row_more (λ i. get_or answers i 0) (λ i. index_in eqb (next i) rows_all) o s
 
     grows : rows_to (s + 1) ≡ add_new eqb (rows_to s) t
-    grows = rows_more s inside ∙ ap (add_new eqb (rows_to s)) (sym next-is)
+    grows = rows_more s inside ∙ ap (add_new eqb (rows_to s)) (sym next_is)
 
     pub adding_old : (j ≡ n → ⊥) → (n' : ℕ) (rows' cells' : List ℕ) → rows' ≡ rows → cells' ≡ with_pair o cells s (get_or answers s 0) j → n' ≡ n
         → Adding (s + 1) n' rows' cells'
     adding_old ne n' rows' cells' p q r =
         let there : is_in eqb t (rows_to s) ≡ true = index_in_lem eqb t (rows_to s) (λ e. ne (place ∙ e ∙ sym a.count)) in
         let e : rows_to s ≡ rows_to (s + 1) = sym (grows ∙ add_old eqb (rows_to s) t there) in
-        let is = cells-more (number-kept s t there ∙ sym place) cells' q in
+        let is = cells_more (number_kept s t there ∙ sym place) cells' q in
         rw (p, r) (
         record {
           turn = omega arith;
@@ -170,9 +170,9 @@ module _ (o : Order) (moves answers : List ℕ) (choices observations k m : ℕ)
         }
         )
 
-    module _ (is-new : j ≡ n) where
+    module _ (is_new : j ≡ n) where
       absent : is_in eqb t (rows_to s) ≡ false
-      absent = index_out eqb t (rows_to s) (sym place ∙ is-new ∙ a.count)
+      absent = index_out eqb t (rows_to s) (sym place ∙ is_new ∙ a.count)
 
       appended : rows_to (s + 1) ≡ rows_to s ++ (t ∷ [])
       appended = grows ∙ add_new_lem eqb (rows_to s) t absent
@@ -181,8 +181,8 @@ module _ (o : Order) (moves answers : List ℕ) (choices observations k m : ℕ)
       longer = ap length appended ∙ length-append (rows_to s) (t ∷ []) ∙ ap (λ i. i + 1) (sym a.count)
 
       -- there is room for one more row
-      pub room-left : length rows_all ≤ belief_limit → n < belief_limit
-      room-left room = omega (arith, longer, rows_le (s + 1))
+      pub room_left : length rows_all ≤ belief_limit → n < belief_limit
+      room_left room = omega (arith, longer, rows_le (s + 1))
 
       last : (index_in eqb t (rows_to (s + 1)) ≡ n) × (is_in eqb t (rows_to (s + 1)) ≡ true)
       last =
@@ -192,9 +192,9 @@ module _ (o : Order) (moves answers : List ℕ) (choices observations k m : ℕ)
       pub adding_new : length rows_all ≤ belief_limit → (n' : ℕ) (rows' cells' : List ℕ) → rows' ≡ set rows n t
           → cells' ≡ with_pair o cells s (get_or answers s 0) j → n' ≡ n + 1 → Adding (s + 1) n' rows' cells'
       adding_new room n' rows' cells' p q r =
-          let small : n < belief_limit = room-left room in
+          let small : n < belief_limit = room_left room in
           let small' : n < length rows = omega (arith, a.long) in
-          let is = cells-more (number-kept (s + 1) t last.1 ∙ last.0 ∙ sym is-new) cells' q in
+          let is = cells_more (number_kept (s + 1) t last.1 ∙ last.0 ∙ sym is_new) cells' q in
           rw (p, r) (
           record {
             turn = omega arith;
@@ -224,6 +224,6 @@ module _ (o : Order) (moves answers : List ℕ) (choices observations k m : ℕ)
         is-n,
         (
           sym (take-append-drop n rows) ∙ ap₂ ◌++◌ (a.front ∙ e) (a.rest ∙ ap (λ i. drop i rows₀) is-n),
-          q ∙ rank-put o cells (row_with o moves choices observations k answers rows_all) rank is,
+          q ∙ rank_put o cells (row_with o moves choices observations k answers rows_all) rank is,
         ),
       )

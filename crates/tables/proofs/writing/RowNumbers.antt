@@ -66,18 +66,18 @@ module _ (rows : List ℕ) (k : ℕ) where
   unfolding index_in
   passed_none = refl
 
-  pub passed-more : (m i : ℕ) → m ≤ length rows → i < m → Passed i → (get_or rows i 0 ≡ k → ⊥) → Passed (i + 1)
+  pub passed_more : (m i : ℕ) → m ≤ length rows → i < m → Passed i → (get_or rows i 0 ≡ k → ⊥) → Passed (i + 1)
   unfolding index_in
-  passed-more m i fits h e n =
+  passed_more m i fits h e n =
       let l : length (take i rows) ≡ i = length-take-le i rows (omega arith) in
       let d : eqb k (get_or rows i 0) ≡ false = ne_eqb k (get_or rows i 0) (λ q. n (sym q)) in
       ap (λ j. index_in eqb k (take j rows)) (add-one i) ∙ ap (index_in eqb k) (take-suc rows i 0 (omega arith))
       ∙ index_past eqb k (take i rows) (get_or rows i 0 ∷ []) (e ∙ sym l) ∙ ap (λ b. length (take i rows) + cond b 0 1) d ∙ ap (λ j. j + 1) l
 
   -- row i is the first that is k
-  pub passed-found : (m i : ℕ) → m ≤ length rows → i < m → Passed i → get_or rows i 0 ≡ k → i ≡ index_in eqb k (take m rows)
+  pub passed_found : (m i : ℕ) → m ≤ length rows → i < m → Passed i → get_or rows i 0 ≡ k → i ≡ index_in eqb k (take m rows)
   unfolding index_in
-  passed-found m i fits h e n =
+  passed_found m i fits h e n =
       let l : length (take i rows) ≡ i = length-take-le i rows (omega arith) in
       let d : eqb k (get_or rows i 0) ≡ true = eq-eqb k (get_or rows i 0) (sym n) in
       let q : m ≡ i + suc (m - suc i) = omega arith in
@@ -90,5 +90,5 @@ module _ (rows : List ℕ) (k : ℕ) where
       )
 
   -- there is none
-  pub passed-all : (m i : ℕ) → i ≤ m → m ≤ i → Passed i → m ≡ index_in eqb k (take m rows)
-  passed-all m i g h e = let q : i ≡ m = omega arith in sym (rw q at e)
+  pub passed_all : (m i : ℕ) → i ≤ m → m ≤ i → Passed i → m ≡ index_in eqb k (take m rows)
+  passed_all m i g h e = let q : i ≡ m = omega arith in sym (rw q at e)

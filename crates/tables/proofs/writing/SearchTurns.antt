@@ -9,7 +9,7 @@ use lib.ListN.{length, get_or, length-append, get_or-append}
 use Rattle.basics.specs.Says.{Says}
 use Rattle.basics.specs.Member.{◌∈◌}
 use Rattle.basics.specs.Reach.{Listing, closed, is_in, index_in, add_all}
-use Rattle.basics.proofs.ReachLaws.{is_in-says, added_all, explore-tail}
+use Rattle.basics.proofs.ReachLaws.{is_in_says, added_all, explore_tail}
 use Rattle.basics.proofs.GrowingList.{index_kept}
 use Rattle.basics.proofs.BreadthFirst.{search_from, search_end}
 use Rattle.play.specs.Table.{list_of}
@@ -26,7 +26,7 @@ module _ {K : Type 0} (same : K → K → Bool) (steps : K → List K) (first : 
     -- what is found begins with what was met
     pub search_tail : (xs : List K) (i : ℕ) → From xs i ≡ closed found → (ys : List K) × (found ≡ xs ++ ys)
     unfolding search_from
-    search_tail xs i e = explore-tail same says steps first limit (suc limit - i) xs i found e
+    search_tail xs i e = explore_tail same says steps first limit (suc limit - i) xs i found e
 
     pub search_length : (xs : List K) (i : ℕ) → From xs i ≡ closed found → length xs ≤ length found
     search_length xs i e = let t = search_tail xs i e in omega (arith, ap length t.1 ∙ length-append xs t.0)
@@ -40,5 +40,5 @@ module _ {K : Type 0} (same : K → K → Bool) (steps : K → List K) (first : 
         → index_in same y (add_all same xs ys) ≡ index_in same y found
     search_number xs ys i e y m =
         let t = search_tail (add_all same xs ys) i e in
-        let there : is_in same y (add_all same xs ys) ≡ true = (is_in-says same says y (add_all same xs ys)).1 ((added_all same says ys xs).has y m) in
+        let there : is_in same y (add_all same xs ys) ≡ true = (is_in_says same says y (add_all same xs ys)).1 ((added_all same says ys xs).has y m) in
         sym (ap (index_in same y) t.1 ∙ (index_kept same y (add_all same xs ys) t.0 there).0)

@@ -18,7 +18,7 @@ use Rattle.basics.proofs.ListsLaws.{length_tabulate, tabulate_ext, get_d_table}
 use Rattle.basics.specs.Member.{◌∈◌}
 use Rattle.basics.specs.Reach.{closed, index_in, add_all, reachable}
 use Rattle.basics.proofs.MemberLaws.{in_below, in_tabulate, get_d_in}
-use Rattle.basics.proofs.ReachLaws.{added_all, closed-lists}
+use Rattle.basics.proofs.ReachLaws.{added_all, closed_lists}
 use Rattle.basics.proofs.EqualRows.{length_rows}
 use Rattle.basics.proofs.LentPart.{part_length}
 use Rattle.basics.proofs.BreadthFirst.{search_from, search_begin, search_turn}
@@ -29,17 +29,17 @@ use Rattle.play.specs.Table.{list_of, followers_by, followers, rows, row_of, tab
 use Rattle.play.specs.Answer.{start_rank}
 use Rattle.tables.specs.PositionMemory.{arena_in, Positions, Choices, ranks_below, next_of, next_by, answer_at, answers_at, rows_with, row_with}
 use Rattle.basics.proofs.Booleans.{clash}
-use Rattle.basics.proofs.BoundedLaws.{first_passes, first-least}
+use Rattle.basics.proofs.BoundedLaws.{first_passes, first_least}
 use Rattle.play.proofs.StepOrder.{StepOrder, order_of}
-use Rattle.play.proofs.RankLaws.{In, HasRank, rank-searched, final-rank}
+use Rattle.play.proofs.RankLaws.{In, HasRank, rank_searched, final_rank}
 use Rattle.play.proofs.FiniteArena.{Closed}
 use Rattle.play.proofs.Optimality.{descends}
-use Rattle.play.proofs.RankedRows.{Ranked, rows-listed, rows-ranked}
-use Rattle.play.proofs.TableLaws.{row-stop, row_goes, row_width}
+use Rattle.play.proofs.RankedRows.{Ranked, rows_listed, rows_ranked}
+use Rattle.play.proofs.TableLaws.{row_stop, row_goes, row_width}
 use Rattle.play.proofs.CellsLaws.{choice_ext}
 use Rattle.basics.proofs.SaysLaws.{eqb_says}
-use Rattle.tables.proofs.PositionMemoryLaws.{own_read, answer-read}
-use Rattle.tables.proofs.writing.RowCells.{first-at, stop-ranked}
+use Rattle.tables.proofs.PositionMemoryLaws.{own_read, answer_read}
+use Rattle.tables.proofs.writing.RowCells.{first_at, stop_ranked}
 use Rattle.tables.proofs.writing.SearchTurns.{search_found, search_length, search_at, search_number}
 
 -- ---- lists of rows
@@ -56,9 +56,9 @@ flat_more {K} g xs i d h = ap (λ j. flat_map g (take j xs)) (add-one i) ∙ at 
     at (x ∷ xs) (suc i) h = ap (λ t. g x ++ t) (at xs i (omega arith)) ∙ sym (append_assoc (g x) (flat_map g (take i xs)) (g (get_or xs i d)))
 
 -- a part is put right behind the front
-front-more : (front row memory whole : List ℕ) (at k : ℕ) → length front ≡ at → whole ≡ front ++ drop at memory
+front_more : (front row memory whole : List ℕ) (at k : ℕ) → length front ≡ at → whole ≡ front ++ drop at memory
     → put_mid at k whole row ≡ (front ++ row) ++ drop (at + k) memory
-front-more front row memory whole at k lf e =
+front_more front row memory whole at k lf e =
     ap₂ (λ t u. t ++ (row ++ drop k u)) (ap (take at) e ∙ take_at front (drop at memory) at lf) (ap (drop at) e ∙ drop_at front (drop at memory) at lf)
     ∙ ap (λ t. front ++ (row ++ t)) (drop-drop k at memory) ∙ sym (append_assoc front row (drop (at + k) memory))
 
@@ -113,14 +113,14 @@ module _ (o : Order) (n choices observations : ℕ) (moves finals : List ℕ) wh
   abbrev rank_for : ℕ → ℕ
   rank_for = rank_from o arena choices observations n
 
-  cells-stop : (k : ℕ) → arena.final k ≡ true → rank_for k ≡ 0 → cells_of k ≡ stop_row o
+  cells_stop : (k : ℕ) → arena.final k ≡ true → rank_for k ≡ 0 → cells_of k ≡ stop_row o
   unfolding cells_of
-  cells-stop k t e = ap₂ (with_rank o) e (row-stop o arena eqb choices observations n all_rows k t) ∙ stop-ranked o
+  cells_stop k t e = ap₂ (with_rank o) e (row_stop o arena eqb choices observations n all_rows k t) ∙ stop_ranked o
 
-  cells-goes : (k : ℕ) → arena.final k ≡ false
+  cells_goes : (k : ℕ) → arena.final k ≡ false
       → cells_of k ≡ with_rank o (rank_for k) (choice_row o observations (answer_for k) (λ s. index_in eqb (arena.move k (answer_for k s) s) all_rows))
   unfolding cells_of
-  cells-goes k f = ap (with_rank o (rank_for k)) (row_goes o arena eqb choices observations n all_rows k f)
+  cells_goes k f = ap (with_rank o (rank_for k)) (row_goes o arena eqb choices observations n all_rows k f)
 
   cells_length : (k : ℕ) → length (cells_of k) ≡ row_size o
   unfolding cells_of
@@ -130,17 +130,17 @@ module _ (o : Order) (n choices observations : ℕ) (moves finals : List ℕ) wh
   unfolding after
   after_stop k t = rw (t, followers_by)
 
-  after-goes : (k : ℕ) → arena.final k ≡ false → after k ≡ tabulate observations (λ s. arena.move k (answer_for k s) s)
+  after_goes : (k : ℕ) → arena.final k ≡ false → after k ≡ tabulate observations (λ s. arena.move k (answer_for k s) s)
   unfolding after
-  after-goes k f = rw (f, followers_by)
+  after_goes k f = rw (f, followers_by)
 
   -- ---- the rows are found, and all are ranked
 
-  module _ (P : Positions n choices observations moves finals) (start-ranked : start_rank o arena eqb choices observations n < n) where
+  module _ (P : Positions n choices observations moves finals) (start_ranked : start_rank o arena eqb choices observations n < n) where
     abbrev O : StepOrder choices observations
     O = order_of o choices observations
 
-    inside : Closed O arena P.some-observation (below n)
+    inside : Closed O arena P.some_observation (below n)
     inside k m f c cb s sb = (in_below n _).1 (P.inside k c s ((in_below n k).0 m) cb sb)
 
     start_in : 0 ∈ below n
@@ -149,49 +149,49 @@ module _ (o : Order) (n choices observations : ℕ) (moves finals : List ℕ) wh
     fits : length (below n) ≤ n
     fits = omega (arith, length_tabulate n (λ k. k))
 
-    abbrev start-rank : ℕ
-    start-rank = start_rank o arena eqb choices observations n
+    abbrev start_rank_lem : ℕ
+    start_rank_lem = start_rank o arena eqb choices observations n
 
-    start_has : HasRank O arena 0 start-rank
-    start_has = (first_passes (λ q. In O arena q 0) n start-ranked, first-least (λ q. In O arena q 0) n)
+    start_has : HasRank O arena 0 start_rank_lem
+    start_has = (first_passes (λ q. In O arena q 0) n start_ranked, first_least (λ q. In O arena q 0) n)
 
     listed : (l : List ℕ) × (reachable eqb after 0 n ≡ closed l)
     unfolding after
     listed =
-        rows-listed O arena eqb eqb_says P.some-observation (below n) inside start_in n fits
+        rows_listed O arena eqb eqb_says P.some_observation (below n) inside start_in n fits
         answer_for (descends o arena choices observations n)
-        start-rank start-ranked start_has
+        start_rank_lem start_ranked start_has
 
     found : reachable eqb after 0 n ≡ closed all_rows
     unfolding after all_rows
     found = let (l, e) = listed in e ∙ ap closed (sym (ap list_of e))
 
     rows_few : length all_rows ≤ belief_limit
-    rows_few = omega (arith, (closed-lists eqb eqb_says after 0 n all_rows found).1, P.few)
+    rows_few = omega (arith, (closed_lists eqb eqb_says after 0 n all_rows found).1, P.few)
 
-    row-ranked : (k : ℕ) → k ∈ all_rows
-        → Ranked O arena eqb eqb_says P.some-observation (below n) inside start_in n fits
-        answer_for (descends o arena choices observations n) start-rank start-ranked start_has k
+    row_ranked : (k : ℕ) → k ∈ all_rows
+        → Ranked O arena eqb eqb_says P.some_observation (below n) inside start_in n fits
+        answer_for (descends o arena choices observations n) start_rank_lem start_ranked start_has k
     unfolding after
-    row-ranked k m =
-        rows-ranked O arena eqb eqb_says P.some-observation (below n) inside start_in n fits
+    row_ranked k m =
+        rows_ranked O arena eqb eqb_says P.some_observation (below n) inside start_in n fits
         answer_for (descends o arena choices observations n)
-        start-rank start-ranked start_has all_rows found k m
+        start_rank_lem start_ranked start_has all_rows found k m
 
     row_lt : (k : ℕ) → k ∈ all_rows → k < n
-    row_lt k m = (in_below n k).0 (row-ranked k m).0
+    row_lt k m = (in_below n k).0 (row_ranked k m).0
 
     -- the rank of a row is found
-    row-rank : (k : ℕ) → k ∈ all_rows → (rank_for k < n) × HasRank O arena k (rank_for k)
-    row-rank k m =
-        let (_, q, b, a) = row-ranked k m in
+    row_rank : (k : ℕ) → k ∈ all_rows → (rank_for k < n) × HasRank O arena k (rank_for k)
+    row_rank k m =
+        let (_, q, b, a) = row_ranked k m in
         let small : q < n = omega arith in
-        subst (λ (r : ℕ). (r < n) × HasRank O arena k r) (sym (rank-searched O arena n q k small a)) (small, a)
+        subst (λ (r : ℕ). (r < n) × HasRank O arena k r) (sym (rank_searched O arena n q k small a)) (small, a)
 
     -- a row that is not final has a rank over 0, and takes choices
     row_chooses : (k : ℕ) → k ∈ all_rows → arena.final k ≡ false
         → (q : ℕ) × (suc q < n) × HasRank O arena k (suc q) × ((s : ℕ) → s < observations → answer_for k s < choices)
-    row_chooses k m f = let (b, a) = row-rank k m in on (rank_for k) b a
+    row_chooses k m f = let (b, a) = row_rank k m in on (rank_for k) b a
       where
         on : (q : ℕ) → q < n → HasRank O arena k q
             → (q : ℕ) × (suc q < n) × HasRank O arena k (suc q) × ((s : ℕ) → s < observations → answer_for k s < choices)
@@ -200,16 +200,16 @@ module _ (o : Order) (n choices observations : ℕ) (moves finals : List ℕ) wh
 
     -- ---- turn by turn
 
-    pub turn-begin : (table : List ℕ) → Turn table 0 1 (replicate belief_limit 0) table
+    pub turn_begin : (table : List ℕ) → Turn table 0 1 (replicate belief_limit 0) table
     unfolding flat_map
-    turn-begin table =
+    turn_begin table =
         record {
           read = omega arith;
           few = omega arith;
           long = length-replicate {A = ℕ} belief_limit 0;
           goes = sym (search_begin eqb after 0 n) ∙ found;
           wide = refl;
-          cells = ap (λ j. drop j table) (sym (first-at o));
+          cells = ap (λ j. drop j table) (sym (first_at o));
         }
 
     module _ (table₀ : List ℕ) (i m : ℕ) (met table : List ℕ) (t : Turn table₀ i m met table) where
@@ -223,20 +223,20 @@ module _ (o : Order) (n choices observations : ℕ) (moves finals : List ℕ) wh
       met_le = subst (λ j. j ≤ length all_rows) xs_length (search_length eqb after 0 n eqb_says all_rows xs i t.goes)
 
       -- the cells of row i, as they are lent
-      pub row-part : (size : ℕ) → i < m → size ≡ row_size o → table_size ≤ length table₀
+      pub row_part : (size : ℕ) → i < m → size ≡ row_size o → table_size ≤ length table₀
           → length (take (i * size + size - i * size) (drop (i * size) table)) ≡ row_size o
-      row-part size here e room =
+      row_part size here e room =
           part_length (i * size) size table (omega (arith, row_room o i size (omega (arith, t.few)) e, t.wide)) ∙ e
 
       module _ (here : i < m) (k : ℕ) (is-k : k ≡ get_or met i 0) where
         here' : i < length xs
         here' = subst (λ j. i < j) (sym xs_length) here
 
-        at-xs : get_or xs i 0 ≡ k
-        at-xs = get_or-take m met i 0 here ∙ sym is-k
+        at_xs : get_or xs i 0 ≡ k
+        at_xs = get_or-take m met i 0 here ∙ sym is-k
 
         at_all : get_or all_rows i 0 ≡ k
-        at_all = search_at eqb after 0 n eqb_says all_rows xs i i 0 t.goes here' ∙ at-xs
+        at_all = search_at eqb after 0 n eqb_says all_rows xs i i 0 t.goes here' ∙ at_xs
 
         row_in : k ∈ all_rows
         row_in = subst (λ x. x ∈ all_rows) at_all (get_d_in all_rows i 0 (omega (arith, met_le)))
@@ -246,29 +246,29 @@ module _ (o : Order) (n choices observations : ℕ) (moves finals : List ℕ) wh
 
         goes_on_lem : search_from eqb after 0 n (add_all eqb xs (after k)) (i + 1) ≡ closed all_rows
         goes_on_lem =
-            sym (search_turn eqb after 0 n xs i k few here' at-xs) ∙ t.goes
+            sym (search_turn eqb after 0 n xs i k few here' at_xs) ∙ t.goes
           where
             few : length xs ≤ n
-            few = omega (arith, xs_length, met_le, (closed-lists eqb eqb_says after 0 n all_rows found).1)
+            few = omega (arith, xs_length, met_le, (closed_lists eqb eqb_says after 0 n all_rows found).1)
 
         -- one more row of cells
-        cells-more : (at w : ℕ) (row : List ℕ) → at ≡ i * row_size o → w ≡ row_size o → row ≡ cells_of k
+        cells_more : (at w : ℕ) (row : List ℕ) → at ≡ i * row_size o → w ≡ row_size o → row ≡ cells_of k
             → put_mid at w table row ≡ flat_map cells_of (take (i + 1) all_rows) ++ drop ((i + 1) * row_size o) table₀
-        cells-more at w row is_at is-w is_row =
+        cells_more at w row is_at is-w is_row =
             let long : length (flat_map cells_of (take i all_rows)) ≡ at =
             length_rows (row_size o) cells_of cells_length (take i all_rows)
             ∙ ap (λ j. j * row_size o) (length-take-le i all_rows (omega (arith, met_le))) ∙ sym is_at in
             let next : at + w ≡ (i + 1) * row_size o = ap₂ ◌+◌ is_at is-w ∙ rows_next o i in
-            front-more (flat_map cells_of (take i all_rows)) row table₀ table at w long
+            front_more (flat_map cells_of (take i all_rows)) row table₀ table at w long
             (t.cells ∙ ap (λ j. flat_map cells_of (take i all_rows) ++ drop j table₀) (sym is_at))
             ∙ ap₂ (λ u j. u ++ drop j table₀)
             (ap (λ u. flat_map cells_of (take i all_rows) ++ u) (is_row ∙ ap cells_of (sym at_all)) ∙ sym (flat_more cells_of all_rows i 0 (omega (arith, met_le))))
             next
 
         -- the table's length stays
-        wide-more : (at w : ℕ) (row : List ℕ) → at ≡ i * row_size o → w ≡ row_size o → row ≡ cells_of k → table_size ≤ length table₀
+        wide_more : (at w : ℕ) (row : List ℕ) → at ≡ i * row_size o → w ≡ row_size o → row ≡ cells_of k → table_size ≤ length table₀
             → length (put_mid at w table row) ≡ length table₀
-        wide-more at w row is_at is-w is_row room =
+        wide_more at w row is_at is-w is_row room =
             let enough : i * w + w ≤ table_size = row_room o i w (omega (arith, t.few)) is-w in
             let here-at : at ≡ i * w = is_at ∙ ap (λ z. i * z) (sym is-w) in
             let room-behind : w ≤ length table - at = omega (arith, t.wide) in
@@ -278,66 +278,66 @@ module _ (o : Order) (n choices observations : ℕ) (moves finals : List ℕ) wh
             ∙ t.wide
 
         -- a position where the table stops
-        pub turn-stop : (at w : ℕ) (row : List ℕ) → at ≡ i * row_size o → w ≡ row_size o → table_size ≤ length table₀ → get_or finals k 0 ≡ 1 → row ≡ stop_row o
+        pub turn_stop : (at w : ℕ) (row : List ℕ) → at ≡ i * row_size o → w ≡ row_size o → table_size ≤ length table₀ → get_or finals k 0 ≡ 1 → row ≡ stop_row o
             → (met' table' : List ℕ) (m' : ℕ) → table' ≡ put_mid at w table row → met' ≡ met → m' ≡ m → Turn table₀ (i + 1) m' met' table'
-        turn-stop at w row is_at is-w room ends is_row met' table' m' p q r =
+        turn_stop at w row is_at is-w room ends is_row met' table' m' p q r =
             let stops : arena.final k ≡ true = eq-eqb (get_or finals k 0) 1 ends in
-            let is : row ≡ cells_of k = is_row ∙ sym (cells-stop k stops (final-rank O arena k (rank_for k) (row-rank k row_in).1 stops)) in
+            let is : row ≡ cells_of k = is_row ∙ sym (cells_stop k stops (final_rank O arena k (rank_for k) (row_rank k row_in).1 stops)) in
             rw (p, q, r) (
             record {
               read = omega arith;
               few = t.few;
               long = t.long;
               goes = ap (λ l. search_from eqb after 0 n l (i + 1)) (sym (ap (add_all eqb xs) (after_stop k stops) ∙ add_nothing xs)) ∙ goes_on_lem;
-              wide = wide-more at w row is_at is-w is room;
-              cells = cells-more at w row is_at is-w is;
+              wide = wide_more at w row is_at is-w is room;
+              cells = cells_more at w row is_at is-w is;
             }
             )
 
         -- a position that takes choices
         module _ (ranks : List ℕ) (ranked : take n ranks ≡ ranks_below o n choices observations n moves finals) (on : get_or finals k 0 ≡ 1 → ⊥)
             (answers₀ answers : List ℕ) (is-answers : answers ≡ written (answers_at o moves ranks choices observations k) answers₀) where
-          goes-here : arena.final k ≡ false
-          goes-here = ne_eqb (get_or finals k 0) 1 on
+          goes_here : arena.final k ≡ false
+          goes_here = ne_eqb (get_or finals k 0) 1 on
 
-          answers-are : (s : ℕ) → s < observations → get_or answers s 0 ≡ answer_for k s
+          answers_are : (s : ℕ) → s < observations → get_or answers s 0 ≡ answer_for k s
           unfolding answers_at
-          answers-are s h =
-              let (q, b, a, _) = row_chooses k row_in goes-here in
+          answers_are s h =
+              let (q, b, a, _) = row_chooses k row_in goes_here in
               ap (λ l. get_or l s 0) is-answers ∙ get_d_table (answer_at o moves ranks choices observations k) observations s _ h
-              ∙ answer-read n choices observations moves finals ranks P k (row_lt k row_in) o ranked q b a s h
+              ∙ answer_read n choices observations moves finals ranks P k (row_lt k row_in) o ranked q b a s h
 
           small : Choices choices observations answers
           small =
-              record { small = λ s h. subst (λ c. c < choices) (sym (answers-are s h)) ((row_chooses k row_in goes-here).3 s h) }
+              record { small = λ s h. subst (λ c. c < choices) (sym (answers_are s h)) ((row_chooses k row_in goes_here).3 s h) }
 
           nexts_are : tabulate observations (next_by moves choices k answers) ≡ after k
           unfolding next_of
           nexts_are =
               tabulate_ext observations (next_by moves choices k answers) (λ s. arena.move k (answer_for k s) s)
-              (λ s h. ap (λ c. arena.move k c s) (answers-are s h)) ∙ sym (after-goes k goes-here)
+              (λ s h. ap (λ c. arena.move k c s) (answers_are s h)) ∙ sym (after_goes k goes_here)
 
           abbrev grown : List ℕ
           grown = rows_with moves choices observations k answers xs
 
-          grown-is : grown ≡ add_all eqb xs (after k)
+          grown_is : grown ≡ add_all eqb xs (after k)
           unfolding rows_with
-          grown-is = ap (add_all eqb xs) nexts_are
+          grown_is = ap (add_all eqb xs) nexts_are
 
-          grown-goes : search_from eqb after 0 n grown (i + 1) ≡ closed all_rows
-          grown-goes = ap (λ l. search_from eqb after 0 n l (i + 1)) grown-is ∙ goes_on_lem
+          grown_goes : search_from eqb after 0 n grown (i + 1) ≡ closed all_rows
+          grown_goes = ap (λ l. search_from eqb after 0 n l (i + 1)) grown_is ∙ goes_on_lem
 
-          grown-few : length grown ≤ belief_limit
-          grown-few = omega (arith, search_length eqb after 0 n eqb_says all_rows grown (i + 1) grown-goes, rows_few)
+          grown_few : length grown ≤ belief_limit
+          grown_few = omega (arith, search_length eqb after 0 n eqb_says all_rows grown (i + 1) grown_goes, rows_few)
 
-          grown-more : m ≤ length grown
-          grown-more =
+          grown_more : m ≤ length grown
+          grown_more =
               let r = added_all eqb eqb_says (after k) xs in
-              omega (arith, xs_length, ap length (grown-is ∙ r.extends) ∙ length-append xs r.tail)
+              omega (arith, xs_length, ap length (grown_is ∙ r.extends) ∙ length-append xs r.tail)
 
           -- what `put_row` asks of them
           pub row_asked : Choices choices observations answers × (length grown ≤ belief_limit)
-          row_asked = (small, grown-few)
+          row_asked = (small, grown_few)
 
           -- a next position has the number that it has in the end
           number_is : (s : ℕ) → s < observations
@@ -346,36 +346,36 @@ module _ (o : Order) (n choices observations : ℕ) (moves finals : List ℕ) wh
           number_is s h =
               let y : ℕ = arena.move k (answer_for k s) s in
               let in_after : y ∈ after k =
-              subst (λ l. y ∈ l) (sym (after-goes k goes-here)) ((in_tabulate observations (λ s. arena.move k (answer_for k s) s) y).1 (s, h, refl)) in
-              ap₂ (λ c l. index_in eqb (arena.move k c s) l) (answers-are s h) grown-is
+              subst (λ l. y ∈ l) (sym (after_goes k goes_here)) ((in_tabulate observations (λ s. arena.move k (answer_for k s) s) y).1 (s, h, refl)) in
+              ap₂ (λ c l. index_in eqb (arena.move k c s) l) (answers_are s h) grown_is
               ∙ search_number eqb after 0 n eqb_says all_rows xs (after k) (i + 1) goes_on_lem y in_after
 
           row_is : (rank : ℕ) → rank ≡ get_or ranks k 0 → with_rank o rank (row_with o moves choices observations k answers grown) ≡ cells_of k
           row_is rank e =
-              ap₂ (with_rank o) (e ∙ own_read n choices observations moves finals ranks P k (row_lt k row_in) o ranked (row-rank k row_in).0)
-              (choice_ext o observations _ _ _ _ P.some-observation answers-are number_is)
-              ∙ sym (cells-goes k goes-here)
+              ap₂ (with_rank o) (e ∙ own_read n choices observations moves finals ranks P k (row_lt k row_in) o ranked (row_rank k row_in).0)
+              (choice_ext o observations _ _ _ _ P.some_observation answers_are number_is)
+              ∙ sym (cells_goes k goes_here)
 
-          pub turn-choice : (at w : ℕ) (row new : List ℕ) (rank r : ℕ) → at ≡ i * row_size o → w ≡ row_size o → table_size ≤ length table₀
+          pub turn_choice : (at w : ℕ) (row new : List ℕ) (rank r : ℕ) → at ≡ i * row_size o → w ≡ row_size o → table_size ≤ length table₀
               → rank ≡ get_or ranks k 0
               → (r ≡ length grown) × ((new ≡ grown ++ drop (length grown) met)
               × (row ≡ with_rank o rank (row_with o moves choices observations k answers grown)))
               → (met' table' : List ℕ) (m' : ℕ) → table' ≡ put_mid at w table row → met' ≡ new → m' ≡ r → Turn table₀ (i + 1) m' met' table'
-          turn-choice at w row new rank r is_at is-w room is-rank (is-r, (is-new, is_row)) met' table' m' p q e =
+          turn_choice at w row new rank r is_at is-w room is-rank (is-r, (is_new, is_row)) met' table' m' p q e =
               let is : row ≡ cells_of k = is_row ∙ row_is rank is-rank in
-              let is-met : met' ≡ grown ++ drop (length grown) met = q ∙ is-new in
+              let is-met : met' ≡ grown ++ drop (length grown) met = q ∙ is_new in
               let is_m : m' ≡ length grown = e ∙ is-r in
               rw (p, is-met, is_m) (
               record {
-                read = omega (arith, grown-more);
-                few = grown-few;
+                read = omega (arith, grown_more);
+                few = grown_few;
                 long =
                     length-append grown (drop (length grown) met) ∙ ap (λ j. length grown + j) (length-drop (length grown) met)
-                    ∙ omega (arith, t.long, grown-few);
+                    ∙ omega (arith, t.long, grown_few);
                 goes =
-                    ap (λ l. search_from eqb after 0 n l (i + 1)) (take_at grown (drop (length grown) met) (length grown) refl) ∙ grown-goes;
-                wide = wide-more at w row is_at is-w is room;
-                cells = cells-more at w row is_at is-w is;
+                    ap (λ l. search_from eqb after 0 n l (i + 1)) (take_at grown (drop (length grown) met) (length grown) refl) ∙ grown_goes;
+                wide = wide_more at w row is_at is-w is room;
+                cells = cells_more at w row is_at is-w is;
               }
               )
 
@@ -384,7 +384,7 @@ module _ (o : Order) (n choices observations : ℕ) (moves finals : List ℕ) wh
           → (m ≡ length all_rows) × (table ≡ flat_map cells_of all_rows ++ drop (length (flat_map cells_of all_rows)) table₀)
       turn_end past =
           let done : i ≡ length xs = omega (arith, t.read, xs_length) in
-          let few : length xs ≤ n = omega (arith, xs_length, met_le, (closed-lists eqb eqb_says after 0 n all_rows found).1) in
+          let few : length xs ≤ n = omega (arith, xs_length, met_le, (closed_lists eqb eqb_says after 0 n all_rows found).1) in
           let e : xs ≡ all_rows = search_found eqb after 0 n all_rows xs i few done t.goes in
           let all : i ≡ length all_rows = done ∙ ap length e in
           let whole : flat_map cells_of (take i all_rows) ≡ flat_map cells_of all_rows = ap (flat_map cells_of) (take_all i all_rows (omega arith)) in
@@ -392,8 +392,8 @@ module _ (o : Order) (n choices observations : ℕ) (moves finals : List ℕ) wh
           ap (λ j. j * row_size o) all ∙ sym (length_rows (row_size o) cells_of cells_length all_rows) in
           (sym xs_length ∙ ap length e, t.cells ∙ ap₂ (λ l j. l ++ drop j table₀) whole cut)
 
-      pub turn-answer : m ≤ i
+      pub turn_answer : m ≤ i
           → (m ≡ length (rows o arena eqb choices observations n))
           × (table ≡ table_cells o arena eqb choices observations n ++ drop (length (table_cells o arena eqb choices observations n)) table₀)
       unfolding all_rows cells_of
-      turn-answer past = turn_end past
+      turn_answer past = turn_end past

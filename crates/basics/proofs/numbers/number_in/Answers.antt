@@ -1,21 +1,21 @@
 use native.Mathlib.Omega.{arith}
 use mathlib.Core.Path.{sym, ◌∙◌}
 use Rattle.basics.specs.declared.numbers.Number.TheVariants.{Value}
-use Rattle.basics.proofs.NumbersLaws.{number-none, number-some, number_more, number-bad, number-end}
+use Rattle.basics.proofs.NumbersLaws.{number_none, number_some, number_more, number_bad, number_end}
 use Rattle.basics.proofs.numbers.number_in.Goals as goal
 
 pub returns-then-digits-eq0 : goal.returns-then-digits-eq0
 returns-then-digits-eq0 c =
-    number-none c.args.digits.now c.if-digits-eq0.true
+    number_none c.args.digits.now c.if-digits-eq0.true
 
 pub loop-i-init : goal.loop-i-init
 loop-i-init c =
-    number-some c.args.digits.now c.if-digits-eq0.false
+    number_some c.args.digits.now c.if-digits-eq0.false
 
 pub returns-in-Bad : goal.returns-in-Bad
 returns-in-Bad c =
     let e = sym c.in-Bad.is ∙ c.with_digit.ensures in
-    number-bad c.args.digits.now c.loop-i.i (Value c.loop-i.n) (omega arith) e ∙ sym c.loop-i.invariant
+    number_bad c.args.digits.now c.loop-i.i (Value c.loop-i.n) (omega arith) e ∙ sym c.loop-i.invariant
 
 pub loop-i-preserved : goal.loop-i-preserved
 loop-i-preserved c =
@@ -24,4 +24,4 @@ loop-i-preserved c =
 
 pub returns : goal.returns
 returns c =
-    number-end c.args.digits.now c.loop-i.i (Value c.loop-i.n) c.loop-i-test.false ∙ sym c.loop-i.invariant
+    number_end c.args.digits.now c.loop-i.i (Value c.loop-i.n) c.loop-i-test.false ∙ sym c.loop-i.invariant

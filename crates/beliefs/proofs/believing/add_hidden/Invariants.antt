@@ -6,7 +6,7 @@ use native.Mathlib.Omega.{arith}
 use mathlib.Core.Path.{◌≡◌, ◌∙◌}
 use lib.ListN.{length}
 use Rattle.beliefs.specs.BeliefMemory.{belief_size, with_hidden}
-use Rattle.beliefs.proofs.BeliefMemoryLaws.{hidden-place, hidden_state, hidden-none, hidden-more, hidden-done}
+use Rattle.beliefs.proofs.BeliefMemoryLaws.{hidden_place, hidden_state, hidden_none, hidden_more, hidden_done}
 use Rattle.beliefs.proofs.believing.add_hidden.Given as goal
 
 abbrev pub invariant-loop-h : goal.invariant-loop-h

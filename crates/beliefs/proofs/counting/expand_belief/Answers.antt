@@ -4,13 +4,13 @@ use mathlib.Core.Path.{refl, sym, ap, ◌∙◌}
 use mathlib.Core.Logic.{⊎_elim}
 use lib.ListN.{length}
 use borrow.Author.Rules.{rules}
-use Rattle.beliefs.proofs.counting.PairLoop.{place-small, Kept, kept-none, put_asked, kept_copy, kept-old, kept_new, kept-over, kept-all}
+use Rattle.beliefs.proofs.counting.PairLoop.{place_small, Kept, kept_none, put_asked, kept_copy, kept_old, kept_new, kept_over, kept_all}
 use Rattle.beliefs.proofs.counting.expand_belief.Goals as goal
 use Rattle.beliefs.proofs.counting.expand_belief.Goals.{else-b-q+else-t-eq-BELIEF_LIMIT, else-t-m, then-b-q, then-t-m}
 
 pub loop-q-init : goal.loop-q-init
 loop-q-init c =
-    kept-none _ _ _ _ _ _ _ _ c.args.hints.now c.args.row.now (record {
+    kept_none _ _ _ _ _ _ _ _ c.args.hints.now c.args.row.now (record {
       size = c.requires.successors_len;
       listed = c.requires.members;
       small = c.requires.n_le_state_limit;
@@ -36,14 +36,14 @@ shape_of-hints-then-t-eq-BELIEF_LIMIT c =
 
 pub returns-then-t-eq-BELIEF_LIMIT : goal.returns-then-t-eq-BELIEF_LIMIT
 returns-then-t-eq-BELIEF_LIMIT c =
-    let whole = kept-over _ _ _ _ _ _ _ _ _ _ _ _ c.loop-q.mem c.loop-q.hints c.loop-q.row c.loop-q.invariant c.loop-q-test.true _ _ c.put_belief-t.ensures.mem_after c.put_belief-t.ensures.value
+    let whole = kept_over _ _ _ _ _ _ _ _ _ _ _ _ c.loop-q.mem c.loop-q.hints c.loop-q.row c.loop-q.invariant c.loop-q-test.true _ _ c.put_belief-t.ensures.mem_after c.put_belief-t.ensures.value
     c.if-t-eq-BELIEF_LIMIT.true
     _ _ _ refl in
     record { value = whole.0; tried = whole.1 }
 
 pub overflow_cast-row : goal.overflow_cast-row
 overflow_cast-row c =
-    omega (arith, place-small _ _ c.put_belief-t.result c.put_belief-t.ensures.value c.loop-q.invariant.0.1 c.if-t-eq-BELIEF_LIMIT.false)
+    omega (arith, place_small _ _ c.put_belief-t.result c.put_belief-t.ensures.value c.loop-q.invariant.0.1 c.if-t-eq-BELIEF_LIMIT.false)
 
 pub loop-q-preserved : goal.loop-q-preserved
 loop-q-preserved c =
@@ -55,12 +55,12 @@ loop-q-preserved c =
         | then-t-m v ↦ kept_new _ _ _ _ _ _ _ _ _ _ _ _ c.loop-q.mem c.loop-q.hints c.loop-q.row c.loop-q.invariant c.loop-q-test.true _ _ w.put_belief-t.ensures.mem_after w.put_belief-t.ensures.value v.if-t-m.true
             w.if-t-eq-BELIEF_LIMIT.false _ _
             c.if-b-q.hints _ w.mem-is long w.row-is (w.m-is ∙ v.m-is)
-        | else-t-m v ↦ kept-old _ _ _ _ _ _ _ _ _ _ _ _ c.loop-q.mem c.loop-q.hints c.loop-q.row c.loop-q.invariant c.loop-q-test.true _ _ w.put_belief-t.ensures.mem_after w.put_belief-t.ensures.value v.if-t-m.false _ _
+        | else-t-m v ↦ kept_old _ _ _ _ _ _ _ _ _ _ _ _ c.loop-q.mem c.loop-q.hints c.loop-q.row c.loop-q.invariant c.loop-q-test.true _ _ w.put_belief-t.ensures.mem_after w.put_belief-t.ensures.value v.if-t-m.false _ _
             c.if-b-q.hints _ w.mem-is long w.row-is (w.m-is ∙ v.m-is)
       ]
     ]
 
 pub returns : goal.returns
 returns c =
-    let whole = kept-all _ _ _ _ _ _ _ _ _ _ _ _ c.loop-q.mem c.loop-q.hints c.loop-q.row c.loop-q.invariant c.loop-q-test.false _ refl in
+    let whole = kept_all _ _ _ _ _ _ _ _ _ _ _ _ c.loop-q.mem c.loop-q.hints c.loop-q.row c.loop-q.invariant c.loop-q-test.false _ refl in
     record { value = whole.0; tried = whole.1 }

@@ -7,7 +7,7 @@ use lib.ListN.{length-replicate}
 use borrow.Author.Rules.{rules}
 use Rattle.basics.proofs.ListsLaws.{zeros_length}
 use Rattle.play.specs.Limits.{belief_limit, pair_limit}
-use Rattle.beliefs.proofs.counting.Explored.{explored-few, explored-room, explored-moves, explored-finals, cleared-moves, left-finals}
+use Rattle.beliefs.proofs.counting.Explored.{explored_few, explored_room, explored_moves, explored_finals, cleared_moves, left_finals}
 use borrow.Author.Rules.{rules}
 use Rattle.beliefs.proofs.counting.explore_beliefs.Goals as goal
 
@@ -19,13 +19,13 @@ pub slice_bounds-put_bytes-end : goal.slice_bounds-put_bytes-end
 slice_bounds-put_bytes-end c =
     let got = sym c.in-Found.is ∙ c.count_beliefs.ensures.value in
     let size = c.count_beliefs.auto.finals ∙ length-replicate {A = ℕ} belief_limit 0 in
-    omega (arith, explored-few c.args.sets.now c.args.successors.now c.args.n c.args.pairs c.args.hiddens c.in-Found.k got, size)
+    omega (arith, explored_few c.args.sets.now c.args.successors.now c.args.n c.args.pairs c.args.hiddens c.in-Found.k got, size)
 
 pub put_bytes-requires : goal.put_bytes-requires
 put_bytes-requires c =
     let got = sym c.in-Found.is ∙ c.count_beliefs.ensures.value in
     let size = c.count_beliefs.auto.finals ∙ length-replicate {A = ℕ} belief_limit 0 in
-    explored-room c.args.sets.now c.args.successors.now c.args.n c.args.pairs c.args.hiddens c.in-Found.k got _ size c.args.finals.now
+    explored_room c.args.sets.now c.args.successors.now c.args.n c.args.pairs c.args.hiddens c.in-Found.k got _ size c.args.finals.now
     c.requires.belief_limit_in_bounds
 
 pub returns-in-Found : goal.returns-in-Found
@@ -33,8 +33,8 @@ returns-in-Found c =
     let got = sym c.in-Found.is ∙ c.count_beliefs.ensures.value in
     let size = c.count_beliefs.auto.finals ∙ length-replicate {A = ℕ} belief_limit 0 in
     let long = c.count_beliefs.auto.moves ∙ zeros_length _ (belief_limit * pair_limit) c.requires.moves_value in
-    let moves = explored-moves c.args.sets.now c.args.successors.now c.args.n c.args.pairs c.args.hiddens c.in-Found.k got _ _ c.count_beliefs.ensures.ran_beliefs long in
-    let finals = explored-finals c.args.sets.now c.args.successors.now c.args.n c.args.pairs c.args.hiddens c.in-Found.k got _ _ c.count_beliefs.ensures.ran_beliefs size
+    let moves = explored_moves c.args.sets.now c.args.successors.now c.args.n c.args.pairs c.args.hiddens c.in-Found.k got _ _ c.count_beliefs.ensures.ran_beliefs long in
+    let finals = explored_finals c.args.sets.now c.args.successors.now c.args.n c.args.pairs c.args.hiddens c.in-Found.k got _ _ c.count_beliefs.ensures.ran_beliefs size
     c.args.finals.now _
     c.requires.belief_limit_in_bounds c.put_bytes.ensures.text_after in
     record { value = got; moves_after = moves; finals_after = finals }
@@ -43,4 +43,4 @@ pub returns-in-TooMany : goal.returns-in-TooMany
 returns-in-TooMany c =
     let many = sym c.in-TooMany.is ∙ c.count_beliefs.ensures.value in
     let long = c.count_beliefs.auto.moves ∙ zeros_length _ (belief_limit * pair_limit) c.requires.moves_value in
-    record { value = many; moves_after = c.clear.ensures ∙ cleared-moves c.args.sets.now c.args.successors.now c.args.n c.args.pairs c.args.hiddens many _ long; finals_after = left-finals c.args.sets.now c.args.successors.now c.args.n c.args.pairs c.args.hiddens many c.args.finals.now }
+    record { value = many; moves_after = c.clear.ensures ∙ cleared_moves c.args.sets.now c.args.successors.now c.args.n c.args.pairs c.args.hiddens many _ long; finals_after = left_finals c.args.sets.now c.args.successors.now c.args.n c.args.pairs c.args.hiddens many c.args.finals.now }

@@ -7,7 +7,7 @@ use lib.ListN.{length, set}
 use borrow.Author.Rules.{rules}
 use Rattle.search.specs.Limits.{set_size}
 use Rattle.beliefs.proofs.believing.MemberLoop.{members_fewer}
-use Rattle.beliefs.proofs.counting.VisitLoop.{mark-is}
+use Rattle.beliefs.proofs.counting.VisitLoop.{mark_is}
 use borrow.Author.Rules.{rules}
 use Rattle.beliefs.proofs.counting.mark_belief.Goals as goal
 
@@ -18,4 +18,4 @@ is_final-requires c =
 
 pub returns : goal.returns
 returns c =
-    record { value = c.put_members-count.ensures.value; members_after = c.put_members-count.ensures.members_after; members = c.put_members-count.ensures.members; result_after = c.put_members-count.ensures.result_after; finals_after = ap (set c.args.finals.now c.args.i) (mark-is c.args.sets.now _ c.args.n _ _ _ c.put_members-count.ensures.members c.put_members-count.ensures.result_after c.is_final.ensures) }
+    record { value = c.put_members-count.ensures.value; members_after = c.put_members-count.ensures.members_after; members = c.put_members-count.ensures.members; result_after = c.put_members-count.ensures.result_after; finals_after = ap (set c.args.finals.now c.args.i) (mark_is c.args.sets.now _ c.args.n _ _ _ c.put_members-count.ensures.members c.put_members-count.ensures.result_after c.is_final.ensures) }

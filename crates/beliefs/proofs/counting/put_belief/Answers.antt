@@ -9,7 +9,7 @@ use Rattle.search.specs.Slots.{same_slot}
 use Rattle.basics.proofs.LentPart.{part_length}
 use Rattle.search.proofs.SlotsLaws.{item_back}
 use Rattle.beliefs.specs.BeliefMemory.{belief_size, Apart}
-use Rattle.beliefs.proofs.ApartPlaces.{apart-written}
+use Rattle.beliefs.proofs.ApartPlaces.{apart_written}
 use borrow.Author.Rules.{rules}
 use Rattle.beliefs.proofs.counting.put_belief.Goals as goal
 
@@ -22,7 +22,7 @@ pub find_hinted-requires : goal.find_hinted-requires
 find_hinted-requires c =
     let room : c.args.m * belief_size + belief_size ≤ length c.args.mem.now = omega (arith, c.requires.m_le_belief_limit, c.requires.mem_len) in
     let w = item_back belief_size c.args.mem.now _ _ c.args.m c.put_after.ensures in
-    record { m_le_belief_limit = c.requires.m_le_belief_limit; mem_len = search rules; hints_len = c.requires.hints_len; apart = subst (λ v. Apart v c.args.m) (sym w) (apart-written c.args.mem.now c.args.m _ room c.requires.apart) }
+    record { m_le_belief_limit = c.requires.m_le_belief_limit; mem_len = search rules; hints_len = c.requires.hints_len; apart = subst (λ v. Apart v c.args.m) (sym w) (apart_written c.args.mem.now c.args.m _ room c.requires.apart) }
 
 pub returns : goal.returns
 returns c =

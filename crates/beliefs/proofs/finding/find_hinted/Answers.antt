@@ -4,7 +4,7 @@ use native.Mathlib.Omega.{arith}
 use mathlib.Core.Path.{sym, ◌∙◌}
 use borrow.Author.Rules.{rules}
 use Rattle.beliefs.proofs.LimitsLaws.{belief_byte}
-use Rattle.beliefs.proofs.ApartPlaces.{only-place}
+use Rattle.beliefs.proofs.ApartPlaces.{only_place}
 use Rattle.beliefs.proofs.finding.find_hinted.Goals as goal
 
 pub overflow_cast-g : goal.overflow_cast-g
@@ -13,7 +13,7 @@ overflow_cast-g c =
 
 pub returns-then-same_slot : goal.returns-then-same_slot
 returns-then-same_slot c =
-    sym (only-place c.args.mem.now c.args.m _ c.requires.apart c.if-g-m.true
+    sym (only_place c.args.mem.now c.args.m _ c.requires.apart c.if-g-m.true
     (sym c.same_slot.ensures ∙ c.if-same_slot.true))
 
 pub overflow_cast-hints : goal.overflow_cast-hints

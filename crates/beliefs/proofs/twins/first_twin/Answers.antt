@@ -3,13 +3,13 @@ use Prim.Native.Nat.{◌≤◌, ◌-◌}
 use native.Mathlib.Omega.{arith}
 use mathlib.Core.Path.{◌≡◌, sym, ◌∙◌}
 use Rattle.basics.specs.Bounded.{first_that}
-use Rattle.basics.proofs.BoundedLaws.{first-none, first_more, first_found, first-end}
+use Rattle.basics.proofs.BoundedLaws.{first_none, first_more, first_found, first_end}
 use Rattle.beliefs.specs.Twins.{same_pairs, first_twin}
 use Rattle.beliefs.proofs.twins.first_twin.Goals as goal
 
 pub loop-b-init : goal.loop-b-init
 loop-b-init c =
-    (omega arith, first-none _)
+    (omega arith, first_none _)
 
 pub returns-then-same_pairs : goal.returns-then-same_pairs
 unfolding first_twin
@@ -29,4 +29,4 @@ pub returns : goal.returns
 unfolding first_twin
 returns c =
     let e : c.loop-b.b ≡ c.args.a = omega arith in
-    first-end _ c.args.a c.loop-b.b e c.loop-b.invariant.1
+    first_end _ c.args.a c.loop-b.b e c.loop-b.invariant.1

@@ -5,7 +5,7 @@ use Prim.Native.Nat.{◌≤◌, ◌-◌}
 use native.Mathlib.Omega.{arith}
 use mathlib.Core.Path.{◌≡◌, sym, ◌∙◌}
 use Rattle.basics.specs.Bounded.{first_that}
-use Rattle.basics.proofs.BoundedLaws.{first-none, first_more, first_found, first-end}
+use Rattle.basics.proofs.BoundedLaws.{first_none, first_more, first_found, first_end}
 use Rattle.beliefs.specs.Twins.{same_pairs, first_twin}
 use Rattle.beliefs.proofs.twins.first_twin.Given as goal
 

@@ -8,7 +8,7 @@ use Rattle.basics.specs.Lists.{tabulate}
 use Rattle.basics.proofs.Filling.{table_more, filled}
 use Rattle.basics.proofs.BoundedLaws.{first_le}
 use Rattle.beliefs.specs.Twins.{same_pairs, first_twin}
-use Rattle.beliefs.proofs.LimitsLaws.{pair-byte}
+use Rattle.beliefs.proofs.LimitsLaws.{pair_byte}
 use Rattle.beliefs.proofs.twins.put_twins.Goals as goal
 
 pub overflow_cast-twins : goal.overflow_cast-twins
@@ -16,7 +16,7 @@ unfolding first_twin
 overflow_cast-twins c =
     omega (
       arith,
-      pair-byte,
+      pair_byte,
       c.first_twin.ensures,
       first_le (same_pairs c.args.successors.now c.args.n c.args.pairs c.args.hiddens c.loop-q.q)
           c.loop-q.q,

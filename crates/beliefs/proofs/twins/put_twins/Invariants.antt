@@ -10,7 +10,7 @@ use Rattle.basics.specs.Lists.{tabulate}
 use Rattle.basics.proofs.Filling.{table_more, filled}
 use Rattle.basics.proofs.BoundedLaws.{first_le}
 use Rattle.beliefs.specs.Twins.{same_pairs, first_twin}
-use Rattle.beliefs.proofs.LimitsLaws.{pair-byte}
+use Rattle.beliefs.proofs.LimitsLaws.{pair_byte}
 use Rattle.beliefs.proofs.twins.put_twins.Given as goal
 
 abbrev pub invariant-loop-q : goal.invariant-loop-q

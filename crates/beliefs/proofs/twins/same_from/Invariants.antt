@@ -6,8 +6,8 @@ use native.Mathlib.Omega.{arith}
 use mathlib.Core.Path.{◌≡◌, sym, ap, ◌∙◌}
 use mathlib.Core.Bool.{true}
 use Rattle.beliefs.specs.Twins.{same_from}
-use Rattle.beliefs.proofs.BeliefMemoryLaws.{hidden-place}
-use Rattle.beliefs.proofs.TwinsLaws.{from-none, from_more, from-fails}
+use Rattle.beliefs.proofs.BeliefMemoryLaws.{hidden_place}
+use Rattle.beliefs.proofs.TwinsLaws.{from_none, from_more, from_fails}
 use Rattle.beliefs.proofs.twins.same_from.Given as goal
 
 abbrev pub invariant-loop-h : goal.invariant-loop-h

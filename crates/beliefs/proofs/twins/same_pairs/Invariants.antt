@@ -7,7 +7,7 @@ use native.Mathlib.Omega.{arith}
 use mathlib.Core.Path.{◌≡◌, sym, ap, ◌∙◌}
 use mathlib.Core.Bool.{true}
 use Rattle.beliefs.specs.Twins.{same_pairs}
-use Rattle.beliefs.proofs.TwinsLaws.{pairs-none, pairs-more, pairs-fails}
+use Rattle.beliefs.proofs.TwinsLaws.{pairs_none, pairs_more, pairs_fails}
 use Rattle.beliefs.proofs.twins.same_pairs.Given as goal
 
 abbrev pub invariant-loop-s : goal.invariant-loop-s

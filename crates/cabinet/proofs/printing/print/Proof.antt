@@ -1,14 +1,14 @@
 -- `cabinet::printing::print` meets its contract, by that of `put_table`.
 -- Assumes nothing.
 use borrow.Author.Rules.{rules}
-use Rattle.cabinet.proofs.PrintLaws.{print-short, print-refused, print-asks, print-done}
+use Rattle.cabinet.proofs.PrintLaws.{print_short, print_refused, print_asks, print_done}
 use Rattle.cabinet.proofs.printing.print.Statement.{statement}
 use Rattle.cabinet.proofs.printing.print.Tie as tie
 
 returns : tie.Need-returns
 returns c =
     let a = c.before.before.before.args in
-    print-short a.table.now a.shape a.worst a.text.now c.if1.true
+    print_short a.table.now a.shape a.worst a.text.now c.if1.true
 
 is-printable-requires : tie.Need-is-printable-requires
 is-printable-requires c κs = search rules
@@ -16,14 +16,14 @@ is-printable-requires c κs = search rules
 returns-2 : tie.Need-returns-2
 returns-2 c =
     let a = c.before.before.before.before.before.args in
-    print-refused a.table.now a.shape a.worst a.text.now c.before.before.if1.false _
+    print_refused a.table.now a.shape a.worst a.text.now c.before.before.if1.false _
     c.before.is-printable.ensures c.if2.true
 
 put-table-requires : tie.Need-put-table-requires
 put-table-requires c κs =
     let e = c.before.before in
     let a = e.before.before.before.before.args in
-    print-asks a.table.now a.shape a.worst a.text.now e.before.if1.false _ e.is-printable.ensures c.before.if2.false
+    print_asks a.table.now a.shape a.worst a.text.now e.before.if1.false _ e.is-printable.ensures c.before.if2.false
 
 same_length : tie.Need-same-length
 same_length c = search rules
@@ -33,7 +33,7 @@ returns-3 c =
     let p = c.before.before.put-table in
     let e = c.before.before.before.before.before in
     let a = e.before.before.before.before.args in
-    print-done a.table.now a.shape a.worst a.text.now e.before.if1.false _ e.is-printable.ensures
+    print_done a.table.now a.shape a.worst a.text.now e.before.if1.false _ e.is-printable.ensures
     c.before.before.before.before.if2.false
     _ _ p.ensures.0 p.ensures.1
 

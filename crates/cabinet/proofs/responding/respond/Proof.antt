@@ -7,7 +7,7 @@ use lib.ListN.{length}
 use lib.Seq.{length-take-le}
 use Rattle.wellformed.proofs.WellFormedLaws.{size_fits}
 use Rattle.cabinet.specs.declared.printing.Printed.TheVariants.{Text}
-use Rattle.cabinet.proofs.ResponseLaws.{tight_right, text-long, few-rows, rows-within, table-right, refusal_right}
+use Rattle.cabinet.proofs.ResponseLaws.{tight_right, text_long, few_rows, rows_within, table_right, refusal_right}
 use borrow.Author.Rules.{rules}
 use Rattle.cabinet.proofs.responding.respond.Statement.{statement}
 use Rattle.cabinet.proofs.responding.respond.Tie as tie
@@ -35,7 +35,7 @@ mul-end c =
     let solve = v.solve in
     let n = c.before.before.before.shape.given in
     let size = c.before.row-size in
-    let few = few-rows a.source.now a.work.now a.table.now a.text.now i.if1.false solve.result solve.new.1.1.0
+    let few = few_rows a.source.now a.work.now a.table.now a.text.now i.if1.false solve.result solve.new.1.1.0
     solve.new.1.0 solve.ensures.0 solve.ensures.1.0 solve.ensures.1.1.0 n.0.0 n.0.1.0 n.1 solve.ensures.1.1.1 in
     omega (arith, size_fits n.0.0.order n.0.0.rows size.result few size.ensures)
 
@@ -47,7 +47,7 @@ slice-reshare-prefix-print c =
     let solve = v.solve in
     let n = c.before.before.before.shape.given in
     let size = c.before.row-size in
-    rows-within a.source.now a.work.now a.table.now a.text.now i.if1.false solve.result solve.new.1.1.0
+    rows_within a.source.now a.work.now a.table.now a.text.now i.if1.false solve.result solve.new.1.1.0
     solve.new.1.0 solve.ensures.0 solve.ensures.1.0 solve.ensures.1.1.0 n.0.0 n.0.1.0 n.1 solve.ensures.1.1.1
     (n.0.0.rows * size.result) (ap (λ k. n.0.0.rows * k) size.ensures)
 
@@ -60,7 +60,7 @@ slice-aggregate-print c =
     let n = c.before.before.before.before.shape.given in
     let size = c.before.before.row-size in
     sym (length-take-le (n.0.0.rows * size.result) solve.new.1.1.0
-    (rows-within a.source.now a.work.now a.table.now a.text.now i.if1.false solve.result solve.new.1.1.0
+    (rows_within a.source.now a.work.now a.table.now a.text.now i.if1.false solve.result solve.new.1.1.0
     solve.new.1.0 solve.ensures.0 solve.ensures.1.0 solve.ensures.1.1.0 n.0.0 n.0.1.0 n.1 solve.ensures.1.1.1
     (n.0.0.rows * size.result) (ap (λ k. n.0.0.rows * k) size.ensures)))
 
@@ -74,7 +74,7 @@ put-refusal-requires : tie.Need-put-refusal-requires
 put-refusal-requires c κs =
     let i = c.before.before.before.before.before.before.before.before.before.before.before in
     let a = i.before.before.before.before.before.args in
-    text-long (length a.work.now) (length a.table.now) (length a.text.now) i.if1.false
+    text_long (length a.work.now) (length a.table.now) (length a.text.now) i.if1.false
 
 same_length : tie.Need-same-length
 same_length c = search rules
@@ -94,7 +94,7 @@ returns-2 c =
     let n = c.before.before.before.before.before.before.before.before.shape.given in
     let size = c.before.before.before.before.before.before.row-size in
     let print = c.before.before.print in
-    let m = table-right a.source.now a.work.now a.table.now a.text.now i.if1.false solve.result solve.new.1.1.0
+    let m = table_right a.source.now a.work.now a.table.now a.text.now i.if1.false solve.result solve.new.1.1.0
     solve.new.1.0 solve.ensures.0 solve.ensures.1.0 solve.ensures.1.1.0 n.0.0 n.0.1.0 n.1 solve.ensures.1.1.1
     (n.0.0.rows * size.result) (ap (λ k. n.0.0.rows * k) size.ensures)
     print.result print.new.1.1.1.0 print.ensures.0 print.ensures.1.0 in

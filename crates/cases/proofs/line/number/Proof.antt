@@ -1,7 +1,7 @@
 -- `cases::line::number` meets its contract: a number in digits is below 65,536. Assumes nothing.
 use mathlib.Core.Path.{sym, ◌∙◌}
 use borrow.Author.Rules.{rules}
-use Rattle.basics.proofs.NumbersLaws.{number-below}
+use Rattle.basics.proofs.NumbersLaws.{number_below_lem}
 use Rattle.cases.proofs.line.number.Statement.{statement}
 use Rattle.cases.proofs.line.number.Tie as tie
 
@@ -21,7 +21,7 @@ returns : tie.Need-returns
 returns c =
     let at-number-in = c.before.before.before in
     let a = at-number-in.before.before.args in
-    number-below a.digits.now c.before.n.given.0.0 (sym c.before.n.given.1 ∙ at-number-in.number_in.ensures)
+    number_below_lem a.digits.now c.before.n.given.0.0 (sym c.before.n.given.1 ∙ at-number-in.number_in.ensures)
 
 returns-2 : tie.Need-returns-2
 returns-2 c = search rules

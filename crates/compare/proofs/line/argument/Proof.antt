@@ -1,6 +1,6 @@
 -- `compare::line::argument` meets its contract: a number in digits is below 65,536. Assumes nothing.
 use Rattle.std.proofs.Common.{sym, ◌∙◌, rules}
-use Rattle.basics.proofs.NumbersLaws.{number-below}
+use Rattle.basics.proofs.NumbersLaws.{number_below_lem}
 use Rattle.compare.proofs.line.argument.Statement.{statement}
 use Rattle.compare.proofs.line.argument.Tie as tie
 
@@ -25,7 +25,7 @@ say-requires c κs = search rules
 returns : tie.Need-returns
 returns c =
     let at-number-in = c.before.before.before in
-    number-below _ c.before.n.given.0.0 (sym c.before.n.given.1 ∙ at-number-in.number_in.ensures)
+    number_below_lem _ c.before.n.given.0.0 (sym c.before.n.given.1 ∙ at-number-in.number_in.ensures)
 
 returns-2 : tie.Need-returns-2
 returns-2 c = search rules

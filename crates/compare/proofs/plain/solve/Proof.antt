@@ -1,6 +1,6 @@
 -- `compare::plain::solve` is safe and ends. Assumes nothing.
 use Rattle.std.proofs.Common.{sym, arith, rules}
-use Rattle.rules.proofs.JudgeLaws.{taken, taken_length, few-parts}
+use Rattle.rules.proofs.JudgeLaws.{taken, taken_length, few_parts}
 use Rattle.compare.proofs.plain.solve.Statement.{statement}
 use Rattle.compare.proofs.plain.solve.Tie as tie
 
@@ -30,7 +30,7 @@ array-share-prefix-parts c =
     let a = c.before.before.before.before.before.before.before.args in
     let read = c.before.before.before.before.read in
     let s = c.before.s in
-    omega (arith, few-parts (taken a.source.now s.given.0.0 read.result read.ensures.0 s.given.1 _ read.ensures.1.0), read.auto.1.0)
+    omega (arith, few_parts (taken a.source.now s.given.0.0 read.result read.ensures.0 s.given.1 _ read.ensures.1.0), read.auto.1.0)
 
 slice-aggregate-solve-parts : tie.Need-slice-aggregate-solve-parts
 slice-aggregate-solve-parts c =
@@ -48,7 +48,7 @@ solve-parts-requires c κs =
     let read = c.before.before.before.before.before.before.before.read in
     let s = c.before.before.before.before.s in
     let t = taken a.source.now s.given.0.0 read.result read.ensures.0 s.given.1 _ read.ensures.1.0 in
-    (omega (arith, taken_length t, few-parts t), c.before.widths.ensures)
+    (omega (arith, taken_length t, few_parts t), c.before.widths.ensures)
 
 returns : tie.Need-returns
 returns c = search rules

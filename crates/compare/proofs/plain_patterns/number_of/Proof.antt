@@ -1,7 +1,7 @@
 -- `compare::plain_patterns::number_of` is safe and ends. Assumes nothing.
 use Rattle.std.proofs.Common.{◌-◌, ◌^◌, ◌<◌, ◌≤◌, rules}
 use Rattle.compare.specs.Sizes.{bit_count}
-use Rattle.compare.proofs.plain_patterns.DigitsBelow.{digit-more, digits-below}
+use Rattle.compare.proofs.plain_patterns.DigitsBelow.{digit_more, digits_below}
 use Rattle.compare.proofs.plain_patterns.number_of.Statement.{statement}
 use Rattle.compare.proofs.plain_patterns.number_of.Tie as tie
 
@@ -24,7 +24,7 @@ element-copy-out-with-digit : tie.Need-element-copy-out-with-digit invariant-loo
 element-copy-out-with-digit c = search rules
 
 with-digit-requires : tie.Need-with-digit-requires invariant-loop decreases-loop
-with-digit-requires c κs = let l = c.before.before.loop in digits-below l.n l.k bit_count l.invariant.1 l.invariant.0
+with-digit-requires c κs = let l = c.before.before.loop in digits_below l.n l.k bit_count l.invariant.1 l.invariant.0
 
 add-k : tie.Need-overflow-add-k invariant-loop decreases-loop
 add-k c = search rules
@@ -35,10 +35,10 @@ loop-less c = search rules
 loop-again : tie.Need-loop-preserved invariant-loop decreases-loop
 loop-again c =
     let l = c.before.before.before.loop in
-    (search rules, digit-more l.n _ l.k l.invariant.1 c.with-digit.ensures)
+    (search rules, digit_more l.n _ l.k l.invariant.1 c.with-digit.ensures)
 
 returns : tie.Need-returns invariant-loop decreases-loop
-returns c = let l = c.before.loop in digits-below l.n l.k bit_count l.invariant.1 l.invariant.0
+returns c = let l = c.before.loop in digits_below l.n l.k bit_count l.invariant.1 l.invariant.0
 
 pub number-of-spec : {M : Type 1} → statement M
 number-of-spec =

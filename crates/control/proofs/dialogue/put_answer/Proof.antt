@@ -3,7 +3,7 @@
 use lib.Dec.{lit<}
 use borrow.Author.Rules.{rules}
 use Rattle.basics.specs.Bytes.{bytes_of}
-use Rattle.control.proofs.DialogueLaws.{same_answer, two-room, two-written}
+use Rattle.control.proofs.DialogueLaws.{same_answer, two_room, two_written}
 use Rattle.control.proofs.dialogue.put_answer.Statement.{statement}
 use Rattle.control.proofs.dialogue.put_answer.Tie as tie
 
@@ -20,7 +20,7 @@ put-line-requires : tie.Need-put-line-requires
 put-line-requires c κs =
     let a = c.before.before.before.a in
     let s = c.before.before.before.before.before.before in
-    two-room (bytes_of "choice") (lit< tt) a.given.0.0 s.args.left c.before.before.known-told.given.0.1 s.ranges.left.fits
+    two_room (bytes_of "choice") (lit< tt) a.given.0.0 s.args.left c.before.before.known-told.given.0.1 s.ranges.left.fits
     s.args.text.now s.requires
 
 enum_told : tie.Need-enum-told
@@ -56,7 +56,7 @@ returns c =
     let a = c.before.before.before.before.before.before.a in
     let s = c.before.before.before.before.before.before.before.before.before in
     same_answer a.given.1 s.args.left s.args.text.now put.result put.new.0
-    (two-written (bytes_of "choice") (lit< tt) a.given.0.0 s.args.left c.before.before.before.before.before.known-told.given.0.1
+    (two_written (bytes_of "choice") (lit< tt) a.given.0.0 s.args.left c.before.before.before.before.before.known-told.given.0.1
     s.ranges.left.fits s.args.text.now s.requires put.ensures)
 
 same-length-2 : tie.Need-same-length-2

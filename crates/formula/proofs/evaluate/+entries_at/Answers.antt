@@ -3,12 +3,12 @@ use Prim.Native.Nat.{ℕ, ◌-◌, ◌<◌}
 use native.Mathlib.Omega.{arith}
 use mathlib.Core.Path.{◌∙◌}
 use lib.ListN.{length}
-use Rattle.formula.proofs.evaluate.EntryLoop.{entries-end, entries-step}
+use Rattle.formula.proofs.evaluate.EntryLoop.{entries_end, entries_step}
 use Rattle.formula.proofs.evaluate.+entries_at.Goals as goal
 
 pub returns-then-t-trace : goal.returns-then-t-trace
 returns-then-t-trace t c =
-    c.clear.ensures ∙ entries-end c.args.parts.now (length c.args.entries.now) c.args.trace.now c.args.t c.if-t-trace.true
+    c.clear.ensures ∙ entries_end c.args.parts.now (length c.args.entries.now) c.args.trace.now c.args.t c.if-t-trace.true
 
 pub entries_at-requires : goal.entries_at-requires
 entries_at-requires t c =
@@ -16,5 +16,5 @@ entries_at-requires t c =
 
 pub returns : goal.returns
 returns t c =
-    entries-step c.args.parts.now (length c.args.entries.now) c.args.trace.now c.args.t (omega arith) c.requires.parts_in_bounds.0 _ _ _
+    entries_step c.args.parts.now (length c.args.entries.now) c.args.trace.now c.args.t (omega arith) c.requires.parts_in_bounds.0 _ _ _
     c.entries_at.ensures c.values_back.ensures c.owed_back.ensures

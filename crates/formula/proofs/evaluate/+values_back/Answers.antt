@@ -3,12 +3,12 @@ use Prim.Native.Nat.{ℕ, ◌+◌, ◌-◌, ◌<◌}
 use native.Mathlib.Omega.{arith}
 use mathlib.Core.Path.{◌≡◌}
 use Rattle.formula.specs.Codes.{parts_in}
-use Rattle.formula.proofs.evaluate.EntryLoop.{values-none, values-more}
+use Rattle.formula.proofs.evaluate.EntryLoop.{values_none, values_more}
 use Rattle.formula.proofs.evaluate.+values_back.Goals as goal
 
 pub returns-then-n-eq0 : goal.returns-then-n-eq0
 returns-then-n-eq0 t c =
-    values-none (parts_in c.args.parts.now) c.args.entries.now c.args.letter c.args.n c.if-n-eq0.true
+    values_none (parts_in c.args.parts.now) c.args.entries.now c.args.letter c.args.n c.if-n-eq0.true
 
 pub values_back-requires : goal.values_back-requires
 values_back-requires t c =
@@ -17,7 +17,7 @@ values_back-requires t c =
 pub returns : goal.returns
 returns t c =
     let one : c.args.n ≡ c.args.n - 1 + 1 = omega arith in
-    values-more (parts_in c.args.parts.now) c.args.entries.now c.args.letter c.args.n (c.args.n - 1) one (omega arith) _
+    values_more (parts_in c.args.parts.now) c.args.entries.now c.args.letter c.args.n (c.args.n - 1) one (omega arith) _
     c.values_back.ensures _ c.part_at-q.ensures
     _ _ _ _ _ _ c.bit_of.ensures c.owed_in-o.ensures c.value_in.ensures
     c.value_in-2.ensures c.combined-v.ensures c.entry_of.ensures

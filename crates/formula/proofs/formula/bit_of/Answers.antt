@@ -4,7 +4,7 @@ use borrow.Author.Rules.{rules}
 use native.Mathlib.Omega.{arith}
 use mathlib.Core.Path.{sym}
 use lib.Pow.{pow_mono}
-use Rattle.basics.proofs.BitsLaws.{bit_test, bit-out}
+use Rattle.basics.proofs.BitsLaws.{bit_test, bit_out}
 use Rattle.formula.proofs.formula.bit_of.Goals as goal
 
 pub returns-then-k-lt16 : goal.returns-then-k-lt16
@@ -13,4 +13,4 @@ returns-then-k-lt16 c =
 
 pub returns-else-k-lt16 : goal.returns-else-k-lt16
 returns-else-k-lt16 c =
-    sym (bit-out c.args.letter c.args.k (omega (arith, pow_mono {i = 16} {j = c.args.k} (omega arith), c.well_formed)))
+    sym (bit_out c.args.letter c.args.k (omega (arith, pow_mono {i = 16} {j = c.args.k} (omega arith), c.well_formed)))

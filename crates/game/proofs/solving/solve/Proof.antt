@@ -2,7 +2,7 @@
 -- Assumes nothing.
 use mathlib.Core.Path.{sym, ◌∙◌}
 use lib.Seq.{length-take-le, length_front}
-use Rattle.game.proofs.solving.WholeCall.{short-right, long_work, long-table, long-right}
+use Rattle.game.proofs.solving.WholeCall.{short_right, long_work, long_table, long_right}
 use borrow.Author.Rules.{rules}
 use Rattle.game.proofs.solving.solve.Statement.{statement}
 use Rattle.game.proofs.solving.solve.Tie as tie
@@ -10,7 +10,7 @@ use Rattle.game.proofs.solving.solve.Tie as tie
 returns : tie.Need-returns
 returns c =
     let a = c.before.before.before.before.args in
-    let m = short-right a.source.now a.work.now a.table.now c.if1.true in
+    let m = short_right a.source.now a.work.now a.table.now c.if1.true in
     (m.0, (m.1, (m.2, m.3)))
 
 slice-relend-prefix-solve-source : tie.Need-slice-relend-prefix-solve-source
@@ -27,7 +27,7 @@ solve-source-requires : tie.Need-solve-source-requires
 solve-source-requires c κs =
     let a = c.before.before.before.before.before.before.args in
     let e = c.before.before.if1.false in
-    (length-take-le 4128 a.work.now (long_work a.work.now a.table.now e), long-table a.work.now a.table.now e)
+    (length-take-le 4128 a.work.now (long_work a.work.now a.table.now e), long_table a.work.now a.table.now e)
 
 clear-requires : tie.Need-clear-requires
 clear-requires c κs = search rules
@@ -45,7 +45,7 @@ returns-2 c =
     let at-if1 = at-solve.before.before.before in
     let a = at-if1.before.before.before.before.args in
     let r = at-solve.solve-source in
-    let m = long-right a.work.now a.table.now at-if1.if1.false a.source.now r.result r.new.1.1.0 r.ensures.0 r.ensures.1.0
+    let m = long_right a.work.now a.table.now at-if1.if1.false a.source.now r.result r.new.1.1.0 r.ensures.0 r.ensures.1.0
     _ (length_front a.work.now r.new.1.0 4128 r.auto.1.0) in
     (m.0, (m.1, (at_clear.clear.ensures ∙ m.2, m.3)))
 

@@ -2,7 +2,7 @@
 -- Assumes nothing.
 use mathlib.Core.Path.{refl, sym, ◌∙◌}
 use native.Mathlib.Omega.{arith}
-use Rattle.game.proofs.solving.FromStates.{solved_many, widths_right, states_successors, states-few, states-some, solved-some}
+use Rattle.game.proofs.solving.FromStates.{solved_many, widths_right, states_successors, states_few, states_some, solved_some}
 use borrow.Author.Rules.{rules}
 use Rattle.game.proofs.solving.solve_parts.Statement.{statement}
 use Rattle.game.proofs.solving.solve_parts.Tie as tie
@@ -43,8 +43,8 @@ solve-states-requires c κs =
     let sets = explore.new.1.1.0 in
     let successors = explore.new.1.1.1.0 in
     let (sets-are, successors-are) = explore.ensures.1 in
-    let some = states-some a.parts.now a.sizes p.1.0 _ _ sets successors sets-are successors-are n.given.0.0 found in
-    let few = states-few a.parts.now a.sizes p.1.0 _ _ sets successors sets-are successors-are n.given.0.0 found in
+    let some = states_some a.parts.now a.sizes p.1.0 _ _ sets successors sets-are successors-are n.given.0.0 found in
+    let few = states_few a.parts.now a.sizes p.1.0 _ _ sets successors sets-are successors-are n.given.0.0 found in
     let right = states_successors a.parts.now a.sizes p.1.0 _ _ sets successors sets-are successors-are n.given.0.0 found in
     let widths = widths_right a.parts.now a.sizes p.1.0 in
     (omega (arith, explore.auto.1.1.0, p.1.1.0), (explore.auto.1.1.1.0, (some, (few, (widths, (right, p.1.1.1))))))
@@ -67,7 +67,7 @@ returns c =
     let explore = t.explore in
     let n = c.before.before.before.before.before.before.before.n in
     let solved = c.before.before.solve-states in
-    let answered = solved-some a.parts.now a.sizes s _ _ explore.new.1.1.0 explore.new.1.1.1.0
+    let answered = solved_some a.parts.now a.sizes s _ _ explore.new.1.1.0 explore.new.1.1.1.0
     explore.ensures.1.0 explore.ensures.1.1 n.given.0.0 (sym n.given.1 ∙ explore.ensures.0)
     order.result order.ensures solved.result a.table.now _ solved.ensures in
     (answered.0, (answered.1, explore.ensures.1.0))

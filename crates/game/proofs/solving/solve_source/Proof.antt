@@ -3,8 +3,8 @@
 use native.Mathlib.Omega.{arith}
 use mathlib.Core.Path.{sym}
 use Rattle.rules.specs.Problem.{read_problem}
-use Rattle.rules.proofs.JudgeLaws.{taken, taken_length, few-parts}
-use Rattle.game.proofs.solving.FromSource.{refused-right, stored-taken, sized-taken, source_right}
+use Rattle.rules.proofs.JudgeLaws.{taken, taken_length, few_parts}
+use Rattle.game.proofs.solving.FromSource.{refused_right, stored_taken, sized_taken, source_right}
 use borrow.Author.Rules.{rules}
 use Rattle.game.proofs.solving.solve_source.Statement.{statement}
 use Rattle.game.proofs.solving.solve_source.Tie as tie
@@ -26,7 +26,7 @@ array-share-prefix-parts c =
     let a = c.before.before.before.before.before.before.before.before.before.args in
     let read = c.before.before.before.before.read in
     let s = c.before.s in
-    omega (arith, few-parts (taken a.source.now s.given.0.0 read.result read.ensures.0 s.given.1 _ read.ensures.1.0), read.auto.1.0)
+    omega (arith, few_parts (taken a.source.now s.given.0.0 read.result read.ensures.0 s.given.1 _ read.ensures.1.0), read.auto.1.0)
 
 slice-aggregate-solve-parts : tie.Need-slice-aggregate-solve-parts
 slice-aggregate-solve-parts c =
@@ -42,13 +42,13 @@ solve-parts-requires c κs =
     let read = c.before.before.before.before.before.before.before.read in
     let s = c.before.before.before.before.s in
     let t = taken a.source.now s.given.0.0 read.result read.ensures.0 s.given.1 _ read.ensures.1.0 in
-    (stored-taken t, (sized-taken t, (p.0, p.1)))
+    (stored_taken t, (sized_taken t, (p.0, p.1)))
 
 returns : tie.Need-returns
 returns c =
     let a = c.before.before.before.before.before.before.before.before.before.args in
     let read = c.before.before.before.before.read in
-    refused-right (read_problem a.source.now) read.result c.before.r.given.0.0 a.table.now a.sets.now read.ensures.0
+    refused_right (read_problem a.source.now) read.result c.before.r.given.0.0 a.table.now a.sets.now read.ensures.0
     c.before.r.given.1
 
 same_length : tie.Need-same-length

@@ -5,7 +5,7 @@ use native.Mathlib.Omega.{arith}
 use mathlib.Core.Path.{refl, sym, ◌∙◌}
 use lib.ListN.{length-replicate}
 use borrow.Author.Rules.{rules}
-use Rattle.game.proofs.solving.FromBeliefs.{widths_pairs, counted-positions, solved-verdict, solved_many}
+use Rattle.game.proofs.solving.FromBeliefs.{widths_pairs, counted_positions, solved_verdict, solved_many}
 use Rattle.game.proofs.solving.solve_states.Statement.{statement}
 use Rattle.game.proofs.solving.solve_states.Tie as tie
 
@@ -32,7 +32,7 @@ explore-beliefs-requires c κs =
             (
               widths_pairs _ _ _ w,
               (
-                w.few-letters,
+                w.few_letters,
                 (p.1.1.1.1.1.0, (refl, omega (arith, length-replicate {A = ℕ} 256 0))),
               ),
             ),
@@ -58,7 +58,7 @@ answer-requires c κs =
     let a = s.args in
     let p = s.requires in
     let count = sym k.given.1 ∙ found.ensures.0 in (
-      counted-positions a.sets.now a.successors.now a.n a.choices a.observations a.hiddens p.1.1.1.1.0 k.given.0.0 count
+      counted_positions a.sets.now a.successors.now a.n a.choices a.observations a.hiddens p.1.1.1.1.0 k.given.0.0 count
           found.new.1.1.1.1.1.0 found.new.1.1.1.1.1.1.0 found.ensures.1.0 found.auto.1.1.1.1.1.0
           found.auto.1.1.1.1.1.1.0,
       p.1.1.1.1.1.1,
@@ -81,7 +81,7 @@ returns c =
     let s = c.before.before.before.before.before.before.before.before.before.before.before.before.before.before.before.before.before.before in
     let a = s.args in
     let count = sym k.given.1 ∙ found.ensures.0 in
-    let right = solved-verdict a.order a.sets.now a.successors.now a.n a.choices a.observations
+    let right = solved_verdict a.order a.sets.now a.successors.now a.n a.choices a.observations
     a.hiddens a.observed s.pre.1.1.1.1.0
     k.given.0.0 count found.new.1.1.1.1.1.0 found.ensures.1.0 found.new.1.1.1.1.1.1.0 _ found.ensures.1.1
     answer.result a.table.now _ answer.ensures.0 answer.ensures.1 in

@@ -10,23 +10,23 @@ use Rattle.syntax.specs.Kinds.{open_kind}
 use Rattle.grammar.specs.Grammar.{is_leaf}
 use Rattle.syntax.proofs.LexLaws.{tok_high, tok_ordered, tok_real}
 use Rattle.grammar.proofs.PlanParseLaws.{formulas_laws}
-use Rattle.grammar.proofs.AnswerLaws.{room_at, leaf-done, other-done, group-bad, close-bad, close-done}
-use Rattle.grammar.proofs.PlanAnswers.{no_plan, has-plan}
+use Rattle.grammar.proofs.AnswerLaws.{room_at, leaf_done, other_done, group_bad, close_bad, close_done}
+use Rattle.grammar.proofs.PlanAnswers.{no_plan, has_plan}
 use Prim.Native.Nat.{◌-◌, ℕ}
 use borrow.Author.Tests.{not-true, not-false}
 use Rattle.grammar.specs.Grammar.{is_op, leftward}
 use Rattle.grammar.specs.PlanParse.{reader}
 use Rattle.grammar.specs.Names.{names_in, leaf_value}
 use Rattle.syntax.proofs.LexLaws.{tok_high, tok_real}
-use Rattle.grammar.proofs.AnswerLaws.{room_at, span, joined, Loop, level_is, right-most, at_zero, begin, first-bad, stopped}
-use Rattle.grammar.proofs.AnswerLaws.{next-bad, next_more, next-done}
+use Rattle.grammar.proofs.AnswerLaws.{room_at, span, joined, Loop, level_is, right_most, at_zero, begin, first_bad, stopped}
+use Rattle.grammar.proofs.AnswerLaws.{next_bad, next_more, next_done}
 use mathlib.Core.Path.{refl, sym}
 use Rattle.grammar.proofs.AnswerLaws.{room_at}
-use Rattle.grammar.proofs.PlanAnswers.{no_head, headed, first-none, no_second, second-place, second_none, end_none, operand-few}
-use Rattle.grammar.proofs.PlanAnswers.{operand_length, plan-room, plan-done}
+use Rattle.grammar.proofs.PlanAnswers.{no_head, headed, first_none, no_second, second_place, second_none, end_none, operand_few}
+use Rattle.grammar.proofs.PlanAnswers.{operand_length, plan_room, plan_done}
 use mathlib.Core.Path.{sym, ◌∙◌}
 use Rattle.grammar.specs.Grammar.{is_pre}
-use Rattle.grammar.proofs.AnswerLaws.{room_at, joined, pass, pre-bad, pre-done}
+use Rattle.grammar.proofs.AnswerLaws.{room_at, joined, pass, pre_bad, pre_done}
 use Rattle.grammar.proofs.phrase.+read_atom_read_level_read_plan_read_unary.Goals as goal
 
 pub read_atom-leaf_value-requires : goal.read_atom-leaf_value-requires
@@ -38,20 +38,20 @@ read_atom-overflow_add-result t c =
     let L = formulas_laws c.args.temporal in
     let o = sym c.is_leaf.ensures ∙ c.if-is_leaf.true in
     let u = tok_high _ _ c.requires.room.inside _ c.token_at-t.ensures in
-    let v = tok_real _ _ c.requires.room.inside _ c.token_at-t.ensures is_leaf L.leaf-end o in
+    let v = tok_real _ _ c.requires.room.inside _ c.token_at-t.ensures is_leaf L.leaf_end o in
     omega (arith, c.requires.room.behind, u, v)
 
 pub read_atom-returns-then-is_leaf : goal.read_atom-returns-then-is_leaf
 read_atom-returns-then-is_leaf t c =
     let L = formulas_laws c.args.temporal in
     let o = sym c.is_leaf.ensures ∙ c.if-is_leaf.true in
-    leaf-done L _ _ c.requires.room.inside _ c.token_at-t.ensures o c.leaf_value.ensures c.put_leaf.ensures
+    leaf_done L _ _ c.requires.room.inside _ c.token_at-t.ensures o c.leaf_value.ensures c.put_leaf.ensures
 
 pub read_atom-returns-then-not-temporal : goal.read_atom-returns-then-not-temporal
 read_atom-returns-then-not-temporal t c =
     let L = formulas_laws c.args.temporal in
     let o = sym c.is_leaf.ensures ∙ c.if-is_leaf.false in
-    other-done L _ _ c.requires.room.inside _ c.token_at-t.ensures o c.if-k-ne-OPEN.true
+    other_done L _ _ c.requires.room.inside _ c.token_at-t.ensures o c.if-k-ne-OPEN.true
     (no_plan c.args.text.now c.args.at c.args.temporal (c.if-not-temporal.true))
 
 pub read_atom-read_plan-requires : goal.read_atom-read_plan-requires
@@ -62,8 +62,8 @@ pub read_atom-returns-then-k-ne-OPEN : goal.read_atom-returns-then-k-ne-OPEN
 read_atom-returns-then-k-ne-OPEN t c =
     let L = formulas_laws c.args.temporal in
     let o = sym c.is_leaf.ensures ∙ c.if-is_leaf.false in
-    other-done L _ _ c.requires.room.inside _ c.token_at-t.ensures o c.if-k-ne-OPEN.true
-    (has-plan c.args.text.now c.args.at c.args.temporal (c.if-not-temporal.false)
+    other_done L _ _ c.requires.room.inside _ c.token_at-t.ensures o c.if-k-ne-OPEN.true
+    (has_plan c.args.text.now c.args.at c.args.temporal (c.if-not-temporal.false)
     c.read_plan.ensures)
 
 pub read_atom-read_level-requires : goal.read_atom-read_level-requires
@@ -76,19 +76,19 @@ pub read_atom-returns-in_default : goal.read_atom-returns-in_default
 read_atom-returns-in_default t c =
     let L = formulas_laws c.args.temporal in
     let o = sym c.is_leaf.ensures ∙ c.if-is_leaf.false in
-    group-bad L _ _ c.requires.room.inside _ c.token_at-t.ensures o c.if-k-ne-OPEN.false c.read_level.ensures c.in_default.is
+    group_bad L _ _ c.requires.room.inside _ c.token_at-t.ensures o c.if-k-ne-OPEN.false c.read_level.ensures c.in_default.is
 
 pub read_atom-returns-then-close-ne-CLOSE : goal.read_atom-returns-then-close-ne-CLOSE
 read_atom-returns-then-close-ne-CLOSE t c =
     let L = formulas_laws c.args.temporal in
     let o = sym c.is_leaf.ensures ∙ c.if-is_leaf.false in
-    close-bad L _ _ c.requires.room.inside _ c.token_at-t.ensures o c.if-k-ne-OPEN.false c.read_level.ensures c.in-At.is _ c.token_at-u.ensures c.if-close-ne-CLOSE.true
+    close_bad L _ _ c.requires.room.inside _ c.token_at-t.ensures o c.if-k-ne-OPEN.false c.read_level.ensures c.in-At.is _ c.token_at-u.ensures c.if-close-ne-CLOSE.true
 
 pub read_atom-returns : goal.read_atom-returns
 read_atom-returns t c =
     let L = formulas_laws c.args.temporal in
     let o = sym c.is_leaf.ensures ∙ c.if-is_leaf.false in
-    close-done L _ _ c.requires.room.inside _ c.token_at-t.ensures o c.if-k-ne-OPEN.false c.read_level.ensures c.in-At.is _ c.token_at-u.ensures c.if-close-ne-CLOSE.false
+    close_done L _ _ c.requires.room.inside _ c.token_at-t.ensures o c.if-k-ne-OPEN.false c.read_level.ensures c.in-At.is _ c.token_at-u.ensures c.if-close-ne-CLOSE.false
 
 pub read_level-read_unary-requires : goal.read_level-read_unary-requires
 read_level-read_unary-requires t c =
@@ -106,7 +106,7 @@ pub read_level-returns-in_default : goal.read_level-returns-in_default
 read_level-returns-in_default t c =
     let L = formulas_laws c.args.temporal in
     let lv = level_is _ c.if-l-eq0.false in
-    first-bad L _ _ _ _ lv c.requires.l_bound c.requires.room.inside c.read_level.ensures c.in_default.is
+    first_bad L _ _ _ _ lv c.requires.l_bound c.requires.room.inside c.read_level.ensures c.in_default.is
 
 pub read_level-loop-temporal-init : goal.read_level-loop-temporal-init
 read_level-loop-temporal-init t c =
@@ -137,8 +137,8 @@ read_level-read_level-requires-in-loop-temporal t c =
     let L = formulas_laws c.args.temporal in
     let o = sym c.is_op.ensures ∙ c.if-not-is_op.false in
     let u = tok_high _ _ c.loop-temporal.invariant.high _ c.token_at-t.ensures in
-    let v = tok_real _ _ c.loop-temporal.invariant.high _ c.token_at-t.ensures (is_op c.args.temporal c.args.l) (L.op-end _) o in
-    let z = right-most (leftward c.args.l) _ _ c.right_level-right.ensures in (
+    let v = tok_real _ _ c.loop-temporal.invariant.high _ c.token_at-t.ensures (is_op c.args.temporal c.args.l) (L.op_end _) o in
+    let z = right_most (leftward c.args.l) _ _ c.right_level-right.ensures in (
       omega (arith, c.loop-temporal.invariant.onward, u, v, z),
       (room_at c.requires.room u (omega (arith, c.loop-temporal.invariant.behind, v)), (c.requires.spans, omega (arith, c.requires.l_bound, z))),
     )
@@ -154,21 +154,21 @@ read_level-returns-in_default-read_level t c =
     let lv = level_is _ c.if-l-eq0.false in
     let g = c.loop-temporal.invariant.grows _ (begin L _ _ _ _ lv c.requires.l_bound c.requires.room.inside c.read_level.ensures c.in-At.is) in
     let o = sym c.is_op.ensures ∙ c.if-not-is_op.false in
-    next-bad L _ _ _ _ lv c.requires.l_bound c.requires.room.inside g _ c.token_at-t.ensures o _ c.right_level-right.ensures c.read_level-in-loop-temporal.ensures
+    next_bad L _ _ _ _ lv c.requires.l_bound c.requires.room.inside g _ c.token_at-t.ensures o _ c.right_level-right.ensures c.read_level-in-loop-temporal.ensures
     c.in_default-read_level.is
 
 pub read_level-put_two-requires : goal.read_level-put_two-requires
 read_level-put_two-requires t c =
     let L = formulas_laws c.args.temporal in
     let o = sym c.is_op.ensures ∙ c.if-not-is_op.false in
-    let j = joined L _ _ c.loop-temporal.invariant.high _ c.token_at-t.ensures (is_op c.args.temporal c.args.l) (L.op-end _) o _ c.loop-temporal.invariant.behind c.read_level-in-loop-temporal.ensures c.in-At-read_level.is in
+    let j = joined L _ _ c.loop-temporal.invariant.high _ c.token_at-t.ensures (is_op c.args.temporal c.args.l) (L.op_end _) o _ c.loop-temporal.invariant.behind c.read_level-in-loop-temporal.ensures c.in-At-read_level.is in
     j.under
 
 pub read_level-overflow_add-c : goal.read_level-overflow_add-c
 read_level-overflow_add-c t c =
     let L = formulas_laws c.args.temporal in
     let o = sym c.is_op.ensures ∙ c.if-not-is_op.false in
-    let j = joined L _ _ c.loop-temporal.invariant.high _ c.token_at-t.ensures (is_op c.args.temporal c.args.l) (L.op-end _) o _ c.loop-temporal.invariant.behind c.read_level-in-loop-temporal.ensures c.in-At-read_level.is in
+    let j = joined L _ _ c.loop-temporal.invariant.high _ c.token_at-t.ensures (is_op c.args.temporal c.args.l) (L.op_end _) o _ c.loop-temporal.invariant.behind c.read_level-in-loop-temporal.ensures c.in-At-read_level.is in
     omega (arith, c.requires.room.short, j)
 
 pub read_level-shape_of-cells-then-right-l : goal.read_level-shape_of-cells-then-right-l
@@ -182,20 +182,20 @@ read_level-returns-then-right-l t c =
     let lv = level_is _ c.if-l-eq0.false in
     let g = c.loop-temporal.invariant.grows _ (begin L _ _ _ _ lv c.requires.l_bound c.requires.room.inside c.read_level.ensures c.in-At.is) in
     let o = sym c.is_op.ensures ∙ c.if-not-is_op.false in
-    next-done L _ _ _ _ lv c.requires.l_bound c.requires.room.inside g _ c.token_at-t.ensures o _ c.right_level-right.ensures c.read_level-in-loop-temporal.ensures c.in-At-read_level.is c.put_two.ensures c.if-right-l.true
+    next_done L _ _ _ _ lv c.requires.l_bound c.requires.room.inside g _ c.token_at-t.ensures o _ c.right_level-right.ensures c.read_level-in-loop-temporal.ensures c.in-At-read_level.is c.put_two.ensures c.if-right-l.true
 
 pub read_level-loop-temporal-smaller : goal.read_level-loop-temporal-smaller
 read_level-loop-temporal-smaller t c =
     let L = formulas_laws c.args.temporal in
     let o = sym c.is_op.ensures ∙ c.if-not-is_op.false in
-    let j = joined L _ _ c.loop-temporal.invariant.high _ c.token_at-t.ensures (is_op c.args.temporal c.args.l) (L.op-end _) o _ c.loop-temporal.invariant.behind c.read_level-in-loop-temporal.ensures c.in-At-read_level.is in
+    let j = joined L _ _ c.loop-temporal.invariant.high _ c.token_at-t.ensures (is_op c.args.temporal c.args.l) (L.op_end _) o _ c.loop-temporal.invariant.behind c.read_level-in-loop-temporal.ensures c.in-At-read_level.is in
     omega (arith, j.onward, j.high)
 
 pub read_level-loop-temporal-preserved : goal.read_level-loop-temporal-preserved
 read_level-loop-temporal-preserved t c =
     let L = formulas_laws c.args.temporal in
     let o = sym c.is_op.ensures ∙ c.if-not-is_op.false in
-    let j = joined L _ _ c.loop-temporal.invariant.high _ c.token_at-t.ensures (is_op c.args.temporal c.args.l) (L.op-end _) o _ c.loop-temporal.invariant.behind c.read_level-in-loop-temporal.ensures c.in-At-read_level.is in
+    let j = joined L _ _ c.loop-temporal.invariant.high _ c.token_at-t.ensures (is_op c.args.temporal c.args.l) (L.op_end _) o _ c.loop-temporal.invariant.behind c.read_level-in-loop-temporal.ensures c.in-At-read_level.is in
     let lv = level_is _ c.if-l-eq0.false in
     record {
       onward = omega (arith, c.loop-temporal.invariant.onward, j.onward);
@@ -219,7 +219,7 @@ read_plan-read_level-requires t c =
 
 pub read_plan-returns-in_default-read_level : goal.read_plan-returns-in_default-read_level
 read_plan-returns-in_default-read_level t c =
-    first-none _ _ c.requires.room.inside _ c.head_at.ensures c.in-At.is c.read_level.ensures c.in_default-read_level.is
+    first_none _ _ c.requires.room.inside _ c.head_at.ensures c.in-At.is c.read_level.ensures c.in_default-read_level.is
 
 pub read_plan-returns-in_default-second_at : goal.read_plan-returns-in_default-second_at
 read_plan-returns-in_default-second_at t c =
@@ -228,7 +228,7 @@ read_plan-returns-in_default-second_at t c =
 pub read_plan-read_level-requires-2 : goal.read_plan-read_level-requires-2
 read_plan-read_level-requires-2 t c =
     let d = headed _ _ c.requires.room.inside _ c.head_at.ensures c.in-At.is in
-    let p = second-place _ _ c.requires.room.inside _ c.head_at.ensures c.in-At.is c.read_level.ensures c.in-At-read_level.is _ c.second_at.ensures c.in-At-second_at.is in (
+    let p = second_place _ _ c.requires.room.inside _ c.head_at.ensures c.in-At.is c.read_level.ensures c.in-At-read_level.is _ c.second_at.ensures c.in-At-second_at.is in (
       omega (arith, d.later, p.0, p.1),
       (room_at c.requires.room p.1 (omega arith), (c.requires.spans, omega arith)),
     )
@@ -244,7 +244,7 @@ read_plan-returns-then-close-ne-CLOSE t c =
 pub read_plan-slice_bounds-a-end : goal.read_plan-slice_bounds-a-end
 read_plan-slice_bounds-a-end t c =
     let d = headed _ _ c.requires.room.inside _ c.head_at.ensures c.in-At.is in
-    omega (arith, operand-few _ c.requires.room.short _ d.high c.read_level.ensures c.in-At-read_level.is, c.read_level.auto.cells)
+    omega (arith, operand_few _ c.requires.room.short _ d.high c.read_level.ensures c.in-At-read_level.is, c.read_level.auto.cells)
 
 pub read_plan-slice_bounds-put_plan-end : goal.read_plan-slice_bounds-put_plan-end
 read_plan-slice_bounds-put_plan-end t c =
@@ -253,22 +253,22 @@ read_plan-slice_bounds-put_plan-end t c =
 
 pub read_plan-slice_bounds-b-end : goal.read_plan-slice_bounds-b-end
 read_plan-slice_bounds-b-end t c =
-    let p = second-place _ _ c.requires.room.inside _ c.head_at.ensures c.in-At.is c.read_level.ensures c.in-At-read_level.is _ c.second_at.ensures c.in-At-second_at.is in
-    omega (arith, operand-few _ c.requires.room.short _ p.1 c.read_level-2.ensures c.in-At-read_level-2.is, c.read_level-2.auto.cells)
+    let p = second_place _ _ c.requires.room.inside _ c.head_at.ensures c.in-At.is c.read_level.ensures c.in-At-read_level.is _ c.second_at.ensures c.in-At-second_at.is in
+    omega (arith, operand_few _ c.requires.room.short _ p.1 c.read_level-2.ensures c.in-At-read_level-2.is, c.read_level-2.auto.cells)
 
 pub read_plan-slice_bounds-put_plan-end-2 : goal.read_plan-slice_bounds-put_plan-end-2
 read_plan-slice_bounds-put_plan-end-2 t c =
-    let p = second-place _ _ c.requires.room.inside _ c.head_at.ensures c.in-At.is c.read_level.ensures c.in-At-read_level.is _ c.second_at.ensures c.in-At-second_at.is in
+    let p = second_place _ _ c.requires.room.inside _ c.head_at.ensures c.in-At.is c.read_level.ensures c.in-At-read_level.is _ c.second_at.ensures c.in-At-second_at.is in
     sym (operand_length _ c.requires.room.short _ p.1 c.read_level-2.ensures c.in-At-read_level-2.is refl)
 
 pub read_plan-put_plan-requires : goal.read_plan-put_plan-requires
 read_plan-put_plan-requires t c =
     let d = headed _ _ c.requires.room.inside _ c.head_at.ensures c.in-At.is in
-    record { in_range = d.numbered; b_bound = plan-room _ _ c.requires.room.inside _ c.head_at.ensures c.in-At.is c.read_level.ensures c.in-At-read_level.is _ c.second_at.ensures c.in-At-second_at.is c.read_level-2.ensures c.in-At-read_level-2.is _ c.token_at-u.ensures c.requires.room.short refl refl c.requires.room.behind }
+    record { in_range = d.numbered; b_bound = plan_room _ _ c.requires.room.inside _ c.head_at.ensures c.in-At.is c.read_level.ensures c.in-At-read_level.is _ c.second_at.ensures c.in-At-second_at.is c.read_level-2.ensures c.in-At-read_level-2.is _ c.token_at-u.ensures c.requires.room.short refl refl c.requires.room.behind }
 
 pub read_plan-returns : goal.read_plan-returns
 read_plan-returns t c =
-    plan-done _ _ c.requires.room.inside _ c.head_at.ensures c.in-At.is c.read_level.ensures c.in-At-read_level.is _ c.second_at.ensures c.in-At-second_at.is c.read_level-2.ensures c.in-At-read_level-2.is _ c.token_at-u.ensures c.requires.room.short refl refl c.if-close-ne-CLOSE.false c.put_plan.ensures.value
+    plan_done _ _ c.requires.room.inside _ c.head_at.ensures c.in-At.is c.read_level.ensures c.in-At-read_level.is _ c.second_at.ensures c.in-At-second_at.is c.read_level-2.ensures c.in-At-read_level-2.is _ c.token_at-u.ensures c.requires.room.short refl refl c.if-close-ne-CLOSE.false c.put_plan.ensures.value
     c.put_plan.ensures.cells_after
 
 pub read_unary-read_atom-requires : goal.read_unary-read_atom-requires
@@ -285,24 +285,24 @@ read_unary-read_unary-requires t c =
     let L = formulas_laws c.args.temporal in
     let o = sym c.is_prefix.ensures ∙ c.if-not-is_prefix.false in
     let u = tok_high _ _ c.requires.room.inside _ c.token_at-t.ensures in
-    let v = tok_real _ _ c.requires.room.inside _ c.token_at-t.ensures (is_pre c.args.temporal) L.pre-end o in
+    let v = tok_real _ _ c.requires.room.inside _ c.token_at-t.ensures (is_pre c.args.temporal) L.pre_end o in
     (omega (arith, u, v), (room_at c.requires.room u (omega (arith, c.requires.room.behind, v)), c.requires.spans))
 
 pub read_unary-returns-in_default : goal.read_unary-returns-in_default
 read_unary-returns-in_default t c =
     let L = formulas_laws c.args.temporal in
     let o = sym c.is_prefix.ensures ∙ c.if-not-is_prefix.false in
-    pre-bad L _ _ c.requires.room.inside _ c.token_at-t.ensures o c.read_unary.ensures c.in_default.is
+    pre_bad L _ _ c.requires.room.inside _ c.token_at-t.ensures o c.read_unary.ensures c.in_default.is
 
 pub read_unary-overflow_add-result : goal.read_unary-overflow_add-result
 read_unary-overflow_add-result t c =
     let L = formulas_laws c.args.temporal in
     let o = sym c.is_prefix.ensures ∙ c.if-not-is_prefix.false in
-    let j = joined L _ _ c.requires.room.inside _ c.token_at-t.ensures (is_pre c.args.temporal) L.pre-end o _ c.requires.room.behind c.read_unary.ensures c.in-At.is in
+    let j = joined L _ _ c.requires.room.inside _ c.token_at-t.ensures (is_pre c.args.temporal) L.pre_end o _ c.requires.room.behind c.read_unary.ensures c.in-At.is in
     omega (arith, j)
 
 pub read_unary-returns : goal.read_unary-returns
 read_unary-returns t c =
     let L = formulas_laws c.args.temporal in
     let o = sym c.is_prefix.ensures ∙ c.if-not-is_prefix.false in
-    pre-done L _ _ c.requires.room.inside _ c.token_at-t.ensures o c.read_unary.ensures c.in-At.is c.put.ensures
+    pre_done L _ _ c.requires.room.inside _ c.token_at-t.ensures o c.read_unary.ensures c.in-At.is c.put.ensures

@@ -4,19 +4,19 @@ use borrow.Author.Rules.{rules}
 use native.Mathlib.Omega.{arith}
 use mathlib.Core.Path.{sym, ◌∙◌}
 use borrow.Author.Tests.{not-true, not-false}
-use Rattle.lines.proofs.adding.AddFormula.{not_parsed, parsed, size-count, formed, taken-count}
-use Rattle.lines.proofs.adding.AddFormula.{bad-line, bad_formula, unknown_name, too_many, read-effect, refused, left-answers}
-use Rattle.lines.proofs.adding.TextTest.{text-short}
+use Rattle.lines.proofs.adding.AddFormula.{not_parsed, parsed, size_count, formed, taken_count}
+use Rattle.lines.proofs.adding.AddFormula.{bad_line, bad_formula, unknown_name, too_many, read_effect_lem, refused, left_answers}
+use Rattle.lines.proofs.adding.TextTest.{text_short}
 use Rattle.lines.proofs.adding.add_formula.Goals as goal
 
 pub returns-then-not-is_text : goal.returns-then-not-is_text
 returns-then-not-is_text c =
-    let whole = refused _ _ _ _ (bad-line _ _ _ _ _ (sym c.is_text.ensures ∙ c.if-not-is_text.true)) in
+    let whole = refused _ _ _ _ (bad_line _ _ _ _ _ (sym c.is_text.ensures ∙ c.if-not-is_text.true)) in
     record { value = whole.0; parts_after = whole.1 }
 
 pub read_formula-requires : goal.read_formula-requires
 read_formula-requires c =
-    let short = text-short _ (sym c.is_text.ensures ∙ c.if-not-is_text.false) in
+    let short = text_short _ (sym c.is_text.ensures ∙ c.if-not-is_text.false) in
     record { spans = c.requires.spans_in; text_len_bound = omega arith }
 
 pub returns-in_default : goal.returns-in_default
@@ -39,18 +39,18 @@ returns-then-count-gt-PART_LIMIT c =
     let d = sym c.all_declared.ensures ∙ c.if-not-all_declared.false in
     let f = parsed c.args.source.now c.args.spans.now _ c.read_formula.ensures.value c.in-At.is in
     let whole = refused _ _ _ _ (too_many _ _ _ _ _ t f.tree f.next f.is d
-    (omega (arith, c.if-count-gt-PART_LIMIT.true, size-count c.args.source.now c.args.spans.now _ f))) in
+    (omega (arith, c.if-count-gt-PART_LIMIT.true, size_count c.args.source.now c.args.spans.now _ f))) in
     record { value = whole.0; parts_after = whole.1 }
 
 pub slice_bounds-add_cells-end : goal.slice_bounds-add_cells-end
 slice_bounds-add_cells-end c =
     let f = parsed c.args.source.now c.args.spans.now _ c.read_formula.ensures.value c.in-At.is in
-    sym (taken-count _ _ _ f _ c.read_formula.ensures.cells_after c.if-count-gt-PART_LIMIT.false c.if-count-gt-PART_LIMIT.false)
+    sym (taken_count _ _ _ f _ c.read_formula.ensures.cells_after c.if-count-gt-PART_LIMIT.false c.if-count-gt-PART_LIMIT.false)
 
 pub add_cells-requires : goal.add_cells-requires
 add_cells-requires c =
     let f = parsed c.args.source.now c.args.spans.now _ c.read_formula.ensures.value c.in-At.is in
-    record { cells_len_bound = omega (arith, c.if-count-gt-PART_LIMIT.false, taken-count _ _ _ f _ c.read_formula.ensures.cells_after c.if-count-gt-PART_LIMIT.false c.if-count-gt-PART_LIMIT.false); parts_le_part_limit = (c.requires.parts-few, c.requires.operators-few, c.requires.parts-long) }
+    record { cells_len_bound = omega (arith, c.if-count-gt-PART_LIMIT.false, taken_count _ _ _ f _ c.read_formula.ensures.cells_after c.if-count-gt-PART_LIMIT.false c.if-count-gt-PART_LIMIT.false); parts_le_part_limit = (c.requires.parts_few, c.requires.operators_few, c.requires.parts_long) }
 
 pub returns : goal.returns
 returns c =
@@ -58,5 +58,5 @@ returns c =
     let f = parsed c.args.source.now c.args.spans.now _ c.read_formula.ensures.value c.in-At.is in
     let g = formed _ _ _ f _ c.read_formula.ensures.cells_after c.if-count-gt-PART_LIMIT.false c.if-count-gt-PART_LIMIT.false in
     let d = sym c.all_declared.ensures ∙ c.if-not-all_declared.false in
-    let whole = left-answers g _ _ _ _ (read-effect _ _ _ _ _ t g.tree g.next g.is d) (c.add_cells.ensures.value, c.add_cells.ensures.parts_after) in
+    let whole = left_answers g _ _ _ _ (read_effect_lem _ _ _ _ _ t g.tree g.next g.is d) (c.add_cells.ensures.value, c.add_cells.ensures.parts_after) in
     record { value = whole.0; parts_after = whole.1 }

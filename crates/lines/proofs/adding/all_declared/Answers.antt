@@ -7,7 +7,7 @@ use Rattle.syntax.proofs.LexLaws.{tok_high, tok_ordered}
 use Rattle.lines.specs.declared.problem.Sizes.{Sizes}
 use Rattle.lines.specs.Effect.{all_declared}
 use Rattle.lines.specs.Memory.{signals_in}
-use Rattle.lines.proofs.DeclaredNames.{index_below, declared-end, token_past, declared-other, declared-name, declared-none}
+use Rattle.lines.proofs.DeclaredNames.{index_below, declared_end, token_past, declared_other, declared_name, declared_none}
 use Rattle.lines.proofs.adding.all_declared.Goals as goal
 
 pub loop-at-init : goal.loop-at-init
@@ -17,7 +17,7 @@ loop-at-init c =
 pub returns-then-kind-eq-END : goal.returns-then-kind-eq-END
 returns-then-kind-eq-END c =
     sym (c.loop-at.invariant.1 c.args.s
-    ∙ declared-end _ _ c.loop-at.invariant.0 _ c.token_at-t.ensures _ c.if-kind-eq-END.true)
+    ∙ declared_end _ _ c.loop-at.invariant.0 _ c.token_at-t.ensures _ c.if-kind-eq-END.true)
 
 pub slice_bounds-lookup-count : goal.slice_bounds-lookup-count
 slice_bounds-lookup-count c =
@@ -40,7 +40,7 @@ lookup-requires c =
 pub returns-then-lookup-eq-BITS : goal.returns-then-lookup-eq-BITS
 returns-then-lookup-eq-BITS c =
     sym (c.loop-at.invariant.1 c.args.s
-    ∙ declared-none _ _ c.loop-at.invariant.0 _ c.token_at-t.ensures c.if-kind-eq-END.false _ _ c.lookup.ensures
+    ∙ declared_none _ _ c.loop-at.invariant.0 _ c.token_at-t.ensures c.if-kind-eq-END.false _ _ c.lookup.ensures
     c.if-kind-eq-NAME.true c.if-lookup-eq-BITS.true)
 
 pub loop-at-smaller-else-lookup-eq-BITS : goal.loop-at-smaller-else-lookup-eq-BITS
@@ -52,7 +52,7 @@ loop-at-smaller-else-lookup-eq-BITS c =
 pub loop-at-preserved-else-lookup-eq-BITS : goal.loop-at-preserved-else-lookup-eq-BITS
 loop-at-preserved-else-lookup-eq-BITS c = (
   tok_high _ _ c.loop-at.invariant.0 _ c.token_at-t.ensures,
-  λ s. c.loop-at.invariant.1 s ∙ declared-name _ _ c.loop-at.invariant.0 _ c.token_at-t.ensures
+  λ s. c.loop-at.invariant.1 s ∙ declared_name _ _ c.loop-at.invariant.0 _ c.token_at-t.ensures
       c.if-kind-eq-END.false _ _ c.lookup.ensures c.if-kind-eq-NAME.true
       (index_below _ _ _ _ c.lookup.ensures c.if-lookup-eq-BITS.false),
 )
@@ -66,6 +66,6 @@ loop-at-smaller c =
 pub loop-at-preserved : goal.loop-at-preserved
 loop-at-preserved c = (
   tok_high _ _ c.loop-at.invariant.0 _ c.token_at-t.ensures,
-  λ s. c.loop-at.invariant.1 s ∙ declared-other _ _ c.loop-at.invariant.0 _ c.token_at-t.ensures c.if-kind-eq-END.false _
+  λ s. c.loop-at.invariant.1 s ∙ declared_other _ _ c.loop-at.invariant.0 _ c.token_at-t.ensures c.if-kind-eq-END.false _
       c.if-kind-eq-NAME.false,
 )

@@ -1,17 +1,17 @@
 -- `lines::adding::is_text` meets its contract.
 -- Assumes nothing.
 use borrow.Author.Rules.{rules}
-use Rattle.lines.proofs.adding.TextTest.{text-none, text-long, text-tab}
+use Rattle.lines.proofs.adding.TextTest.{text_none, text_long, text_tab}
 use Rattle.lines.proofs.adding.is_text.Goals as goal
 
 pub returns-then-text-eq0 : goal.returns-then-text-eq0
 returns-then-text-eq0 c =
-    text-none _ c.if-text-eq0.true
+    text_none _ c.if-text-eq0.true
 
 pub returns-then-text-gt-TEXT_LIMIT : goal.returns-then-text-gt-TEXT_LIMIT
 returns-then-text-gt-TEXT_LIMIT c =
-    text-long _ c.if-text-eq0.false c.if-text-gt-TEXT_LIMIT.true
+    text_long _ c.if-text-eq0.false c.if-text-gt-TEXT_LIMIT.true
 
 pub returns : goal.returns
 returns c =
-    text-tab _ c.if-text-eq0.false c.if-text-gt-TEXT_LIMIT.false _ c.past.ensures
+    text_tab _ c.if-text-eq0.false c.if-text-gt-TEXT_LIMIT.false _ c.past.ensures

@@ -1,7 +1,7 @@
 -- `lines::adding::join` meets its contract.
 -- Assumes nothing.
 use native.Mathlib.Omega.{arith}
-use Rattle.lines.proofs.adding.Joint.{joint-some, join_none, join_some}
+use Rattle.lines.proofs.adding.Joint.{joint_some, join_none, join_some}
 use borrow.Author.Rules.{rules}
 use Rattle.lines.proofs.adding.join.Goals as goal
 
@@ -11,7 +11,7 @@ returns-then-n-eq0 c =
 
 pub bounds-parts-count : goal.bounds-parts-count
 bounds-parts-count c =
-    omega (arith, joint-some c.args.n c.args.count c.if-n-eq0.false)
+    omega (arith, joint_some c.args.n c.args.count c.if-n-eq0.false)
 
 pub returns : goal.returns
 returns c =

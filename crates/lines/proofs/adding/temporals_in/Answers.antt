@@ -6,7 +6,7 @@ use mathlib.Core.Logic.{⊎_elim}
 use lib.ListN.{length, drop}
 use Rattle.formula.specs.Parts.{temporals}
 use Rattle.syntax.specs.Cells.{kinds_in}
-use Rattle.lines.proofs.CellKinds.{temporals_hit, temporals_miss, temporals-end}
+use Rattle.lines.proofs.CellKinds.{temporals_hit, temporals_miss, temporals_end}
 use Rattle.lines.proofs.adding.temporals_in.Goals as goal
 use Rattle.lines.proofs.adding.temporals_in.Goals.{else-is_temporal, then-is_temporal}
 
@@ -17,4 +17,4 @@ loop-i-preserved c =
 
 pub returns : goal.returns
 returns c =
-    omega (arith, temporals-end c.args.cells.now c.loop-i.i (omega arith))
+    omega (arith, temporals_end c.args.cells.now c.loop-i.i (omega arith))

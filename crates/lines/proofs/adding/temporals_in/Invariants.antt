@@ -8,7 +8,7 @@ use mathlib.Core.Logic.{⊎_elim}
 use lib.ListN.{length, drop}
 use Rattle.formula.specs.Parts.{temporals}
 use Rattle.syntax.specs.Cells.{kinds_in}
-use Rattle.lines.proofs.CellKinds.{temporals_hit, temporals_miss, temporals-end}
+use Rattle.lines.proofs.CellKinds.{temporals_hit, temporals_miss, temporals_end}
 use Rattle.lines.proofs.adding.temporals_in.Given as goal
 
 abbrev pub invariant-loop-i : goal.invariant-loop-i

@@ -1,13 +1,13 @@
 -- `lines::adding::with_joint` meets its contract.
 -- Assumes nothing.
 use borrow.Author.Rules.{rules}
-use Rattle.lines.proofs.adding.Joint.{joint-none, joint-some}
+use Rattle.lines.proofs.adding.Joint.{joint_none, joint_some}
 use Rattle.lines.proofs.adding.with_joint.Goals as goal
 
 pub returns-then-n-eq0 : goal.returns-then-n-eq0
 returns-then-n-eq0 c =
-    joint-none _ _ c.if-n-eq0.true
+    joint_none _ _ c.if-n-eq0.true
 
 pub returns-else-n-eq0 : goal.returns-else-n-eq0
 returns-else-n-eq0 c =
-    joint-some _ _ c.if-n-eq0.false
+    joint_some _ _ c.if-n-eq0.false

@@ -3,7 +3,7 @@ use lib.ListN.{length-set}
 use mathlib.Core.Path.{sym, ap₂, ◌∙◌}
 use native.Mathlib.Omega.{arith}
 use borrow.Author.Tests.{not-true, not-false}
-use Rattle.lines.proofs.declaring.DeclareSignal.{count_limit, bit_below, no_name, name_twice, kind_full, all_full, new-signal}
+use Rattle.lines.proofs.declaring.DeclareSignal.{count_limit, bit_below, no_name, name_twice, kind_full, all_full, new_signal}
 use borrow.Author.Rules.{rules}
 use Rattle.lines.proofs.declaring.declare.Goals as goal
 
@@ -86,7 +86,7 @@ more_signals-requires c =
 
 pub returns : goal.returns
 returns c =
-    let whole = new-signal c.args.source.now c.args.start c.args.end c.args.line c.args.kind c.args.s c.args.spans.now
+    let whole = new_signal c.args.source.now c.args.start c.args.end c.args.line c.args.kind c.args.s c.args.spans.now
     (sym c.is_name.ensures ∙ c.if-not-is_name.false) c.lookup.result c.lookup.ensures
     c.if-lookup-lt-BITS.false (λ e. c.if-n-eq-KIND_LIMIT.false (c.count_in-n.ensures ∙ e)) c.if-s-eq-SIGNAL_LIMIT.false c.more_signals.result
     c.more_signals.ensures (c.first_bit.result + c.count_in-n.result)

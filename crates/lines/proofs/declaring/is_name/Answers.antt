@@ -1,4 +1,4 @@
-use Rattle.lines.proofs.declaring.NameTest.{name_kind_lem, name-from, name-next, name_length}
+use Rattle.lines.proofs.declaring.NameTest.{name_kind_lem, name_from, name_next, name_length}
 use borrow.Author.Rules.{rules}
 use Rattle.lines.proofs.declaring.is_name.Goals as goal
 
@@ -8,11 +8,11 @@ returns-then-kind-ne-NAME c =
 
 pub returns-then-from-ne0 : goal.returns-then-from-ne0
 returns-then-from-ne0 c =
-    name-from _ _ c.token_at-t.ensures c.if-kind-ne-NAME.false c.if-from-ne0.true
+    name_from _ _ c.token_at-t.ensures c.if-kind-ne-NAME.false c.if-from-ne0.true
 
 pub returns-then-next-name : goal.returns-then-next-name
 returns-then-next-name c =
-    name-next _ _ c.token_at-t.ensures c.if-kind-ne-NAME.false c.if-from-ne0.false c.if-next-name.true
+    name_next _ _ c.token_at-t.ensures c.if-kind-ne-NAME.false c.if-from-ne0.false c.if-next-name.true
 
 pub returns : goal.returns
 returns c =

@@ -1,6 +1,6 @@
 use borrow.Author.Rules.{rules}
 use mathlib.Core.Path.{sym, ◌∙◌}
-use Rattle.lines.proofs.ordering.SayOrder.{said_twice, said-nothing, said}
+use Rattle.lines.proofs.ordering.SayOrder.{said_twice, said_nothing, said}
 use Rattle.lines.proofs.ordering.add_order.Goals as goal
 
 pub returns-in_default : goal.returns-in_default
@@ -9,7 +9,7 @@ returns-in_default c =
 
 pub returns-in_default-order_named : goal.returns-in_default-order_named
 returns-in_default-order_named c =
-    said-nothing c.args.line c.args.s _ c.in-Open.is (sym c.order_named.ensures ∙ c.in_default-order_named.is)
+    said_nothing c.args.line c.args.s _ c.in-Open.is (sym c.order_named.ensures ∙ c.in_default-order_named.is)
 
 pub returns : goal.returns
 returns c =

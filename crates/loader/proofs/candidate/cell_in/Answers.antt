@@ -7,23 +7,23 @@ use borrow.Author.Rules.{rules}
 use Rattle.basics.proofs.BitsLaws.{shl_one}
 use Rattle.wellformed.proofs.WellFormedLaws.{side_le}
 use Rattle.loader.specs.Candidate.{move_in, row_in}
-use Rattle.loader.proofs.CandidateLaws.{row-stop, row-rest, row_move, rank-here, rank-behind}
+use Rattle.loader.proofs.CandidateLaws.{row_stop, row_rest, row_move, rank_here, rank_behind}
 use Rattle.loader.proofs.candidate.cell_in.Goals as goal
 
 pub returns-then-i-rank_at : goal.returns-then-i-rank_at
 returns-then-i-rank_at c =
-    c.number_at.ensures ∙ rank-here c.args.shape c.args.line.now c.args.i _ c.rank_at.ensures c.if-i-rank_at.true
+    c.number_at.ensures ∙ rank_here c.args.shape c.args.line.now c.args.i _ c.rank_at.ensures c.if-i-rank_at.true
 
 pub returns-then-i-eq0 : goal.returns-then-i-eq0
 returns-then-i-eq0 c =
     let says = sym c.says_stop.ensures ∙ c.if-says_stop.true in
-    sym (ap (λ k. get_or (row_in c.args.shape c.args.line.now) k 0) c.if-i-eq0.true ∙ row-stop c.args.shape c.args.line.now says)
+    sym (ap (λ k. get_or (row_in c.args.shape c.args.line.now) k 0) c.if-i-eq0.true ∙ row_stop c.args.shape c.args.line.now says)
 
 pub returns-then-says_stop : goal.returns-then-says_stop
 returns-then-says_stop c =
     let says = sym c.says_stop.ensures ∙ c.if-says_stop.true in
-    let before = rank-behind c.args.shape c.args.line.now c.args.i _ c.rank_at.ensures c.if-i-rank_at.false c.requires.i_bound in
-    sym (row-rest c.args.shape c.args.line.now says c.args.i (omega (arith, c.if-i-eq0.false)) before)
+    let before = rank_behind c.args.shape c.args.line.now c.args.i _ c.rank_at.ensures c.if-i-rank_at.false c.requires.i_bound in
+    sym (row_rest c.args.shape c.args.line.now says c.args.i (omega (arith, c.if-i-eq0.false)) before)
 
 pub move_in-requires : goal.move_in-requires
 move_in-requires c =
@@ -37,7 +37,7 @@ move_in-requires c =
 pub returns : goal.returns
 returns c =
     let says = sym c.says_stop.ensures ∙ c.if-says_stop.false in
-    let before = rank-behind c.args.shape c.args.line.now c.args.i _ c.rank_at.ensures c.if-i-rank_at.false c.requires.i_bound in
+    let before = rank_behind c.args.shape c.args.line.now c.args.i _ c.rank_at.ensures c.if-i-rank_at.false c.requires.i_bound in
     c.move_in.ensures
     ∙ ap (λ n. move_in c.args.shape.order n c.args.shape.rows c.args.line.now c.args.i) (shl_one c.args.shape.observed (omega (arith, c.requires.observed_le_kind_limit)))
     ∙ sym (row_move c.args.shape c.args.line.now says c.args.i before)

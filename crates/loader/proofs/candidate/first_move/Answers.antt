@@ -3,14 +3,14 @@ use native.Mathlib.Omega.{arith}
 use mathlib.Core.Path.{◌≡◌, ◌∙◌}
 use borrow.Author.Rules.{rules}
 use Rattle.basics.specs.Bounded.{first_that}
-use Rattle.basics.proofs.BoundedLaws.{first-none, first_more}
+use Rattle.basics.proofs.BoundedLaws.{first_none, first_more}
 use Rattle.loader.specs.Candidate.{goes_on}
-use Rattle.loader.proofs.candidate.RowLoop.{RowAt, row_next, row_goes, move-here, move-none}
+use Rattle.loader.proofs.candidate.RowLoop.{RowAt, row_next, row_goes, move_here, move_none}
 use Rattle.loader.proofs.candidate.first_move.Goals as goal
 
 pub loop-row-init : goal.loop-row-init
 loop-row-init c =
-    (omega arith, (c.behind-at.ensures.upper_bound, c.behind-at.ensures.text_value), first-none (goes_on c.args.text.now))
+    (omega arith, (c.behind-at.ensures.upper_bound, c.behind-at.ensures.text_value), first_none (goes_on c.args.text.now))
 
 pub piece-requires : goal.piece-requires
 piece-requires c =
@@ -19,7 +19,7 @@ piece-requires c =
 pub returns-then-not-says_stop : goal.returns-then-not-says_stop
 returns-then-not-says_stop c =
     let t = row_goes c.args.text.now c.loop-row.at c.loop-row.row c.loop-row.invariant.1 _ c.piece.ensures _ c.says_stop.ensures ∙ c.if-not-says_stop.true-raw in
-    let whole = move-here c.args.text.now c.loop-row.at c.loop-row.row c.loop-row.invariant.1 c.args.rows c.loop-row.invariant.2 c.loop-row-test.true t in
+    let whole = move_here c.args.text.now c.loop-row.at c.loop-row.row c.loop-row.invariant.1 c.args.rows c.loop-row.invariant.2 c.loop-row-test.true t in
     record { upper_bound = whole.0; text_value = whole.1 }
 
 pub behind-at-requires-in-loop-row : goal.behind-at-requires-in-loop-row
@@ -37,5 +37,5 @@ loop-row-preserved c =
 pub returns : goal.returns
 returns c =
     let e : c.loop-row.row ≡ c.args.rows = omega (arith, c.loop-row-test.false) in
-    let whole = move-none c.args.text.now c.loop-row.at c.loop-row.row c.loop-row.invariant.1 c.args.rows c.loop-row.invariant.2 e in
+    let whole = move_none c.args.text.now c.loop-row.at c.loop-row.row c.loop-row.invariant.1 c.args.rows c.loop-row.invariant.2 e in
     record { upper_bound = whole.0; text_value = whole.1 }

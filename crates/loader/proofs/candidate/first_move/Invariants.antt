@@ -5,9 +5,9 @@ use native.Mathlib.Omega.{arith}
 use mathlib.Core.Path.{◌≡◌, ◌∙◌}
 use borrow.Author.Rules.{rules}
 use Rattle.basics.specs.Bounded.{first_that}
-use Rattle.basics.proofs.BoundedLaws.{first-none, first_more}
+use Rattle.basics.proofs.BoundedLaws.{first_none, first_more}
 use Rattle.loader.specs.Candidate.{goes_on}
-use Rattle.loader.proofs.candidate.RowLoop.{RowAt, row_next, row_goes, move-here, move-none}
+use Rattle.loader.proofs.candidate.RowLoop.{RowAt, row_next, row_goes, move_here, move_none}
 use Rattle.loader.proofs.candidate.first_move.Given as goal
 
 abbrev pub invariant-loop-row : goal.invariant-loop-row

@@ -1,7 +1,7 @@
 -- `loader::candidate::limit_at` meets its contract.
 -- Assumes nothing.
 use borrow.Author.Rules.{rules}
-use Rattle.loader.proofs.CandidateLaws.{set_first, set_next, read-choice, read_next}
+use Rattle.loader.proofs.CandidateLaws.{set_first, set_next, read_choice, read_next}
 use Rattle.loader.proofs.candidate.limit_at.Goals as goal
 
 pub returns-then-i-eq0 : goal.returns-then-i-eq0
@@ -14,7 +14,7 @@ returns-else-i-eq0 c =
 
 pub returns-then-i-eq1 : goal.returns-then-i-eq1
 returns-then-i-eq1 c =
-    read-choice c.args.order c.args.rows c.args.i c.in-Read.is c.if-i-eq1.true
+    read_choice c.args.order c.args.rows c.args.i c.in-Read.is c.if-i-eq1.true
 
 pub returns-else-i-eq1 : goal.returns-else-i-eq1
 returns-else-i-eq1 c =

@@ -4,12 +4,12 @@ use native.Mathlib.Omega.{arith}
 use mathlib.Core.Path.{◌∙◌}
 use borrow.Author.Rules.{rules}
 use Rattle.loader.proofs.ShownCells.{limit_few}
-use Rattle.loader.proofs.CandidateLaws.{size_small, shown-small, move-inside, move_zero, move-number}
+use Rattle.loader.proofs.CandidateLaws.{size_small, shown_small, move_inside, move_zero, move_number}
 use Rattle.loader.proofs.candidate.move_in.Goals as goal
 
 pub overflow_add-from : goal.overflow_add-from
 overflow_add-from c =
-    omega (arith, c.shown_count-count.ensures, c.shown_from-from.ensures, shown-small c.args.order c.args.n c.requires.n_le_side_limit)
+    omega (arith, c.shown_count-count.ensures, c.shown_from-from.ensures, shown_small c.args.order c.args.n c.requires.n_le_side_limit)
 
 pub returns-then-i-from : goal.returns-then-i-from
 returns-then-i-from c =
@@ -17,7 +17,7 @@ returns-then-i-from c =
 
 pub overflow_sub-i : goal.overflow_sub-i
 overflow_sub-i c =
-    let inside = move-inside c.args.order c.args.n c.args.rows c.args.line.now c.args.i _ _ c.shown_from-from.ensures c.shown_count-count.ensures
+    let inside = move_inside c.args.order c.args.n c.args.rows c.args.line.now c.args.i _ _ c.shown_from-from.ensures c.shown_count-count.ensures
     c.if-i-from.false in
     omega (arith, inside.0, c.shown_from-from.ensures)
 
@@ -32,5 +32,5 @@ number_at-requires c =
 pub returns : goal.returns
 returns c =
     c.number_at.ensures
-    ∙ move-number c.args.order c.args.n c.args.rows c.args.line.now c.args.i _ _ c.shown_from-from.ensures c.shown_count-count.ensures
+    ∙ move_number c.args.order c.args.n c.args.rows c.args.line.now c.args.i _ _ c.shown_from-from.ensures c.shown_count-count.ensures
     c.if-i-from.false _ c.limit_at-limit.ensures

@@ -4,7 +4,7 @@ use mathlib.Core.Path.{◌≡◌, refl, sym, ◌∙◌}
 use borrow.Author.Rules.{rules}
 use Rattle.basics.specs.Limits.{kind_limit}
 use Rattle.loader.specs.Candidate.{observed_in}
-use Rattle.loader.proofs.CandidateLaws.{tried_small, shown-small, observed-here, observed_less, observed-none}
+use Rattle.loader.proofs.CandidateLaws.{tried_small, shown_small, observed_here, observed_less, observed_none}
 use Rattle.loader.proofs.candidate.observed_in.Goals as goal
 
 pub loop-k-init : goal.loop-k-init
@@ -17,11 +17,11 @@ shown_count-last-requires c =
 
 pub overflow_add-last : goal.overflow_add-last
 overflow_add-last c =
-    omega (arith, c.shown_count-last.ensures, shown-small c.args.order _ (tried_small c.args.order c.loop-k.k c.loop-k.invariant.0))
+    omega (arith, c.shown_count-last.ensures, shown_small c.args.order _ (tried_small c.args.order c.loop-k.k c.loop-k.invariant.0))
 
 pub returns-then-field-gt0 : goal.returns-then-field-gt0
 returns-then-field-gt0 c =
-    observed-here c.args.order c.loop-k.k c.args.line.now _ c.loop-k.invariant.0 c.loop-k-test.true _ c.shown_count-last.ensures c.field.ensures
+    observed_here c.args.order c.loop-k.k c.args.line.now _ c.loop-k.invariant.0 c.loop-k-test.true _ c.shown_count-last.ensures c.field.ensures
     c.if-field-gt0.true ∙ sym c.loop-k.invariant.1
 
 pub loop-k-preserved : goal.loop-k-preserved
@@ -32,4 +32,4 @@ loop-k-preserved c =
 
 pub returns : goal.returns
 returns c =
-    observed-none c.args.order c.loop-k.k c.args.line.now c.loop-k-test.false ∙ sym c.loop-k.invariant.1
+    observed_none c.args.order c.loop-k.k c.args.line.now c.loop-k-test.false ∙ sym c.loop-k.invariant.1

@@ -6,7 +6,7 @@ use mathlib.Core.Path.{◌≡◌, refl, sym, ◌∙◌}
 use borrow.Author.Rules.{rules}
 use Rattle.basics.specs.Limits.{kind_limit}
 use Rattle.loader.specs.Candidate.{observed_in}
-use Rattle.loader.proofs.CandidateLaws.{tried_small, shown-small, observed-here, observed_less, observed-none}
+use Rattle.loader.proofs.CandidateLaws.{tried_small, shown_small, observed_here, observed_less, observed_none}
 use Rattle.loader.proofs.candidate.observed_in.Given as goal
 
 abbrev pub invariant-loop-k : goal.invariant-loop-k

@@ -5,12 +5,12 @@ use lib.ListN.{length, length-set}
 use lib.Seq.{paste, paste-zero}
 use borrow.Author.Rules.{rules}
 use Rattle.loader.specs.Candidate.{row_in}
-use Rattle.loader.proofs.candidate.CellLoop.{cell-place, row-place, cell-more, cells-all}
+use Rattle.loader.proofs.candidate.CellLoop.{cell_place, row_place, cell_more, cells_all}
 use Rattle.loader.proofs.candidate.put_row.Goals as goal
 
 pub overflow_mul-at : goal.overflow_mul-at
 overflow_mul-at c =
-    omega (arith, c.well_formed, row-place c.args.shape c.args.line.now c.args.cells.now c.args.row _ c.row_size-size.ensures c.requires.order_in_bounds)
+    omega (arith, c.well_formed, row_place c.args.shape c.args.line.now c.args.cells.now c.args.row _ c.row_size-size.ensures c.requires.order_in_bounds)
 
 pub loop-i-init : goal.loop-i-init
 loop-i-init c =
@@ -22,28 +22,28 @@ cell_in-requires c =
 
 pub overflow_add-cells : goal.overflow_add-cells
 overflow_add-cells c =
-    let place = cell-place c.args.shape c.args.line.now c.args.cells.now c.args.row _ c.row_size-size.ensures c.requires.order_in_bounds in
+    let place = cell_place c.args.shape c.args.line.now c.args.cells.now c.args.row _ c.row_size-size.ensures c.requires.order_in_bounds in
     omega (arith, c.well_formed, place c.loop-i.i c.loop-i-test.true)
 
 pub offset_bounds-cells-at : goal.offset_bounds-cells-at
 offset_bounds-cells-at c =
-    let place = cell-place c.args.shape c.args.line.now c.args.cells.now c.args.row _ c.row_size-size.ensures c.requires.order_in_bounds in
+    let place = cell_place c.args.shape c.args.line.now c.args.cells.now c.args.row _ c.row_size-size.ensures c.requires.order_in_bounds in
     omega (arith, c.well_formed, place c.loop-i.i c.loop-i-test.true)
 
 pub bounds-cells-at : goal.bounds-cells-at
 bounds-cells-at c =
-    let place = cell-place c.args.shape c.args.line.now c.args.cells.now c.args.row _ c.row_size-size.ensures c.requires.order_in_bounds in
+    let place = cell_place c.args.shape c.args.line.now c.args.cells.now c.args.row _ c.row_size-size.ensures c.requires.order_in_bounds in
     omega (arith, c.loop-i.invariant.1, place c.loop-i.i c.loop-i-test.true)
 
 pub loop-i-preserved : goal.loop-i-preserved
 loop-i-preserved c = (
   omega arith,
   simp length-set c.loop-i.invariant.1,
-  cell-more c.args.shape c.args.line.now c.args.cells.now c.args.row _ c.row_size-size.ensures c.requires.order_in_bounds c.loop-i.i c.loop-i.cells c.loop-i.invariant.2
+  cell_more c.args.shape c.args.line.now c.args.cells.now c.args.row _ c.row_size-size.ensures c.requires.order_in_bounds c.loop-i.i c.loop-i.cells c.loop-i.invariant.2
       c.loop-i-test.true _ c.cell_in.ensures,
 )
 
 pub returns : goal.returns
 returns c =
-    cells-all c.args.shape c.args.line.now c.args.cells.now c.args.row _ c.row_size-size.ensures c.requires.order_in_bounds c.loop-i.i c.loop-i.cells c.loop-i.invariant.2
+    cells_all c.args.shape c.args.line.now c.args.cells.now c.args.row _ c.row_size-size.ensures c.requires.order_in_bounds c.loop-i.i c.loop-i.cells c.loop-i.invariant.2
     (omega (arith, c.loop-i-test.false))

@@ -7,7 +7,7 @@ use lib.ListN.{length, length-set}
 use lib.Seq.{paste, paste-zero}
 use borrow.Author.Rules.{rules}
 use Rattle.loader.specs.Candidate.{row_in}
-use Rattle.loader.proofs.candidate.CellLoop.{cell-place, row-place, cell-more, cells-all}
+use Rattle.loader.proofs.candidate.CellLoop.{cell_place, row_place, cell_more, cells_all}
 use Rattle.loader.proofs.candidate.put_row.Given as goal
 
 abbrev pub invariant-loop-i : goal.invariant-loop-i

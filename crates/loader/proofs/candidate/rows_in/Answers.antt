@@ -5,7 +5,7 @@ use mathlib.Core.Path.{ap, ◌∙◌}
 use borrow.Author.Rules.{rules}
 use Rattle.basics.specs.Numbers.{number_below}
 use Rattle.play.specs.Limits.{belief_limit}
-use Rattle.loader.proofs.CandidateLaws.{rows_none, rows-some}
+use Rattle.loader.proofs.CandidateLaws.{rows_none, rows_some}
 use Rattle.loader.proofs.candidate.rows_in.Goals as goal
 
 pub returns-then-n-eq0 : goal.returns-then-n-eq0
@@ -16,4 +16,4 @@ returns-then-n-eq0 c =
 pub returns : goal.returns
 returns c =
     let e = c.number_below-n.ensures ∙ ap (number_below (suc belief_limit)) c.field.ensures in
-    rows-some c.args.line.now _ e c.if-n-eq0.false
+    rows_some c.args.line.now _ e c.if-n-eq0.false

@@ -5,7 +5,7 @@ use mathlib.Core.Logic.{⊎_elim}
 use lib.ListN.{length, drop}
 use borrow.Author.Rules.{rules}
 use Rattle.loader.specs.Difference.{difference}
-use Rattle.loader.proofs.comparing.DifferenceLoop.{in_both, not_both, differs-here, line-more, line_same, both_end, one-ends}
+use Rattle.loader.proofs.comparing.DifferenceLoop.{in_both, not_both, differs_here, line_more, line_same, both_end, one_ends}
 use Rattle.loader.proofs.comparing.first_difference.Goals as goal
 use Rattle.loader.proofs.comparing.first_difference.Goals.{else-a-i-eq-LINE_END, then-a-i-eq-LINE_END}
 
@@ -24,7 +24,7 @@ bounds-b-i c =
 pub returns-then-a-i : goal.returns-then-a-i
 returns-then-a-i c =
     let (in-a, in_b) = in_both c.loop-i.i (length c.args.a.now) (length c.args.b.now) c.loop-i-test.true in
-    differs-here c.args.a.now c.args.b.now c.loop-i.line c.loop-i.i in-a in_b c.if-a-i.true ∙ sym c.loop-i.invariant.3
+    differs_here c.args.a.now c.args.b.now c.loop-i.line c.loop-i.i in-a in_b c.if-a-i.true ∙ sym c.loop-i.invariant.3
 
 pub bounds-a-i-in-loop-i : goal.bounds-a-i-in-loop-i
 bounds-a-i-in-loop-i c =
@@ -38,9 +38,9 @@ pub loop-i-preserved : goal.loop-i-preserved
 loop-i-preserved c =
     let (in-a, in_b) = in_both c.loop-i.i (length c.args.a.now) (length c.args.b.now) c.loop-i-test.true in
     elim c.if-a-i-eq-LINE_END.branch [
-      | then-a-i-eq-LINE_END w ↦ rw w.line-is
-          (omega arith, omega arith, omega arith, c.loop-i.invariant.3 ∙ line-more c.args.a.now c.args.b.now c.loop-i.line c.loop-i.i in-a in_b c.if-a-i.false w.if-a-i-eq-LINE_END.true)
-      | else-a-i-eq-LINE_END w ↦ rw w.line-is
+      | then-a-i-eq-LINE_END w ↦ rw w.line_is
+          (omega arith, omega arith, omega arith, c.loop-i.invariant.3 ∙ line_more c.args.a.now c.args.b.now c.loop-i.line c.loop-i.i in-a in_b c.if-a-i.false w.if-a-i-eq-LINE_END.true)
+      | else-a-i-eq-LINE_END w ↦ rw w.line_is
           (omega arith, omega arith, omega arith, c.loop-i.invariant.3 ∙ line_same c.args.a.now c.args.b.now c.loop-i.line c.loop-i.i in-a in_b c.if-a-i.false w.if-a-i-eq-LINE_END.false)
     ]
 
@@ -52,5 +52,5 @@ returns-then-a-b c =
 
 pub returns : goal.returns
 returns c =
-    one-ends c.args.a.now c.args.b.now c.loop-i.line c.loop-i.i c.loop-i.invariant.0 c.loop-i.invariant.1 (not_both _ _ _ c.loop-i-test.false) c.if-a-b.false
+    one_ends c.args.a.now c.args.b.now c.loop-i.line c.loop-i.i c.loop-i.invariant.0 c.loop-i.invariant.1 (not_both _ _ _ c.loop-i-test.false) c.if-a-b.false
     ∙ sym c.loop-i.invariant.3

@@ -7,7 +7,7 @@ use mathlib.Core.Logic.{⊎_elim}
 use lib.ListN.{length, drop}
 use borrow.Author.Rules.{rules}
 use Rattle.loader.specs.Difference.{difference}
-use Rattle.loader.proofs.comparing.DifferenceLoop.{in_both, not_both, differs-here, line-more, line_same, both_end, one-ends}
+use Rattle.loader.proofs.comparing.DifferenceLoop.{in_both, not_both, differs_here, line_more, line_same, both_end, one_ends}
 use Rattle.loader.proofs.comparing.first_difference.Given as goal
 
 abbrev pub invariant-loop-i : goal.invariant-loop-i

@@ -3,7 +3,7 @@
 use lib.ListN.{length}
 use borrow.Author.Rules.{rules}
 use Rattle.wellformed.proofs.WellFormedLaws.{row_room}
-use Rattle.loader.proofs.faults.FaultSteps.{worst-first, rows_then}
+use Rattle.loader.proofs.faults.FaultSteps.{worst_first, rows_then}
 use Rattle.loader.proofs.faults.rank_fault.Goals as goal
 
 pub rank_cell-rank-requires : goal.rank_cell-rank-requires
@@ -12,7 +12,7 @@ rank_cell-rank-requires c =
 
 pub returns-then-rank-worst : goal.returns-then-rank-worst
 returns-then-rank-worst c =
-    worst-first c.args.cells.now c.args.shape c.args.worst _ c.rank_cell-rank.ensures c.if-rank-worst.true
+    worst_first c.args.cells.now c.args.shape c.args.worst _ c.rank_cell-rank.ensures c.if-rank-worst.true
 
 pub returns : goal.returns
 returns c =

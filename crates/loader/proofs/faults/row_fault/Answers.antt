@@ -1,12 +1,12 @@
 use Prim.Native.Nat.{◌-◌, ◌≤◌}
 use native.Mathlib.Omega.{arith}
 use borrow.Author.Rules.{rules}
-use Rattle.loader.proofs.faults.FaultSteps.{RightTo, right-none, right-more, row-found, rows_right}
+use Rattle.loader.proofs.faults.FaultSteps.{RightTo, right_none, right_more, row_found, rows_right}
 use Rattle.loader.proofs.faults.row_fault.Goals as goal
 
 pub loop-row-init : goal.loop-row-init
 loop-row-init c =
-    (omega arith, right-none c.args.cells.now c.args.shape)
+    (omega arith, right_none c.args.cells.now c.args.shape)
 
 pub is_ranked-requires : goal.is_ranked-requires
 is_ranked-requires c =
@@ -18,11 +18,11 @@ overflow_add-result c =
 
 pub returns-then-not-is_ranked : goal.returns-then-not-is_ranked
 returns-then-not-is_ranked c =
-    row-found c.args.cells.now c.args.shape c.loop-row.row c.loop-row.invariant.1 _ c.is_ranked.ensures c.loop-row-test.true c.if-not-is_ranked.true-raw
+    row_found c.args.cells.now c.args.shape c.loop-row.row c.loop-row.invariant.1 _ c.is_ranked.ensures c.loop-row-test.true c.if-not-is_ranked.true-raw
 
 pub loop-row-preserved : goal.loop-row-preserved
 loop-row-preserved c =
-    (omega (arith, c.loop-row-test.true), right-more c.args.cells.now c.args.shape c.loop-row.row c.loop-row.invariant.1 _ c.is_ranked.ensures c.if-not-is_ranked.false-raw)
+    (omega (arith, c.loop-row-test.true), right_more c.args.cells.now c.args.shape c.loop-row.row c.loop-row.invariant.1 _ c.is_ranked.ensures c.if-not-is_ranked.false-raw)
 
 pub returns : goal.returns
 returns c =

@@ -3,7 +3,7 @@
 use Prim.Native.Nat.{◌-◌, ◌≤◌}
 use native.Mathlib.Omega.{arith}
 use borrow.Author.Rules.{rules}
-use Rattle.loader.proofs.faults.FaultSteps.{RightTo, right-none, right-more, row-found, rows_right}
+use Rattle.loader.proofs.faults.FaultSteps.{RightTo, right_none, right_more, row_found, rows_right}
 use Rattle.loader.proofs.faults.row_fault.Given as goal
 
 abbrev pub invariant-loop-row : goal.invariant-loop-row

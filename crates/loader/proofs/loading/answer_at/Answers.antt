@@ -1,13 +1,13 @@
 -- `loader::loading::answer_at` meets its contract.
 -- Assumes nothing.
 use native.Mathlib.Omega.{arith}
-use Rattle.loader.proofs.LoadedAsLaws.{answer-bad, answer-good}
+use Rattle.loader.proofs.LoadedAsLaws.{answer_bad, answer_good}
 use Rattle.loader.proofs.loading.answer_at.Goals as goal
 
 pub returns-then-place-gt0 : goal.returns-then-place-gt0
 returns-then-place-gt0 c =
-    answer-bad c.args.place c.args.shape c.args.worst (omega (arith, c.if-place-gt0.true))
+    answer_bad c.args.place c.args.shape c.args.worst (omega (arith, c.if-place-gt0.true))
 
 pub returns : goal.returns
 returns c =
-    answer-good c.args.place c.args.shape c.args.worst (omega (arith, c.if-place-gt0.false))
+    answer_good c.args.place c.args.shape c.args.worst (omega (arith, c.if-place-gt0.false))

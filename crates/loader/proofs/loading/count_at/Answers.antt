@@ -1,12 +1,12 @@
 -- `loader::loading::count_at` meets its contract.
 -- Assumes nothing.
 use native.Mathlib.Omega.{arith}
-use Rattle.loader.proofs.LoadedAsLaws.{count_none, count-all}
+use Rattle.loader.proofs.LoadedAsLaws.{count_none, count_all}
 use Rattle.loader.proofs.loading.count_at.Goals as goal
 
 pub returns-then-place-eq0 : goal.returns-then-place-eq0
 returns-then-place-eq0 c =
-    count-all c.args.place c.args.n c.if-place-eq0.true
+    count_all c.args.place c.args.n c.if-place-eq0.true
 
 pub returns : goal.returns
 returns c =

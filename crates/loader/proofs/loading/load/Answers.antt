@@ -4,7 +4,7 @@ use native.Mathlib.Omega.{arith}
 use lib.ListN.{replicate, length-take}
 use borrow.Author.Rules.{rules}
 use Rattle.play.specs.Cells.{table_size}
-use Rattle.loader.proofs.LoadedAsLaws.{load_short, taken-long, cells_ask, size_few, cells_in_lem, cells-long, fault_asks, count_le, load_done}
+use Rattle.loader.proofs.LoadedAsLaws.{load_short, taken_long, cells_ask, size_few, cells_in_lem, cells_long, fault_asks, count_le, load_done}
 use Rattle.loader.proofs.loading.load.Goals as goal
 
 pub returns-then-table-lt-TABLE_SIZE : goal.returns-then-table-lt-TABLE_SIZE
@@ -27,7 +27,7 @@ slice_bounds-cells-end c =
 
 pub slice_bounds-fault_in-end : goal.slice_bounds-fault_in-end
 slice_bounds-fault_in-end c =
-    cells-long c.args.text.now c.shape_in-shape.ensures (replicate table_size 0) c.put_rows.ensures c.row_size.ensures
+    cells_long c.args.text.now c.shape_in-shape.ensures (replicate table_size 0) c.put_rows.ensures c.row_size.ensures
 
 pub fault_in-place-requires : goal.fault_in-place-requires
 fault_in-place-requires c =
@@ -45,7 +45,7 @@ slice_bounds-copy-end c =
     let inside = cells_in_lem c.args.text.now c.shape_in-shape.ensures (replicate table_size 0) c.put_rows.ensures c.row_size.ensures in
     let count = count_le c.args.text.now c.shape_in-shape.ensures (replicate table_size 0) c.put_rows.ensures c.row_size.ensures
     c.fault_in-place.result c.count_at-n.ensures in
-    taken-long _ _ (omega (arith, inside, count))
+    taken_long _ _ (omega (arith, inside, count))
 
 pub copy-requires : goal.copy-requires
 copy-requires c =

@@ -3,7 +3,7 @@
 use native.Mathlib.Omega.{arith}
 use borrow.Author.Rules.{rules}
 use Rattle.obligations.specs.Letters.{counts}
-use Rattle.obligations.proofs.LettersLaws.{shl_pos, letter_code, letter-fits}
+use Rattle.obligations.proofs.LettersLaws.{shl_pos, letter_code, letter_fits}
 use Rattle.obligations.proofs.letters.letter_of.Goals as goal
 
 pub overflow_sub-out : goal.overflow_sub-out
@@ -17,7 +17,7 @@ overflow_sub-see c =
 pub overflow_cast-result : goal.overflow_cast-result
 overflow_cast-result c =
     let k = counts c.args.outputs c.args.observed c.args.hidden in
-    record { fits = letter-fits k c.requires.outputs_le_kind_limit c.requires.observed_le_kind_limit c.requires.hidden_le_kind_limit c.args.i c.requires.i_bound }
+    record { fits = letter_fits k c.requires.outputs_le_kind_limit c.requires.observed_le_kind_limit c.requires.hidden_le_kind_limit c.args.i c.requires.i_bound }
 
 pub returns : goal.returns
 returns c =

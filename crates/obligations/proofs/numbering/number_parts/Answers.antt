@@ -5,18 +5,18 @@ use mathlib.Core.Logic.{⊎_elim}
 use lib.ListN.{length, length-set}
 use borrow.Author.Rules.{rules}
 use Rattle.formula.specs.Codes.{parts_in}
-use Rattle.obligations.proofs.NumberedParts.{Numbered, numbered-none, numbered_miss, numbered-room, numbered_hit, numbers-all, spots-all}
+use Rattle.obligations.proofs.NumberedParts.{Numbered, numbered_none, numbered_miss, numbered_room, numbered_hit, numbers_all, spots_all}
 use Rattle.obligations.proofs.numbering.number_parts.Goals as goal
 use Rattle.obligations.proofs.numbering.number_parts.Goals.{else-is_temporal_at, then-is_temporal_at}
 
 pub loop-i-init : goal.loop-i-init
 loop-i-init c =
-    (omega arith, omega arith, refl, refl, numbered-none _ _ _)
+    (omega arith, omega arith, refl, refl, numbered_none _ _ _)
 
 pub bounds-spots-k : goal.bounds-spots-k
 bounds-spots-k c =
     let h : c.loop-i.i < length c.args.parts.now = omega arith in
-    let more : c.loop-i.k < length c.args.spots.now = numbered-room _ c.args.numbers.now _ c.loop-i.invariant.4 c.requires.parts_in_bounds h c.requires.parts_in_bounds_2 c.is_temporal_at.result c.is_temporal_at.ensures c.if-is_temporal_at.true in
+    let more : c.loop-i.k < length c.args.spots.now = numbered_room _ c.args.numbers.now _ c.loop-i.invariant.4 c.requires.parts_in_bounds h c.requires.parts_in_bounds_2 c.is_temporal_at.result c.is_temporal_at.ensures c.if-is_temporal_at.true in
     omega arith
 
 pub loop-i-preserved : goal.loop-i-preserved
@@ -42,4 +42,4 @@ loop-i-preserved c =
 pub returns : goal.returns
 returns c =
     let e : c.loop-i.i ≡ length c.args.parts.now = omega arith in
-    record { numbers_after = numbers-all _ _ _ c.loop-i.invariant.4 e; spots_after = spots-all _ _ _ c.loop-i.invariant.4 e }
+    record { numbers_after = numbers_all _ _ _ c.loop-i.invariant.4 e; spots_after = spots_all _ _ _ c.loop-i.invariant.4 e }

@@ -7,7 +7,7 @@ use mathlib.Core.Logic.{⊎_elim}
 use lib.ListN.{length, length-set}
 use borrow.Author.Rules.{rules}
 use Rattle.formula.specs.Codes.{parts_in}
-use Rattle.obligations.proofs.NumberedParts.{Numbered, numbered-none, numbered_miss, numbered-room, numbered_hit, numbers-all, spots-all}
+use Rattle.obligations.proofs.NumberedParts.{Numbered, numbered_none, numbered_miss, numbered_room, numbered_hit, numbers_all, spots_all}
 use Rattle.obligations.proofs.numbering.number_parts.Given as goal
 
 abbrev pub invariant-loop-i : goal.invariant-loop-i

@@ -6,7 +6,7 @@ use mathlib.Core.Path.{◌≡◌}
 use lib.ListN.{length, length-set}
 use borrow.Author.Rules.{rules}
 use Rattle.obligations.specs.Values.{block_size}
-use Rattle.obligations.proofs.ValuesLaws.{part_to, part-more, part-done}
+use Rattle.obligations.proofs.ValuesLaws.{part_to, part_more, part_done}
 use Rattle.obligations.proofs.values.put_part.Given as goal
 
 abbrev pub invariant-loop-x : goal.invariant-loop-x

@@ -5,7 +5,7 @@ use mathlib.Core.List.{flat_map}
 use lib.ListN.{length}
 use borrow.Author.Rules.{rules}
 use Rattle.printer.specs.Text.{row_text, rows_text}
-use Rattle.basics.proofs.Stores.{Put, put-none, put_same}
+use Rattle.basics.proofs.Stores.{Put, put_none, put_same}
 use Rattle.basics.proofs.TextLaws.{turn}
 use Rattle.wellformed.proofs.WellFormedLaws.{row_room}
 use Rattle.printer.proofs.writing.put_rows.Goals as goal
@@ -13,7 +13,7 @@ use Rattle.printer.proofs.writing.put_rows.Goals as goal
 pub loop-row-init : goal.loop-row-init
 unfolding flat_map
 loop-row-init c =
-    (omega arith, refl, put-none c.args.at c.args.text.now)
+    (omega arith, refl, put_none c.args.at c.args.text.now)
 
 pub put_row-end-requires : goal.put_row-end-requires
 put_row-end-requires c =

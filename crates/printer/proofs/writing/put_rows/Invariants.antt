@@ -7,7 +7,7 @@ use mathlib.Core.List.{flat_map}
 use lib.ListN.{length}
 use borrow.Author.Rules.{rules}
 use Rattle.printer.specs.Text.{row_text, rows_text}
-use Rattle.basics.proofs.Stores.{Put, put-none, put_same}
+use Rattle.basics.proofs.Stores.{Put, put_none, put_same}
 use Rattle.basics.proofs.TextLaws.{turn}
 use Rattle.wellformed.proofs.WellFormedLaws.{row_room}
 use Rattle.printer.proofs.writing.put_rows.Given as goal

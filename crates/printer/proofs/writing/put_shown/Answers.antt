@@ -6,8 +6,8 @@ use lib.ListN.{length}
 use borrow.Author.Rules.{rules}
 use Rattle.basics.specs.Lists.{tabulate}
 use Rattle.basics.specs.Text.{field}
-use Rattle.basics.proofs.Stores.{Put, put-none}
-use Rattle.printer.proofs.TextLaws.{run, from_in, shown_in, shown-turn, shown-put}
+use Rattle.basics.proofs.Stores.{Put, put_none}
+use Rattle.printer.proofs.TextLaws.{run, from_in, shown_in, shown_turn, shown_put}
 use Rattle.printer.proofs.writing.put_shown.Goals as goal
 
 pub overflow_mul-from : goal.overflow_mul-from
@@ -21,7 +21,7 @@ overflow_add-from c =
 pub loop-i-init : goal.loop-i-init
 unfolding flat_map
 loop-i-init c =
-    (omega arith, refl, put-none c.args.at c.args.text.now)
+    (omega arith, refl, put_none c.args.at c.args.text.now)
 
 pub overflow_add-from-in-loop-i : goal.overflow_add-from-in-loop-i
 overflow_add-from-in-loop-i c =
@@ -47,17 +47,17 @@ overflow_cast-table c =
 
 pub put_field-end-requires : goal.put_field-end-requires
 put_field-end-requires c =
-    (shown-turn c.args.order c.args.table.now c.args.row _ _ c.row_size.ensures c.shown_from.ensures c.args.n _
+    (shown_turn c.args.order c.args.table.now c.args.row _ _ c.row_size.ensures c.shown_from.ensures c.args.n _
     c.shown_count-count.ensures c.args.at c.args.text.now c.requires.n_in_bounds c.loop-i.i c.loop-i-test.true c.loop-i.invariant.2).room
 
 pub loop-i-preserved : goal.loop-i-preserved
 loop-i-preserved c =
-    let r = shown-turn c.args.order c.args.table.now c.args.row _ _ c.row_size.ensures c.shown_from.ensures c.args.n _
+    let r = shown_turn c.args.order c.args.table.now c.args.row _ _ c.row_size.ensures c.shown_from.ensures c.args.n _
     c.shown_count-count.ensures c.args.at c.args.text.now c.requires.n_in_bounds c.loop-i.i c.loop-i-test.true c.loop-i.invariant.2 in
     (omega arith, c.put_field-end.auto.text ∙ c.loop-i.invariant.1, r.puts _ _ (c.put_field-end.ensures.value, c.put_field-end.ensures.text_after))
 
 pub returns : goal.returns
 returns c =
-    let whole = shown-put c.args.order c.args.table.now c.args.row _ _ c.row_size.ensures c.shown_from.ensures c.args.n _
+    let whole = shown_put c.args.order c.args.table.now c.args.row _ _ c.row_size.ensures c.shown_from.ensures c.args.n _
     c.shown_count-count.ensures c.args.at c.args.text.now c.loop-i.i (omega arith) c.loop-i.invariant.2 in
     record { value = whole.0; text_after = whole.1 }

@@ -8,8 +8,8 @@ use lib.ListN.{length}
 use borrow.Author.Rules.{rules}
 use Rattle.basics.specs.Lists.{tabulate}
 use Rattle.basics.specs.Text.{field}
-use Rattle.basics.proofs.Stores.{Put, put-none}
-use Rattle.printer.proofs.TextLaws.{run, from_in, shown_in, shown-turn, shown-put}
+use Rattle.basics.proofs.Stores.{Put, put_none}
+use Rattle.printer.proofs.TextLaws.{run, from_in, shown_in, shown_turn, shown_put}
 use Rattle.printer.proofs.writing.put_shown.Given as goal
 
 abbrev pub invariant-loop-i : goal.invariant-loop-i

@@ -1,11 +1,11 @@
 -- `records::listing::count_taken` meets its contract, test by test.
 -- Assumes nothing.
-use Rattle.records.proofs.JudgingLaws.{count-short, count_many, count-all}
+use Rattle.records.proofs.JudgingLaws.{count_short, count_many, count_all}
 use Rattle.records.proofs.listing.count_taken.Goals as goal
 
 pub returns-then-room-s : goal.returns-then-room-s
 returns-then-room-s c =
-    count-short c.args.room c.args.s c.if-room-s.true
+    count_short c.args.room c.args.s c.if-room-s.true
 
 pub returns-then-s-gt-PART_LIMIT : goal.returns-then-s-gt-PART_LIMIT
 returns-then-s-gt-PART_LIMIT c =
@@ -13,4 +13,4 @@ returns-then-s-gt-PART_LIMIT c =
 
 pub returns : goal.returns
 returns c =
-    count-all c.args.room c.args.s c.if-room-s.false c.if-s-gt-PART_LIMIT.false
+    count_all c.args.room c.args.s c.if-room-s.false c.if-s-gt-PART_LIMIT.false

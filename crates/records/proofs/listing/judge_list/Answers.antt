@@ -13,7 +13,7 @@ use Rattle.rules.specs.Trace.{counts_of}
 use Rattle.records.specs.declared.listing.PartList.{PartList}
 use Rattle.records.specs.contracts.listing.PartList as L
 use Rattle.records.proofs.listing.PartList.TheLaws as L'
-use Rattle.records.proofs.JudgingLaws.{few_iff, short-is, signals-is, many_is, none_is, value-is}
+use Rattle.records.proofs.JudgingLaws.{few_iff, short_is, signals_is, many_is, none_is, value_is}
 use borrow.Author.Rules.{rules}
 use Rattle.records.proofs.listing.judge_list.Goals as goal
 
@@ -23,11 +23,11 @@ codes-long l g = sym (length-map l.codes (λ (v : ℕ). v)) ∙ (LL.owed L.the_t
 
 pub returns-then-room-n : goal.returns-then-room-n
 returns-then-room-n c =
-    sym (short-is c.args.room c.args.s _ c.args.trace.now c.if-room-n.true)
+    sym (short_is c.args.room c.args.s _ c.args.trace.now c.if-room-n.true)
 
 pub returns-then-not-few_signals : goal.returns-then-not-few_signals
 returns-then-not-few_signals c =
-    sym (signals-is c.args.room c.args.s _ c.args.trace.now c.if-room-n.false
+    sym (signals_is c.args.room c.args.s _ c.args.trace.now c.if-room-n.false
     (sym c.few_signals.ensures ∙ not-true c.few_signals.result c.if-not-few_signals.true-raw))
 
 pub returns-then-n-gt-PART_LIMIT : goal.returns-then-n-gt-PART_LIMIT
@@ -58,5 +58,5 @@ judge_trace-requires c =
 
 pub returns : goal.returns
 returns c =
-    c.judge_trace.ensures ∙ sym (value-is c.args.room c.args.s _ c.args.trace.now c.if-room-n.false
+    c.judge_trace.ensures ∙ sym (value_is c.args.room c.args.s _ c.args.trace.now c.if-room-n.false
     (sym c.few_signals.ensures ∙ not-false c.few_signals.result c.if-not-few_signals.false-raw) c.if-n-gt-PART_LIMIT.false c.if-n-eq0.false)

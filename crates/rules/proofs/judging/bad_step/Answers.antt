@@ -5,14 +5,14 @@ use mathlib.Core.Path.{◌≡◌, sym, ap, ◌∙◌}
 use lib.ListN.{length, drop}
 use borrow.Author.Tests.{not-true, not-false}
 use Rattle.rules.specs.Trace.{counts_of, bad_step, step_number}
-use Rattle.rules.proofs.TraceLaws.{bad-end, bad_more, bad-here}
+use Rattle.rules.proofs.TraceLaws.{bad_end, bad_more, bad_here}
 use Rattle.rules.proofs.judging.bad_step.Goals as goal
 
 pub returns-then-not-is_letter : goal.returns-then-not-is_letter
 returns-then-not-is_letter c =
     let h : c.loop-i.i < length c.args.trace.now = omega arith in
     sym
-    (ap step_number (c.loop-i.invariant.1 ∙ bad-here (counts_of c.args.s) c.args.trace.now c.loop-i.i h c.is_letter.result c.is_letter.ensures (not-true c.is_letter.result c.if-not-is_letter.true-raw)))
+    (ap step_number (c.loop-i.invariant.1 ∙ bad_here (counts_of c.args.s) c.args.trace.now c.loop-i.i h c.is_letter.result c.is_letter.ensures (not-true c.is_letter.result c.if-not-is_letter.true-raw)))
 
 pub loop-i-preserved : goal.loop-i-preserved
 loop-i-preserved c =
@@ -21,4 +21,4 @@ loop-i-preserved c =
 
 pub returns : goal.returns
 returns c =
-    sym (ap step_number (c.loop-i.invariant.1 ∙ bad-end (counts_of c.args.s) c.args.trace.now c.loop-i.i (omega arith)))
+    sym (ap step_number (c.loop-i.invariant.1 ∙ bad_end (counts_of c.args.s) c.args.trace.now c.loop-i.i (omega arith)))

@@ -7,7 +7,7 @@ use mathlib.Core.Path.{◌≡◌, sym, ap, ◌∙◌}
 use lib.ListN.{length, drop}
 use borrow.Author.Tests.{not-true, not-false}
 use Rattle.rules.specs.Trace.{counts_of, bad_step, step_number}
-use Rattle.rules.proofs.TraceLaws.{bad-end, bad_more, bad-here}
+use Rattle.rules.proofs.TraceLaws.{bad_end, bad_more, bad_here}
 use Rattle.rules.proofs.judging.bad_step.Given as goal
 
 abbrev pub invariant-loop-i : goal.invariant-loop-i

@@ -1,9 +1,9 @@
 -- `rules::judging::is_letter` meets its contract, field by field.
 -- Assumes nothing.
 use borrow.Author.Rules.{rules}
-use Rattle.rules.proofs.TraceLaws.{letter-test}
+use Rattle.rules.proofs.TraceLaws.{letter_test}
 use Rattle.rules.proofs.judging.is_letter.Goals as goal
 
 pub returns : goal.returns
 returns c =
-    letter-test _ _ c.requires.0 c.requires.1 c.requires.2
+    letter_test _ _ c.requires.0 c.requires.1 c.requires.2

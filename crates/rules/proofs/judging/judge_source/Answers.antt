@@ -4,13 +4,13 @@ use borrow.Author.Rules.{rules}
 use native.Mathlib.Omega.{arith}
 use mathlib.Core.Path.{sym}
 use Rattle.rules.specs.Problem.{read_problem}
-use Rattle.rules.proofs.JudgeLaws.{refused_source, taken, taken_length, some-parts, few-parts, few-signals, judged_source}
+use Rattle.rules.proofs.JudgeLaws.{refused_source, taken, taken_length, some_parts, few_parts, few_signals, judged_source}
 use Rattle.rules.proofs.judging.judge_source.Goals as goal
 
 pub slice_bounds-parts-end : goal.slice_bounds-parts-end
 slice_bounds-parts-end c =
     let t = taken c.args.source.now _ _ c.read.ensures.value c.in-Accepted.is _ c.read.ensures.parts_after in
-    omega (arith, few-parts t, c.read.auto.parts)
+    omega (arith, few_parts t, c.read.auto.parts)
 
 pub slice_bounds-judge_trace-end : goal.slice_bounds-judge_trace-end
 slice_bounds-judge_trace-end c =
@@ -19,7 +19,7 @@ slice_bounds-judge_trace-end c =
 pub judge_trace-requires : goal.judge_trace-requires
 judge_trace-requires c =
     let t = taken c.args.source.now _ _ c.read.ensures.value c.in-Accepted.is _ c.read.ensures.parts_after in
-    record { parts_nonzero = (some-parts t, omega (arith, taken_length t, few-parts t)); outputs_le_kind_limit = few-signals t }
+    record { parts_nonzero = (some_parts t, omega (arith, taken_length t, few_parts t)); outputs_le_kind_limit = few_signals t }
 
 pub returns-in-Refused : goal.returns-in-Refused
 returns-in-Refused c =

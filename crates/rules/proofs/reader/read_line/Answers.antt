@@ -5,7 +5,7 @@ use native.Mathlib.Omega.{arith}
 use mathlib.Core.Path.{sym}
 use lib.Seq.{length-take-le}
 use Rattle.basics.specs.Bytes.{between}
-use Rattle.lines.proofs.LineFields.{tab_in, tab-below, no_tab, declare_word, rule-word, order-word, unknown_word}
+use Rattle.lines.proofs.LineFields.{tab_in, tab_below, no_tab, declare_word, rule_word, order_word_lem, unknown_word}
 use Rattle.rules.proofs.reader.read_line.Goals as goal
 
 pub returns-then-tab-bytes : goal.returns-then-tab-bytes
@@ -37,30 +37,30 @@ slice_bounds-word_of-end c =
 pub declare-requires : goal.declare-requires
 declare-requires c =
     let i = tab_in c.args.source.now c.args.at c.args.end _ c.past-tab.ensures c.requires.at_le_end.0 c.requires.at_le_end.1 in
-    record { start_le_end = (omega (arith, i, c.if-tab-bytes.false), c.requires.at_le_end.1); spans = c.requires.kept.spans_in; outputs_le_kind_limit = (c.requires.kept.outputs-few, c.requires.kept.observed-few, c.requires.kept.hidden-few) }
+    record { start_le_end = (omega (arith, i, c.if-tab-bytes.false), c.requires.at_le_end.1); spans = c.requires.kept.spans_in; outputs_le_kind_limit = (c.requires.kept.outputs_few, c.requires.kept.observed_few, c.requires.kept.hidden_few) }
 
 pub returns-in-Declare : goal.returns-in-Declare
 returns-in-Declare c =
-    let below = tab-below c.args.source.now c.args.at c.args.end _ c.past-tab.ensures c.if-tab-bytes.false in
+    let below = tab_below c.args.source.now c.args.at c.args.end _ c.past-tab.ensures c.if-tab-bytes.false in
     declare_word c.args.source.now c.args.at c.args.end c.args.line c.args.s c.args.spans.now c.args.parts.now
     _ c.past-tab.ensures below _ c.word_of.ensures c.requires.at_le_end.0 c.requires.at_le_end.1 _ c.in-Declare.is c.declare.ensures.value c.declare.ensures.spans_after
 
 pub returns-in-Rule : goal.returns-in-Rule
 returns-in-Rule c =
-    let below = tab-below c.args.source.now c.args.at c.args.end _ c.past-tab.ensures c.if-tab-bytes.false in
-    rule-word c.args.source.now c.args.at c.args.end c.args.line c.args.s c.args.spans.now c.args.parts.now
+    let below = tab_below c.args.source.now c.args.at c.args.end _ c.past-tab.ensures c.if-tab-bytes.false in
+    rule_word c.args.source.now c.args.at c.args.end c.args.line c.args.s c.args.spans.now c.args.parts.now
     _ c.past-tab.ensures below _ c.word_of.ensures c.requires.at_le_end.0 c.requires.at_le_end.1
     c.in-Rule.is c.add_formula.ensures.value c.add_formula.ensures.parts_after
 
 pub returns-in-Order : goal.returns-in-Order
 returns-in-Order c =
-    let below = tab-below c.args.source.now c.args.at c.args.end _ c.past-tab.ensures c.if-tab-bytes.false in
-    order-word c.args.source.now c.args.at c.args.end c.args.line c.args.s c.args.spans.now c.args.parts.now
+    let below = tab_below c.args.source.now c.args.at c.args.end _ c.past-tab.ensures c.if-tab-bytes.false in
+    order_word_lem c.args.source.now c.args.at c.args.end c.args.line c.args.s c.args.spans.now c.args.parts.now
     _ c.past-tab.ensures below _ c.word_of.ensures c.requires.at_le_end.0 c.requires.at_le_end.1
     c.in-Order.is c.add_order.ensures
 
 pub returns-in-Unknown : goal.returns-in-Unknown
 returns-in-Unknown c =
-    let below = tab-below c.args.source.now c.args.at c.args.end _ c.past-tab.ensures c.if-tab-bytes.false in
+    let below = tab_below c.args.source.now c.args.at c.args.end _ c.past-tab.ensures c.if-tab-bytes.false in
     unknown_word c.args.source.now c.args.at c.args.end c.args.line c.args.s c.args.spans.now c.args.parts.now
     _ c.past-tab.ensures below _ c.word_of.ensures c.in-Unknown.is

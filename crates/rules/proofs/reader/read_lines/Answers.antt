@@ -2,8 +2,8 @@ use borrow.Author.Rules.{rules}
 use Prim.Native.Nat.{◌-◌}
 use native.Mathlib.Omega.{arith}
 use lib.ListN.{length}
-use Rattle.rules.proofs.ReadingLaws.{Going, begin, line_in, unended_line, refused-line, accepted-line, no_formula, some_formula}
-use Rattle.rules.proofs.ReadingLaws.{refused-answer}
+use Rattle.rules.proofs.ReadingLaws.{Going, begin, line_in, unended_line, refused_line, accepted_line, no_formula, some_formula}
+use Rattle.rules.proofs.ReadingLaws.{refused_answer}
 use Rattle.rules.proofs.reader.read_lines.Goals as goal
 
 pub loop-at-init : goal.loop-at-init
@@ -12,7 +12,7 @@ loop-at-init c =
 
 pub returns-then-end-source : goal.returns-then-end-source
 returns-then-end-source c =
-    let whole = refused-answer _ _ _ _ (unended_line c.loop-at.invariant c.past-end.ensures (omega arith) c.if-end-source.true) in
+    let whole = refused_answer _ _ _ _ (unended_line c.loop-at.invariant c.past-end.ensures (omega arith) c.if-end-source.true) in
     record { value = whole.0; parts_read = whole.1 }
 
 pub read_line-requires : goal.read_line-requires
@@ -22,8 +22,8 @@ read_line-requires c =
 pub returns-in-Refused : goal.returns-in-Refused
 returns-in-Refused c =
     let i = line_in c.loop-at.invariant c.past-end.ensures (omega arith) in
-    let whole = refused-answer _ _ _ _
-    (refused-line c.loop-at.invariant c.past-end.ensures (omega arith) (omega (arith, i, c.if-end-source.false))
+    let whole = refused_answer _ _ _ _
+    (refused_line c.loop-at.invariant c.past-end.ensures (omega arith) (omega (arith, i, c.if-end-source.false))
     c.read_line.ensures _ c.in-Refused.is) in
     record { value = whole.0; parts_read = whole.1 }
 
@@ -38,12 +38,12 @@ loop-at-smaller c =
 pub loop-at-preserved : goal.loop-at-preserved
 loop-at-preserved c =
     let i = line_in c.loop-at.invariant c.past-end.ensures (omega arith) in
-    accepted-line c.loop-at.invariant c.past-end.ensures (omega arith) (omega (arith, i, c.if-end-source.false))
+    accepted_line c.loop-at.invariant c.past-end.ensures (omega arith) (omega (arith, i, c.if-end-source.false))
     c.read_line.ensures _ c.in-Accepted.is
 
 pub returns-then-s-eq0 : goal.returns-then-s-eq0
 returns-then-s-eq0 c =
-    let whole = refused-answer _ _ _ _ (no_formula c.loop-at.invariant c.loop-at-test.false c.if-s-eq0.true) in
+    let whole = refused_answer _ _ _ _ (no_formula c.loop-at.invariant c.loop-at-test.false c.if-s-eq0.true) in
     record { value = whole.0; parts_read = whole.1 }
 
 pub returns : goal.returns

@@ -5,13 +5,13 @@ use mathlib.Core.Logic.{⊎_elim}
 use lib.ListN.{length}
 use borrow.Author.Rules.{rules}
 use Rattle.search.proofs.StepsFromItem.{adding_all}
-use Rattle.search.proofs.searching.ExpandLoop.{place-small, Kept, kept-none, put_set_asked, kept_copy, kept-old, kept_new, kept-over}
+use Rattle.search.proofs.searching.ExpandLoop.{place_small, Kept, kept_none, put_set_asked, kept_copy, kept_old, kept_new, kept_over}
 use Rattle.search.proofs.searching.expand.Goals as goal
 use Rattle.search.proofs.searching.expand.Goals.{then-b-a, else-b-a, then-t-m+else-m-eq-STATE_LIMIT, else-t-m}
 
 pub loop-a-init : goal.loop-a-init
 loop-a-init c =
-    kept-none _ _ _ _ _ _ _ _ c.requires.d_le_operator_limit c.requires.maps_len c.requires.row_len_bound c.requires.maps c.requires.i_lt_n c.requires.n_le_state_limit c.requires.mem_len c.requires.holds c.put_spread.ensures
+    kept_none _ _ _ _ _ _ _ _ c.requires.d_le_operator_limit c.requires.maps_len c.requires.row_len_bound c.requires.maps c.requires.i_lt_n c.requires.n_le_state_limit c.requires.mem_len c.requires.holds c.put_spread.ensures
 
 pub overflow_cast-b : goal.overflow_cast-b
 overflow_cast-b c =
@@ -24,7 +24,7 @@ put_set-t-requires c =
 
 pub returns-then-m-eq-STATE_LIMIT : goal.returns-then-m-eq-STATE_LIMIT
 returns-then-m-eq-STATE_LIMIT c =
-    let whole = kept-over _ _ _ _ _ _ _ _ _ _ c.loop-a.mem c.loop-a.row c.loop-a.invariant c.loop-a-test.true c.if-b-a.false _ _
+    let whole = kept_over _ _ _ _ _ _ _ _ _ _ c.loop-a.mem c.loop-a.row c.loop-a.invariant c.loop-a-test.true c.if-b-a.false _ _
     c.put_set-t.ensures.mem_after c.put_set-t.ensures.value c.if-t-m.true c.if-m-eq-STATE_LIMIT.true _ _ in
     record { value = whole.0; expanded = whole.1 }
 
@@ -32,7 +32,7 @@ pub overflow_cast-row : goal.overflow_cast-row
 overflow_cast-row c =
     omega (
       arith,
-      place-small _ _ _ c.put_set-t.ensures.value
+      place_small _ _ _ c.put_set-t.ensures.value
           c.loop-a.invariant.0.1,
     )
 
@@ -45,7 +45,7 @@ loop-a-preserved c =
         | then-t-m+else-m-eq-STATE_LIMIT v ↦ kept_new _ _ _ _ _ _ _ _ _ _ c.loop-a.mem c.loop-a.row c.loop-a.invariant c.loop-a-test.true
             w.if-b-a.false _ _ w.put_set-t.ensures.mem_after w.put_set-t.ensures.value v.if-t-m.true v.if-m-eq-STATE_LIMIT.false _ _ _
             w.mem-is w.row-is (w.m-is ∙ v.m-is)
-        | else-t-m v ↦ kept-old _ _ _ _ _ _ _ _ _ _ c.loop-a.mem c.loop-a.row c.loop-a.invariant c.loop-a-test.true w.if-b-a.false _ _
+        | else-t-m v ↦ kept_old _ _ _ _ _ _ _ _ _ _ c.loop-a.mem c.loop-a.row c.loop-a.invariant c.loop-a-test.true w.if-b-a.false _ _
             w.put_set-t.ensures.mem_after w.put_set-t.ensures.value v.if-t-m.false _ _ _ w.mem-is w.row-is (w.m-is ∙ v.m-is)
       ]
     ]

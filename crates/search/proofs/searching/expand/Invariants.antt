@@ -8,7 +8,7 @@ use mathlib.Core.Logic.{⊎_elim}
 use lib.ListN.{length}
 use borrow.Author.Rules.{rules}
 use Rattle.search.proofs.StepsFromItem.{adding_all}
-use Rattle.search.proofs.searching.ExpandLoop.{place-small, Kept, kept-none, put_set_asked, kept_copy, kept-old, kept_new, kept-over}
+use Rattle.search.proofs.searching.ExpandLoop.{place_small, Kept, kept_none, put_set_asked, kept_copy, kept_old, kept_new, kept_over}
 use Rattle.search.proofs.searching.expand.Given as goal
 
 abbrev pub invariant-loop-a : goal.invariant-loop-a

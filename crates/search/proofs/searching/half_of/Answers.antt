@@ -2,7 +2,7 @@
 -- Assumes nothing.
 use borrow.Author.Rules.{rules}
 use Rattle.search.proofs.HalfSets.{half_one, half_shift}
-use Rattle.search.proofs.LimitsLaws.{operators-shift}
+use Rattle.search.proofs.LimitsLaws.{operators_shift}
 use Rattle.search.proofs.searching.half_of.Goals as goal
 
 pub returns-then-d-lt3 : goal.returns-then-d-lt3
@@ -11,4 +11,4 @@ returns-then-d-lt3 c =
 
 pub returns-else-d-lt3 : goal.returns-else-d-lt3
 returns-else-d-lt3 c =
-    half_shift _ (operators-shift _ c.requires)
+    half_shift _ (operators_shift _ c.requires)

@@ -5,8 +5,8 @@ use borrow.Author.Rules.{rules}
 use Rattle.search.specs.Limits.{state_limit, set_size}
 use Rattle.search.specs.Slots.{with_item}
 use Rattle.search.specs.Memory.{next_bytes}
-use Rattle.search.proofs.SlotsLaws.{item-made}
-use Rattle.search.proofs.searching.NextMade.{entries, put_next_asked, next-made}
+use Rattle.search.proofs.SlotsLaws.{item_made}
+use Rattle.search.proofs.searching.NextMade.{entries, put_next_asked, next_made}
 use Rattle.search.proofs.searching.put_set.Goals as goal
 
 pub put_next-requires : goal.put_next-requires
@@ -19,9 +19,9 @@ put_next-requires c =
 pub returns : goal.returns
 returns c =
     record {
-      mem_after = item-made set_size state_limit c.args.mem.now (λ n. next_bytes n c.args.present.now (entries c.args.maps.now c.args.a) c.half_of-h.result) _ c.args.m
+      mem_after = item_made set_size state_limit c.args.mem.now (λ n. next_bytes n c.args.present.now (entries c.args.maps.now c.args.a) c.half_of-h.result) _ c.args.m
           c.requires.m_le_state_limit c.requires.mem_len c.put_next.ensures
           ∙ ap (with_item set_size c.args.mem.now c.args.m)
-          (next-made _ c.requires.d_le_operator_limit c.args.maps.now c.args.a c.requires.maps_len c.requires.a_lt_letter_limit c.requires.map c.args.mem.now c.args.i c.args.present.now c.requires.present_value c.half_of-h.result c.half_of-h.ensures);
+          (next_made _ c.requires.d_le_operator_limit c.args.maps.now c.args.a c.requires.maps_len c.requires.a_lt_letter_limit c.requires.map c.args.mem.now c.args.i c.args.present.now c.requires.present_value c.half_of-h.result c.half_of-h.ensures);
       value = c.find.ensures;
     }

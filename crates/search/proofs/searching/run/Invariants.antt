@@ -17,7 +17,7 @@ use Rattle.basics.proofs.ListsLaws.{zeros_length}
 use Rattle.search.proofs.PatternSetLaws.{length_start}
 use Rattle.search.proofs.ReachableSetsLaws.{sets_reachable}
 use Rattle.search.proofs.LimitsLaws.{set_packing}
-use Rattle.search.proofs.SearchTurns.{turn-begin, turn_many, turn-whole, turn-answer, turn-left, Turn, turn-row}
+use Rattle.search.proofs.SearchTurns.{turn_begin, turn_many, turn_whole, turn_answer, turn_left, Turn, turn_row}
 use Rattle.search.proofs.searching.run.Given as goal
 
 abbrev pub invariant-loop-i : goal.invariant-loop-i

@@ -5,12 +5,12 @@ use borrow.Author.Rules.{rules}
 use Rattle.basics.specs.Bounded.{first_that}
 use Rattle.search.specs.Slots.{same_slot}
 use Rattle.basics.proofs.EqualRows.{row_ends}
-use Rattle.basics.proofs.BoundedLaws.{first-none, first_more, first_found, first-end}
+use Rattle.basics.proofs.BoundedLaws.{first_none, first_more, first_found, first_end}
 use Rattle.search.proofs.sets.find.Goals as goal
 
 pub loop-i-init : goal.loop-i-init
 loop-i-init c =
-    (omega arith, first-none _)
+    (omega arith, first_none _)
 
 pub same_slot-requires : goal.same_slot-requires
 same_slot-requires c =
@@ -27,4 +27,4 @@ loop-i-preserved c =
 
 pub returns : goal.returns
 returns c =
-    first-end _ c.args.n c.loop-i.i (omega arith) c.loop-i.invariant.1
+    first_end _ c.args.n c.loop-i.i (omega arith) c.loop-i.invariant.1

@@ -7,7 +7,7 @@ use borrow.Author.Rules.{rules}
 use Rattle.basics.specs.Bounded.{first_that}
 use Rattle.search.specs.Slots.{same_slot}
 use Rattle.basics.proofs.EqualRows.{row_ends}
-use Rattle.basics.proofs.BoundedLaws.{first-none, first_more, first_found, first-end}
+use Rattle.basics.proofs.BoundedLaws.{first_none, first_more, first_found, first_end}
 use Rattle.search.proofs.sets.find.Given as goal
 
 abbrev pub invariant-loop-i : goal.invariant-loop-i

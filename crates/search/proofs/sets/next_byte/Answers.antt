@@ -3,13 +3,13 @@ use native.Mathlib.Nat.{le_refl}
 use native.Mathlib.Omega.{arith}
 use mathlib.Core.Path.{◌∙◌, ◌≡◌}
 use borrow.Author.Rules.{rules}
-use Rattle.basics.proofs.BitsLaws.{table_from, byte-none, byte_small, byte_more, byte-done}
-use Rattle.search.proofs.sets.SetLoops.{next_small, next-digit, next-all, next_bit}
+use Rattle.basics.proofs.BitsLaws.{table_from, byte_none, byte_small, byte_more, byte_done}
+use Rattle.search.proofs.sets.SetLoops.{next_small, next_digit, next_all_lem, next_bit}
 use Rattle.search.proofs.sets.next_byte.Goals as goal
 
 pub loop-j-init : goal.loop-j-init
 loop-j-init c =
-    (le_refl 8, byte-none _)
+    (le_refl 8, byte_none _)
 
 pub overflow_mul-n : goal.overflow_mul-n
 overflow_mul-n c =
@@ -35,9 +35,9 @@ pub loop-j-preserved : goal.loop-j-preserved
 loop-j-preserved c = (
   omega arith,
   byte_more _ c.loop-j.n c.loop-j.j _ c.loop-j-test.true c.loop-j.invariant.0 c.loop-j.invariant.1
-      (next-digit _ _ c.args.b (c.loop-j.j - 1) (next_small _ _ c.args.b c.loop-j.j c.requires.each_below c.requires.each_below_2 c.loop-j.invariant.0 c.loop-j-test.true).1),
+      (next_digit _ _ c.args.b (c.loop-j.j - 1) (next_small _ _ c.args.b c.loop-j.j c.requires.each_below c.requires.each_below_2 c.loop-j.invariant.0 c.loop-j-test.true).1),
 )
 
 pub returns : goal.returns
 returns c =
-    byte-done _ c.loop-j.n c.loop-j.j c.loop-j-test.false c.loop-j.invariant.1 ∙ next-all c.args.present.now c.args.entries.now c.args.b
+    byte_done _ c.loop-j.n c.loop-j.j c.loop-j-test.false c.loop-j.invariant.1 ∙ next_all_lem c.args.present.now c.args.entries.now c.args.b

@@ -7,7 +7,7 @@ use borrow.Author.Rules.{rules}
 use Rattle.basics.specs.Lists.{tabulate}
 use Rattle.search.specs.Memory.{next_byte}
 use Rattle.basics.proofs.Filling.{table_more}
-use Rattle.search.proofs.sets.SetLoops.{each_less, next-done}
+use Rattle.search.proofs.sets.SetLoops.{each_less, next_done}
 use Rattle.search.proofs.sets.put_next.Goals as goal
 
 pub next_byte-requires : goal.next_byte-requires
@@ -24,4 +24,4 @@ loop-b-preserved c = (
 pub returns : goal.returns
 returns c =
     c.repeat.ensures
-    ∙ next-done c.args.present.now c.args.entries.now c.args.h c.loop-b.b c.loop-b.place c.args.place.now (omega arith) (omega arith) c.loop-b.invariant.1 c.loop-b.invariant.2
+    ∙ next_done c.args.present.now c.args.entries.now c.args.h c.loop-b.b c.loop-b.place c.args.place.now (omega arith) (omega arith) c.loop-b.invariant.1 c.loop-b.invariant.2

@@ -9,7 +9,7 @@ use borrow.Author.Rules.{rules}
 use Rattle.basics.specs.Lists.{tabulate}
 use Rattle.search.specs.Memory.{next_byte}
 use Rattle.basics.proofs.Filling.{table_more}
-use Rattle.search.proofs.sets.SetLoops.{each_less, next-done}
+use Rattle.search.proofs.sets.SetLoops.{each_less, next_done}
 use Rattle.search.proofs.sets.put_next.Given as goal
 
 abbrev pub invariant-loop-b : goal.invariant-loop-b

@@ -6,16 +6,16 @@ use lib.ListN.{length-set, length, drop}
 use borrow.Author.Rules.{rules}
 use Rattle.basics.specs.Lists.{tabulate}
 use Rattle.basics.proofs.Filling.{table_more}
-use Rattle.search.proofs.sets.SetLoops.{spread-digit, spread-done, spread_at}
+use Rattle.search.proofs.sets.SetLoops.{spread_digit, spread_done, spread_at}
 use Rattle.search.proofs.sets.put_spread.Goals as goal
 
 pub loop-p-preserved : goal.loop-p-preserved
 loop-p-preserved c = (
   omega arith,
   simp length-set c.loop-p.invariant.1,
-  table_more c.loop-p.p _ c.args.present.now c.loop-p.present _ (omega (arith, c.requires)) c.loop-p.invariant.2 (spread-digit c.args.bytes.now c.loop-p.p),
+  table_more c.loop-p.p _ c.args.present.now c.loop-p.present _ (omega (arith, c.requires)) c.loop-p.invariant.2 (spread_digit c.args.bytes.now c.loop-p.p),
 )
 
 pub returns : goal.returns
 returns c =
-    spread-done c.args.bytes.now c.args.present.now c.loop-p.present c.loop-p.p (omega arith) c.requires c.loop-p.invariant.2
+    spread_done c.args.bytes.now c.args.present.now c.loop-p.present c.loop-p.p (omega arith) c.requires c.loop-p.invariant.2

@@ -8,7 +8,7 @@ use lib.ListN.{length-set, length, drop}
 use borrow.Author.Rules.{rules}
 use Rattle.basics.specs.Lists.{tabulate}
 use Rattle.basics.proofs.Filling.{table_more}
-use Rattle.search.proofs.sets.SetLoops.{spread-digit, spread-done, spread_at}
+use Rattle.search.proofs.sets.SetLoops.{spread_digit, spread_done, spread_at}
 use Rattle.search.proofs.sets.put_spread.Given as goal
 
 abbrev pub invariant-loop-p : goal.invariant-loop-p

@@ -7,7 +7,7 @@ use borrow.Author.Rules.{rules}
 use Rattle.basics.specs.Lists.{tabulate}
 use Rattle.search.specs.Memory.{start_byte}
 use Rattle.basics.proofs.Filling.{table_more}
-use Rattle.search.proofs.PackedSets.{start-done}
+use Rattle.search.proofs.PackedSets.{start_done}
 use Rattle.search.proofs.sets.put_start.Goals as goal
 
 pub loop-i-preserved : goal.loop-i-preserved
@@ -19,4 +19,4 @@ loop-i-preserved c = (
 
 pub returns : goal.returns
 returns c =
-    start-done c.args.d c.args.place.now c.loop-i.place c.loop-i.i (omega arith) c.loop-i.invariant.2
+    start_done c.args.d c.args.place.now c.loop-i.place c.loop-i.i (omega arith) c.loop-i.invariant.2

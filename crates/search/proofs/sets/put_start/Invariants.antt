@@ -9,7 +9,7 @@ use borrow.Author.Rules.{rules}
 use Rattle.basics.specs.Lists.{tabulate}
 use Rattle.search.specs.Memory.{start_byte}
 use Rattle.basics.proofs.Filling.{table_more}
-use Rattle.search.proofs.PackedSets.{start-done}
+use Rattle.search.proofs.PackedSets.{start_done}
 use Rattle.search.proofs.sets.put_start.Given as goal
 
 abbrev pub invariant-loop-i : goal.invariant-loop-i

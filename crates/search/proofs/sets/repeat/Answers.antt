@@ -6,21 +6,21 @@ use mathlib.Core.List.{◌++◌}
 use lib.ListN.{length-set, length, drop}
 use borrow.Author.Rules.{rules}
 use Rattle.basics.specs.Lists.{tabulate}
-use Rattle.search.proofs.sets.SetLoops.{repeated-none, repeated-more, repeated-done, repeated_at}
+use Rattle.search.proofs.sets.SetLoops.{repeated_none, repeated_more, repeated_done, repeated_at}
 use Rattle.search.proofs.sets.repeat.Goals as goal
 
 pub loop-b-init : goal.loop-b-init
 loop-b-init c =
-    (le_refl _, c.requires.h_in_bounds, refl, repeated-none c.args.h c.args.place.now c.requires.h_in_bounds)
+    (le_refl _, c.requires.h_in_bounds, refl, repeated_none c.args.h c.args.place.now c.requires.h_in_bounds)
 
 pub loop-b-preserved : goal.loop-b-preserved
 loop-b-preserved c = (
   omega arith,
   omega arith,
   simp length-set c.loop-b.invariant.2,
-  repeated-more c.args.h c.loop-b.b c.args.place.now c.loop-b.place c.requires.h_nonzero c.loop-b.invariant.0 (omega arith) c.loop-b.invariant.3,
+  repeated_more c.args.h c.loop-b.b c.args.place.now c.loop-b.place c.requires.h_nonzero c.loop-b.invariant.0 (omega arith) c.loop-b.invariant.3,
 )
 
 pub returns : goal.returns
 returns c =
-    repeated-done c.args.h c.args.place.now c.loop-b.place c.loop-b.b (omega arith) c.loop-b.invariant.3
+    repeated_done c.args.h c.args.place.now c.loop-b.place c.loop-b.b (omega arith) c.loop-b.invariant.3

@@ -8,7 +8,7 @@ use mathlib.Core.List.{◌++◌}
 use lib.ListN.{length-set, length, drop}
 use borrow.Author.Rules.{rules}
 use Rattle.basics.specs.Lists.{tabulate}
-use Rattle.search.proofs.sets.SetLoops.{repeated-none, repeated-more, repeated-done, repeated_at}
+use Rattle.search.proofs.sets.SetLoops.{repeated_none, repeated_more, repeated_done, repeated_at}
 use Rattle.search.proofs.sets.repeat.Given as goal
 
 abbrev pub invariant-loop-b : goal.invariant-loop-b

@@ -5,7 +5,7 @@ use mathlib.Core.Bool.{true}
 use borrow.Author.Rules.{rules}
 use Rattle.search.specs.Limits.{run_size}
 use Rattle.search.specs.Slots.{same_run}
-use Rattle.search.proofs.sets.SetLoops.{run_none, run_more, run-fails, run-done}
+use Rattle.search.proofs.sets.SetLoops.{run_none, run_more, run_fails, run_done}
 use Rattle.search.proofs.sets.same_run.Goals as goal
 
 pub loop-y-init : goal.loop-y-init
@@ -14,7 +14,7 @@ loop-y-init c =
 
 pub returns-then-mem-a : goal.returns-then-mem-a
 returns-then-mem-a c =
-    sym (run-fails c.args.mem.now c.args.a c.args.b run_size c.loop-y.y (omega (arith, c.loop-y-test.true)) c.if-mem-a.true)
+    sym (run_fails c.args.mem.now c.args.a c.args.b run_size c.loop-y.y (omega (arith, c.loop-y-test.true)) c.if-mem-a.true)
 
 pub loop-y-preserved : goal.loop-y-preserved
 loop-y-preserved c =
@@ -22,4 +22,4 @@ loop-y-preserved c =
 
 pub returns : goal.returns
 returns c =
-    sym (run-done c.args.mem.now c.args.a c.args.b run_size c.loop-y.y (omega arith) c.loop-y.invariant.1)
+    sym (run_done c.args.mem.now c.args.a c.args.b run_size c.loop-y.y (omega arith) c.loop-y.invariant.1)

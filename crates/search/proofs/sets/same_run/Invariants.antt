@@ -7,7 +7,7 @@ use mathlib.Core.Bool.{true}
 use borrow.Author.Rules.{rules}
 use Rattle.search.specs.Limits.{run_size}
 use Rattle.search.specs.Slots.{same_run}
-use Rattle.search.proofs.sets.SetLoops.{run_none, run_more, run-fails, run-done}
+use Rattle.search.proofs.sets.SetLoops.{run_none, run_more, run_fails, run_done}
 use Rattle.search.proofs.sets.same_run.Given as goal
 
 abbrev pub invariant-loop-y : goal.invariant-loop-y

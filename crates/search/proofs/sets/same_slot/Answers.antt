@@ -6,7 +6,7 @@ use borrow.Author.Rules.{rules}
 use borrow.Author.Tests.{not-true, not-false}
 use Rattle.search.specs.Limits.{run_size}
 use Rattle.search.specs.Slots.{same_run}
-use Rattle.search.proofs.sets.SetLoops.{run_none, slot-more, slot-fails, slot-done}
+use Rattle.search.proofs.sets.SetLoops.{run_none, slot_more, slot_fails, slot_done}
 use Rattle.search.proofs.sets.same_slot.Goals as goal
 
 pub loop-y-init : goal.loop-y-init
@@ -19,7 +19,7 @@ same_run-requires c =
 
 pub returns-then-not-same_run : goal.returns-then-not-same_run
 returns-then-not-same_run c =
-    sym (slot-fails c.args.w c.args.mem.now c.args.n c.args.i c.loop-y.y run_size (omega (arith, c.requires.run_size_value, c.requires.w_in_bounds, c.requires.w_in_bounds_2, c.loop-y.invariant.1, c.loop-y-test.true))
+    sym (slot_fails c.args.w c.args.mem.now c.args.n c.args.i c.loop-y.y run_size (omega (arith, c.requires.run_size_value, c.requires.w_in_bounds, c.requires.w_in_bounds_2, c.loop-y.invariant.1, c.loop-y-test.true))
     (sym c.same_run.ensures ∙ c.if-not-same_run.true))
 
 pub overflow_add-y : goal.overflow_add-y
@@ -30,9 +30,9 @@ pub loop-y-preserved : goal.loop-y-preserved
 loop-y-preserved c = (
   omega (arith, c.requires.run_size_value, c.requires.w_in_bounds, c.requires.w_in_bounds_2, c.loop-y.invariant.1, c.loop-y-test.true),
   omega (arith, c.loop-y.invariant.1),
-  slot-more c.args.w c.args.mem.now c.args.n c.args.i c.loop-y.y run_size c.loop-y.invariant.2 (sym c.same_run.ensures ∙ c.if-not-same_run.false),
+  slot_more c.args.w c.args.mem.now c.args.n c.args.i c.loop-y.y run_size c.loop-y.invariant.2 (sym c.same_run.ensures ∙ c.if-not-same_run.false),
 )
 
 pub returns : goal.returns
 returns c =
-    sym (slot-done c.args.w c.args.mem.now c.args.n c.args.i c.loop-y.y (omega arith) c.loop-y.invariant.2)
+    sym (slot_done c.args.w c.args.mem.now c.args.n c.args.i c.loop-y.y (omega arith) c.loop-y.invariant.2)

@@ -8,7 +8,7 @@ use borrow.Author.Rules.{rules}
 use borrow.Author.Tests.{not-true, not-false}
 use Rattle.search.specs.Limits.{run_size}
 use Rattle.search.specs.Slots.{same_run}
-use Rattle.search.proofs.sets.SetLoops.{run_none, slot-more, slot-fails, slot-done}
+use Rattle.search.proofs.sets.SetLoops.{run_none, slot_more, slot_fails, slot_done}
 use Rattle.search.proofs.sets.same_slot.Given as goal
 
 abbrev pub invariant-loop-y : goal.invariant-loop-y

@@ -3,13 +3,13 @@ use native.Mathlib.Nat.{le_refl}
 use native.Mathlib.Omega.{arith}
 use mathlib.Core.Path.{◌∙◌, ◌≡◌}
 use borrow.Author.Rules.{rules}
-use Rattle.basics.proofs.BitsLaws.{low_lt, table_from, byte-none, byte_small, byte_more, byte-done}
-use Rattle.search.proofs.sets.SetLoops.{start-digit, start-all, start_bit}
+use Rattle.basics.proofs.BitsLaws.{low_lt, table_from, byte_none, byte_small, byte_more, byte_done}
+use Rattle.search.proofs.sets.SetLoops.{start_digit, start_all, start_bit}
 use Rattle.search.proofs.sets.start_byte.Goals as goal
 
 pub loop-j-init : goal.loop-j-init
 loop-j-init c =
-    (le_refl 8, byte-none _)
+    (le_refl 8, byte_none _)
 
 pub overflow_mul-n : goal.overflow_mul-n
 overflow_mul-n c =
@@ -25,8 +25,8 @@ overflow_add-n-in-loop-j c =
 
 pub loop-j-preserved : goal.loop-j-preserved
 loop-j-preserved c =
-    (omega arith, byte_more _ c.loop-j.n c.loop-j.j _ c.loop-j-test.true c.loop-j.invariant.0 c.loop-j.invariant.1 (start-digit c.args.d c.args.i (c.loop-j.j - 1)))
+    (omega arith, byte_more _ c.loop-j.n c.loop-j.j _ c.loop-j-test.true c.loop-j.invariant.0 c.loop-j.invariant.1 (start_digit c.args.d c.args.i (c.loop-j.j - 1)))
 
 pub returns : goal.returns
 returns c =
-    byte-done _ c.loop-j.n c.loop-j.j c.loop-j-test.false c.loop-j.invariant.1 ∙ start-all c.args.d c.args.i
+    byte_done _ c.loop-j.n c.loop-j.j c.loop-j-test.false c.loop-j.invariant.1 ∙ start_all c.args.d c.args.i

@@ -3,17 +3,17 @@
 use native.Mathlib.Omega.{arith}
 use borrow.Author.Rules.{rules}
 use Rattle.formula.proofs.CodesLaws.{length_in}
-use Rattle.obligations.proofs.OperatorSpots.{listed-held, listed-spot}
-use Rattle.states.proofs.blocks.CarriedWords.{read_low, read-top, read_above}
+use Rattle.obligations.proofs.OperatorSpots.{listed_held, listed_spot}
+use Rattle.states.proofs.blocks.CarriedWords.{read_low, read_top, read_above}
 use Rattle.states.proofs.blocks.carried_lane.Goals as goal
 
 pub bounds-spots-k : goal.bounds-spots-k
 bounds-spots-k c =
-    listed-held _ _ _ c.requires.d_value c.requires.spots_value _ c.if-k-d.true
+    listed_held _ _ _ c.requires.d_value c.requires.spots_value _ c.if-k-d.true
 
 pub part_at-part-requires : goal.part_at-part-requires
 part_at-part-requires c =
-    let spot = listed-spot _ _ _ c.requires.d_value c.requires.spots_value _ c.if-k-d.true in
+    let spot = listed_spot _ _ _ c.requires.d_value c.requires.spots_value _ c.if-k-d.true in
     omega (arith, spot.0, length_in c.args.parts.now)
 
 pub bounds-v-i : goal.bounds-v-i
@@ -27,7 +27,7 @@ returns-then-k-d c =
 
 pub returns-then-k-d-2 : goal.returns-then-k-d-2
 returns-then-k-d-2 c =
-    read-top c.args.parts.now c.args.spots.now c.args.v.now c.args.d c.args.x c.args.k c.if-k-d-2.true
+    read_top c.args.parts.now c.args.spots.now c.args.v.now c.args.d c.args.x c.args.k c.if-k-d-2.true
 
 pub returns : goal.returns
 returns c =

@@ -9,8 +9,8 @@ use Rattle.formula.specs.Codes.{parts_in}
 use Rattle.obligations.specs.Values.{block_size}
 use Rattle.states.specs.Limits.{slot_size}
 use Rattle.states.specs.Planes.{plane}
-use Rattle.states.proofs.blocks.CarriedWords.{carried-read}
-use Rattle.states.proofs.PlanesLaws.{plane-none, plane-more, plane-end}
+use Rattle.states.proofs.blocks.CarriedWords.{carried_read}
+use Rattle.states.proofs.PlanesLaws.{plane_none, plane_more, plane_end}
 use Rattle.states.proofs.blocks.put_block.Goals as goal
 
 pub put_values-requires : goal.put_values-requires
@@ -19,7 +19,7 @@ put_values-requires c =
 
 pub loop-y-init : goal.loop-y-init
 loop-y-init c =
-    (omega arith, refl, plane-none _ _ _ c.args.words.now)
+    (omega arith, refl, plane_none _ _ _ c.args.words.now)
 
 pub carried_lane-requires : goal.carried_lane-requires
 carried_lane-requires c =
@@ -28,11 +28,11 @@ carried_lane-requires c =
 pub loop-y-preserved : goal.loop-y-preserved
 loop-y-preserved c =
     let h : c.loop-y.y < length c.args.words.now = omega arith in
-    let new = carried-read c.args.parts.now c.requires.stored c.args.letters.now c.args.v.now _ c.args.w c.requires.v_len
+    let new = carried_read c.args.parts.now c.requires.stored c.args.letters.now c.args.v.now _ c.args.w c.requires.v_len
     c.put_values.ensures
     c.args.spots.now c.args.d c.requires.d_value c.requires.spots_value (c.loop-y.y / slot_size) (c.loop-y.y % slot_size) (omega arith) c.carried_lane.result c.carried_lane.ensures in
-    (omega arith, simp length-set c.loop-y.invariant.1, plane-more _ _ _ c.loop-y.y c.args.words.now c.loop-y.words c.carried_lane.result h c.loop-y.invariant.2 new)
+    (omega arith, simp length-set c.loop-y.invariant.1, plane_more _ _ _ c.loop-y.y c.args.words.now c.loop-y.words c.carried_lane.result h c.loop-y.invariant.2 new)
 
 pub returns : goal.returns
 returns c =
-    record { words_after = plane-end _ _ _ c.loop-y.y (block_size * slot_size) c.args.words.now c.loop-y.words (omega arith) c.requires.words_len c.loop-y.invariant.2; v_after = c.put_values.ensures }
+    record { words_after = plane_end _ _ _ c.loop-y.y (block_size * slot_size) c.args.words.now c.loop-y.words (omega arith) c.requires.words_len c.loop-y.invariant.2; v_after = c.put_values.ensures }

@@ -11,8 +11,8 @@ use Rattle.formula.specs.Codes.{parts_in}
 use Rattle.obligations.specs.Values.{block_size}
 use Rattle.states.specs.Limits.{slot_size}
 use Rattle.states.specs.Planes.{plane}
-use Rattle.states.proofs.blocks.CarriedWords.{carried-read}
-use Rattle.states.proofs.PlanesLaws.{plane-none, plane-more, plane-end}
+use Rattle.states.proofs.blocks.CarriedWords.{carried_read}
+use Rattle.states.proofs.PlanesLaws.{plane_none, plane_more, plane_end}
 use Rattle.states.proofs.blocks.put_block.Given as goal
 
 abbrev pub invariant-loop-y : goal.invariant-loop-y

@@ -11,12 +11,12 @@ use Rattle.obligations.specs.Values.{block_size}
 use Rattle.states.specs.Limits.{slot_size}
 use Rattle.states.specs.Planes.{plane}
 use Rattle.basics.proofs.LentPart.{part_length}
-use Rattle.states.proofs.PlanesLaws.{plane-none, plane_block}
+use Rattle.states.proofs.PlanesLaws.{plane_none, plane_block}
 use Rattle.states.proofs.blocks.put_plane.Goals as goal
 
 pub loop-b-init : goal.loop-b-init
 loop-b-init c =
-    (omega arith, length-replicate {A = ℕ} (index_limit * block_size) 0, refl, plane-none _ _ _ c.args.words.now)
+    (omega arith, length-replicate {A = ℕ} (index_limit * block_size) 0, refl, plane_none _ _ _ c.args.words.now)
 
 pub slice_bounds-put_block-end-in-loop-b : goal.slice_bounds-put_block-end-in-loop-b
 slice_bounds-put_block-end-in-loop-b c =

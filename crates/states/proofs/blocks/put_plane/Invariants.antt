@@ -13,7 +13,7 @@ use Rattle.obligations.specs.Values.{block_size}
 use Rattle.states.specs.Limits.{slot_size}
 use Rattle.states.specs.Planes.{plane}
 use Rattle.basics.proofs.LentPart.{part_length}
-use Rattle.states.proofs.PlanesLaws.{plane-none, plane_block}
+use Rattle.states.proofs.PlanesLaws.{plane_none, plane_block}
 use Rattle.states.proofs.blocks.put_plane.Given as goal
 
 abbrev pub invariant-loop-b : goal.invariant-loop-b

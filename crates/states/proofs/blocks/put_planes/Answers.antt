@@ -9,7 +9,7 @@ use Rattle.obligations.specs.Values.{block_size}
 use Rattle.states.specs.Limits.{plane_size}
 use Rattle.states.specs.Planes.{planes_to}
 use Rattle.basics.proofs.LentPart.{part_length}
-use Rattle.obligations.proofs.NumberedParts.{numbers-front, spots-front}
+use Rattle.obligations.proofs.NumberedParts.{numbers_front, spots_front}
 use Rattle.states.proofs.PlanesLaws.{planes_none, planes_more}
 use Rattle.states.proofs.blocks.put_planes.Goals as goal
 
@@ -31,7 +31,7 @@ slice_bounds-put_plane-end-in-loop-w c =
 
 pub put_plane-requires : goal.put_plane-requires
 put_plane-requires c =
-    record { stored = c.requires.stored; d_value = c.requires.d_value; numbers_value = numbers-front c.args.parts.now _ _ c.number_parts.ensures.numbers_after; spots_value = spots-front (parts_in c.args.parts.now) _ _ c.args.d c.requires.d_value c.number_parts.ensures.spots_after; letters_len = c.requires.letters_len; block_size_bound = c.requires.block_size_bound; words_len = part_length (c.loop-w.w * plane_size) plane_size c.loop-w.words (omega arith) }
+    record { stored = c.requires.stored; d_value = c.requires.d_value; numbers_value = numbers_front c.args.parts.now _ _ c.number_parts.ensures.numbers_after; spots_value = spots_front (parts_in c.args.parts.now) _ _ c.args.d c.requires.d_value c.number_parts.ensures.spots_after; letters_len = c.requires.letters_len; block_size_bound = c.requires.block_size_bound; words_len = part_length (c.loop-w.w * plane_size) plane_size c.loop-w.words (omega arith) }
 
 pub loop-w-preserved : goal.loop-w-preserved
 loop-w-preserved c =

@@ -11,7 +11,7 @@ use Rattle.obligations.specs.Values.{block_size}
 use Rattle.states.specs.Limits.{plane_size}
 use Rattle.states.specs.Planes.{planes_to}
 use Rattle.basics.proofs.LentPart.{part_length}
-use Rattle.obligations.proofs.NumberedParts.{numbers-front, spots-front}
+use Rattle.obligations.proofs.NumberedParts.{numbers_front, spots_front}
 use Rattle.states.proofs.PlanesLaws.{planes_none, planes_more}
 use Rattle.states.proofs.blocks.put_planes.Given as goal
 

@@ -4,12 +4,12 @@ use mathlib.Core.Path.{◌≡◌, sym, ◌∙◌}
 use borrow.Author.Rules.{rules}
 use Rattle.basics.specs.Bounded.{first_that}
 use Rattle.states.specs.Planes.{same_words, first_of}
-use Rattle.basics.proofs.BoundedLaws.{first-none, first_more, first_found, first-end}
+use Rattle.basics.proofs.BoundedLaws.{first_none, first_more, first_found, first_end}
 use Rattle.states.proofs.maps.first_same.Goals as goal
 
 pub loop-b-init : goal.loop-b-init
 loop-b-init c =
-    (omega arith, first-none _)
+    (omega arith, first_none _)
 
 pub returns-then-same_words : goal.returns-then-same_words
 unfolding first_of
@@ -24,4 +24,4 @@ pub returns : goal.returns
 unfolding first_of
 returns c =
     let e : c.loop-b.b ≡ c.args.a = omega arith in
-    first-end _ c.args.a c.loop-b.b e c.loop-b.invariant.1
+    first_end _ c.args.a c.loop-b.b e c.loop-b.invariant.1

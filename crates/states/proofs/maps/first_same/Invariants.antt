@@ -6,7 +6,7 @@ use mathlib.Core.Path.{◌≡◌, sym, ◌∙◌}
 use borrow.Author.Rules.{rules}
 use Rattle.basics.specs.Bounded.{first_that}
 use Rattle.states.specs.Planes.{same_words, first_of}
-use Rattle.basics.proofs.BoundedLaws.{first-none, first_more, first_found, first-end}
+use Rattle.basics.proofs.BoundedLaws.{first_none, first_more, first_found, first_end}
 use Rattle.states.proofs.maps.first_same.Given as goal
 
 abbrev pub invariant-loop-b : goal.invariant-loop-b

@@ -5,9 +5,9 @@ use native.Mathlib.Omega.{arith}
 use mathlib.Core.Path.{◌≡◌, ◌∙◌}
 use lib.ListN.{get_or}
 use borrow.Author.Rules.{rules}
-use Rattle.basics.proofs.BitsLaws.{low_lt, table_from, bits_none, bits-more, bits-done}
+use Rattle.basics.proofs.BitsLaws.{low_lt, table_from, bits_none, bits_more, bits_done}
 use Rattle.states.specs.Limits.{slot_size}
-use Rattle.states.proofs.maps.MapLoops.{bit_in, lane-small, lane-all, lane-digit}
+use Rattle.states.proofs.maps.MapLoops.{bit_in, lane_small, lane_all, lane_digit}
 use Rattle.states.proofs.maps.lane_of.Given as goal
 
 abbrev pub invariant-loop-k : goal.invariant-loop-k

@@ -5,7 +5,7 @@ use mathlib.Core.Bool.{true}
 use borrow.Author.Rules.{rules}
 use Rattle.basics.specs.Bounded.{agree}
 use Rattle.states.specs.Limits.{slot_size, plane_count}
-use Rattle.states.proofs.maps.MapLoops.{word_at, same_none, same_more, same-fails, same-all}
+use Rattle.states.proofs.maps.MapLoops.{word_at, same_none, same_more, same_fails, same_all}
 use Rattle.states.proofs.maps.same_words.Goals as goal
 
 pub loop-y-init : goal.loop-y-init
@@ -14,7 +14,7 @@ loop-y-init c =
 
 pub returns-then-words-at : goal.returns-then-words-at
 returns-then-words-at c =
-    same-fails c.args.words.now c.args.a c.args.b c.loop-y.y c.loop-y-test.true c.if-words-at.true
+    same_fails c.args.words.now c.args.a c.args.b c.loop-y.y c.loop-y-test.true c.if-words-at.true
 
 pub loop-y-preserved : goal.loop-y-preserved
 loop-y-preserved c =
@@ -23,4 +23,4 @@ loop-y-preserved c =
 pub returns : goal.returns
 returns c =
     let e : c.loop-y.y ≡ plane_count * slot_size = omega arith in
-    same-all _ _ _ c.loop-y.y e c.loop-y.invariant.1
+    same_all _ _ _ c.loop-y.y e c.loop-y.invariant.1

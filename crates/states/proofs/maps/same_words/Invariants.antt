@@ -7,7 +7,7 @@ use mathlib.Core.Bool.{true}
 use borrow.Author.Rules.{rules}
 use Rattle.basics.specs.Bounded.{agree}
 use Rattle.states.specs.Limits.{slot_size, plane_count}
-use Rattle.states.proofs.maps.MapLoops.{word_at, same_none, same_more, same-fails, same-all}
+use Rattle.states.proofs.maps.MapLoops.{word_at, same_none, same_more, same_fails, same_all}
 use Rattle.states.proofs.maps.same_words.Given as goal
 
 abbrev pub invariant-loop-y : goal.invariant-loop-y

@@ -1,7 +1,7 @@
 -- `stepping::position::is_held` meets its contract.
 -- Assumes nothing.
 use borrow.Author.Rules.{rules}
-use Rattle.stepping.proofs.PositionLaws.{held_set, held-read}
+use Rattle.stepping.proofs.PositionLaws.{held_set, held_read}
 use Rattle.stepping.proofs.position.is_held.Goals as goal
 
 pub returns-in-Set : goal.returns-in-Set
@@ -10,4 +10,4 @@ returns-in-Set c =
 
 pub returns-in-Read : goal.returns-in-Read
 returns-in-Read c =
-    held-read c.args.order c.args.table.now c.args.position c.in-Read.is
+    held_read c.args.order c.args.table.now c.args.position c.in-Read.is

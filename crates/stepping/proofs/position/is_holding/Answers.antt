@@ -1,7 +1,7 @@
 -- `stepping::position::is_holding` meets its contract.
 -- Assumes nothing.
 use borrow.Author.Rules.{rules}
-use Rattle.stepping.proofs.PositionLaws.{stands, has-row, not_standing, held-there}
+use Rattle.stepping.proofs.PositionLaws.{stands, has_row, not_standing, held_there}
 use Rattle.stepping.proofs.position.is_holding.Goals as goal
 
 pub returns-then-not-is_standing : goal.returns-then-not-is_standing
@@ -10,9 +10,9 @@ returns-then-not-is_standing c =
 
 pub is_held-requires : goal.is_held-requires
 is_held-requires c =
-    has-row c.args.table.now c.args.shape c.args.position.row
+    has_row c.args.table.now c.args.shape c.args.position.row
     (stands c.args.table.now c.args.shape c.args.position.row _ c.is_standing.ensures c.if-not-is_standing.false-raw)
 
 pub returns : goal.returns
 returns c =
-    held-there c.args.table.now c.args.shape c.args.position _ c.is_standing.ensures c.if-not-is_standing.false-raw _ c.is_held.ensures
+    held_there c.args.table.now c.args.shape c.args.position _ c.is_standing.ensures c.if-not-is_standing.false-raw _ c.is_held.ensures

@@ -1,7 +1,7 @@
 -- `stepping::position::is_stopped` meets its contract.
 -- Assumes nothing.
 use borrow.Author.Rules.{rules}
-use Rattle.stepping.proofs.PositionLaws.{has-row, holds, not_stopped, stopped-there}
+use Rattle.stepping.proofs.PositionLaws.{has_row, holds, not_stopped, stopped_there}
 use Rattle.stepping.proofs.position.is_stopped.Goals as goal
 
 pub returns-then-not-is_holding : goal.returns-then-not-is_holding
@@ -10,9 +10,9 @@ returns-then-not-is_holding c =
 
 pub first_cell-first-requires : goal.first_cell-first-requires
 first_cell-first-requires c =
-    has-row c.args.table.now c.args.shape c.args.position.row
+    has_row c.args.table.now c.args.shape c.args.position.row
     (holds c.args.table.now c.args.shape c.args.position _ c.is_holding.ensures c.if-not-is_holding.false-raw).0
 
 pub returns : goal.returns
 returns c =
-    stopped-there c.args.table.now c.args.shape c.args.position _ c.is_holding.ensures c.if-not-is_holding.false-raw _ c.first_cell-first.ensures
+    stopped_there c.args.table.now c.args.shape c.args.position _ c.is_holding.ensures c.if-not-is_holding.false-raw _ c.first_cell-first.ensures

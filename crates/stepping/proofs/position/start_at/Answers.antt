@@ -5,7 +5,7 @@ use mathlib.Core.Path.{subst}
 use Rattle.play.specs.Cells.{row_size}
 use Prim.Native.Nat.{◌≤◌}
 use lib.ListN.{length}
-use Rattle.stepping.proofs.PositionLaws.{start_set, start-read}
+use Rattle.stepping.proofs.PositionLaws.{start_set, start_read}
 use Rattle.stepping.proofs.position.start_at.Goals as goal
 
 pub move_to-requires : goal.move_to-requires
@@ -22,4 +22,4 @@ returns-in-Set c =
 
 pub returns-in-Read : goal.returns-in-Read
 returns-in-Read c =
-    start-read c.args.order c.args.table.now _ c.in-Read.is c.get_ready.ensures
+    start_read c.args.order c.args.table.now _ c.in-Read.is c.get_ready.ensures

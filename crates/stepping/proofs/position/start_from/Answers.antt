@@ -1,14 +1,14 @@
 -- `stepping::position::start_from` meets its contract.
 -- Assumes nothing.
 use borrow.Author.Rules.{rules}
-use Rattle.stepping.proofs.AnswersDue.{start-told}
-use Rattle.stepping.proofs.PositionLaws.{stands, has_first, start-refused, start-moves}
+use Rattle.stepping.proofs.AnswersDue.{start_told}
+use Rattle.stepping.proofs.PositionLaws.{stands, has_first, start_refused, start_moves}
 use Rattle.stepping.proofs.position.start_from.Goals as goal
 
 pub returns-then-not-is_standing : goal.returns-then-not-is_standing
 returns-then-not-is_standing c =
-    start-told c.args.table.now c.args.shape c.args.position _
-    (start-refused c.args.table.now c.args.shape c.args.position _ c.is_standing.ensures c.if-not-is_standing.true-raw _
+    start_told c.args.table.now c.args.shape c.args.position _
+    (start_refused c.args.table.now c.args.shape c.args.position _ c.is_standing.ensures c.if-not-is_standing.true-raw _
     c.refuse.ensures)
 
 pub start_at-requires : goal.start_at-requires
@@ -17,6 +17,6 @@ start_at-requires c =
 
 pub returns : goal.returns
 returns c =
-    start-told c.args.table.now c.args.shape c.args.position _
-    (start-moves c.args.table.now c.args.shape c.args.position
+    start_told c.args.table.now c.args.shape c.args.position _
+    (start_moves c.args.table.now c.args.shape c.args.position
     (stands c.args.table.now c.args.shape 0 _ c.is_standing.ensures c.if-not-is_standing.false-raw) _ c.start_at.ensures)

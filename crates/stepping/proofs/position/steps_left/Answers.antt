@@ -1,21 +1,21 @@
 -- `stepping::position::steps_left` meets its contract.
 -- Assumes nothing.
 use borrow.Author.Rules.{rules}
-use Rattle.stepping.proofs.AnswersDue.{left-told}
-use Rattle.stepping.proofs.PositionLaws.{has-row, holds, left_nowhere, left_there}
+use Rattle.stepping.proofs.AnswersDue.{left_told}
+use Rattle.stepping.proofs.PositionLaws.{has_row, holds, left_nowhere, left_there}
 use Rattle.stepping.proofs.position.steps_left.Goals as goal
 
 pub returns-then-not-is_holding : goal.returns-then-not-is_holding
 returns-then-not-is_holding c =
-    left-told c.args.table.now c.args.shape c.args.position _
+    left_told c.args.table.now c.args.shape c.args.position _
     (left_nowhere c.args.table.now c.args.shape c.args.position _ c.is_holding.ensures c.if-not-is_holding.true-raw)
 
 pub rank_cell-requires : goal.rank_cell-requires
 rank_cell-requires c =
-    has-row c.args.table.now c.args.shape c.args.position.row
+    has_row c.args.table.now c.args.shape c.args.position.row
     (holds c.args.table.now c.args.shape c.args.position _ c.is_holding.ensures c.if-not-is_holding.false-raw).0
 
 pub returns : goal.returns
 returns c =
-    left-told c.args.table.now c.args.shape c.args.position _
+    left_told c.args.table.now c.args.shape c.args.position _
     (left_there c.args.table.now c.args.shape c.args.position _ c.is_holding.ensures c.if-not-is_holding.false-raw _ c.rank_cell.ensures)

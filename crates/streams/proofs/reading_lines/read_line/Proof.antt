@@ -8,7 +8,7 @@ use lib.ListN.{length, length-set}
 use mir.Syntax.{w64}
 use mir.Val.{to_z, of_z}
 use Rattle.io.proofs.Counting.{prefix_len_of_le}
-use Rattle.streams.proofs.LinesLaws.{line-within}
+use Rattle.streams.proofs.LinesLaws.{line_within}
 use Rattle.streams.proofs.reading_lines.read_line.Statement.{statement}
 use Rattle.streams.proofs.reading_lines.read_line.Tie as tie
 
@@ -37,7 +37,7 @@ returns : tie.Need-returns invariant-loop decreases-loop
 returns c =
     let read = c.before.before.before.read_Some in
     let l = c.before.before.before.before.before.before.loop in
-    line-within c.line-ended.result (to_z w64 (of_z w64 read.result)) l.done l.buffer l.invariant.1 c.line-ended.ensures
+    line_within c.line-ended.result (to_z w64 (of_z w64 read.result)) l.done l.buffer l.invariant.1 c.line-ended.ensures
 
 array-read-if2 : tie.Need-array-read-if2 invariant-loop decreases-loop
 array-read-if2 c = search rules

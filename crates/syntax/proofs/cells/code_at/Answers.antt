@@ -1,12 +1,12 @@
 -- `syntax::cells::code_at` meets its contract.
 -- Assumes nothing.
-use Rattle.syntax.proofs.CellsLaws.{made-leaf, made_prefix, made_infix}
+use Rattle.syntax.proofs.CellsLaws.{made_leaf, made_prefix, made_infix}
 use borrow.Author.Rules.{rules}
 use Rattle.syntax.proofs.cells.code_at.Goals as goal
 
 pub returns-then-x-lt-ONE_SIDED : goal.returns-then-x-lt-ONE_SIDED
 returns-then-x-lt-ONE_SIDED c =
-    made-leaf _ _ c.if-x-lt-ONE_SIDED.true
+    made_leaf _ _ c.if-x-lt-ONE_SIDED.true
 
 pub returns-then-x-lt-TWO_SIDED : goal.returns-then-x-lt-TWO_SIDED
 returns-then-x-lt-TWO_SIDED c =

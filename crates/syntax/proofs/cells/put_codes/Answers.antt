@@ -5,12 +5,12 @@ use mathlib.Core.Path.{◌≡◌, refl, ap₂, ◌∙◌}
 use lib.ListN.{length, take, set, length-set}
 use lib.Seq.{sets, take-length}
 use Rattle.syntax.specs.Cells.{codes_from}
-use Rattle.syntax.proofs.CellsLaws.{codes-none, codes-more}
+use Rattle.syntax.proofs.CellsLaws.{codes_none, codes_more}
 use Rattle.syntax.proofs.cells.put_codes.Goals as goal
 
 pub loop-i-init : goal.loop-i-init
 loop-i-init c =
-    (search rules, refl, codes-none c.args.parts.now c.args.n c.args.cells.now)
+    (search rules, refl, codes_none c.args.parts.now c.args.n c.args.cells.now)
 
 pub loop-i-preserved : goal.loop-i-preserved
 loop-i-preserved c =
@@ -18,7 +18,7 @@ loop-i-preserved c =
       omega arith,
       simp length-set c.loop-i.invariant.1,
       ap₂ (λ p x. set p (c.args.n + c.loop-i.i) x) c.loop-i.invariant.2 c.code_at.ensures
-          ∙ codes-more c.args.parts.now c.args.n c.args.cells.now c.loop-i.i h,
+          ∙ codes_more c.args.parts.now c.args.n c.args.cells.now c.loop-i.i h,
     )
 
 pub returns : goal.returns

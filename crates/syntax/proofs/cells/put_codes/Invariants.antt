@@ -7,7 +7,7 @@ use mathlib.Core.Path.{◌≡◌, refl, ap₂, ◌∙◌}
 use lib.ListN.{length, take, set, length-set}
 use lib.Seq.{sets, take-length}
 use Rattle.syntax.specs.Cells.{codes_from}
-use Rattle.syntax.proofs.CellsLaws.{codes-none, codes-more}
+use Rattle.syntax.proofs.CellsLaws.{codes_none, codes_more}
 use Rattle.syntax.proofs.cells.put_codes.Given as goal
 
 abbrev pub invariant-loop-i : goal.invariant-loop-i

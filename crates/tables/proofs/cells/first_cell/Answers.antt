@@ -4,20 +4,20 @@ use borrow.Author.Rules.{rules}
 use native.Mathlib.Omega.{arith}
 use mathlib.Core.Path.{ap}
 use lib.ListN.{get_or}
-use Rattle.tables.proofs.cells.CellPlaces.{first_read, first-room}
+use Rattle.tables.proofs.cells.CellPlaces.{first_read, first_room}
 use Rattle.tables.proofs.cells.first_cell.Goals as goal
 
 pub overflow_mul-result : goal.overflow_mul-result
 overflow_mul-result c =
-    omega (arith, first-room c.args.order c.args.row _ c.row_size.ensures _ c.requires)
+    omega (arith, first_room c.args.order c.args.row _ c.row_size.ensures _ c.requires)
 
 pub offset_bounds-table-row : goal.offset_bounds-table-row
 offset_bounds-table-row c =
-    omega (arith, first-room c.args.order c.args.row _ c.row_size.ensures _ c.requires)
+    omega (arith, first_room c.args.order c.args.row _ c.row_size.ensures _ c.requires)
 
 pub bounds-table-row : goal.bounds-table-row
 bounds-table-row c =
-    first-room c.args.order c.args.row _ c.row_size.ensures _ c.requires
+    first_room c.args.order c.args.row _ c.row_size.ensures _ c.requires
 
 pub returns : goal.returns
 returns c =

@@ -4,12 +4,12 @@ use borrow.Author.Rules.{rules}
 use native.Mathlib.Omega.{arith}
 use mathlib.Core.Path.{ap}
 use lib.ListN.{get_or}
-use Rattle.tables.proofs.cells.CellPlaces.{place, first-room, rank_room}
+use Rattle.tables.proofs.cells.CellPlaces.{place, first_room, rank_room}
 use Rattle.tables.proofs.cells.rank_cell.Goals as goal
 
 pub overflow_mul-result : goal.overflow_mul-result
 overflow_mul-result c =
-    omega (arith, first-room c.args.order c.args.row _ c.row_size.ensures _ c.requires)
+    omega (arith, first_room c.args.order c.args.row _ c.row_size.ensures _ c.requires)
 
 pub overflow_add-result : goal.overflow_add-result
 overflow_add-result c =

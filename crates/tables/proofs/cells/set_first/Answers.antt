@@ -4,21 +4,21 @@ use borrow.Author.Rules.{rules}
 use native.Mathlib.Omega.{arith}
 use mathlib.Core.Path.{ap}
 use lib.ListN.{set}
-use Rattle.tables.proofs.cells.CellPlaces.{first-place, first-room}
+use Rattle.tables.proofs.cells.CellPlaces.{first_place, first_room}
 use Rattle.tables.proofs.cells.set_first.Goals as goal
 
 pub overflow_mul-table : goal.overflow_mul-table
 overflow_mul-table c =
-    omega (arith, first-room c.args.order c.args.row _ c.row_size.ensures _ c.requires)
+    omega (arith, first_room c.args.order c.args.row _ c.row_size.ensures _ c.requires)
 
 pub offset_bounds-table-row : goal.offset_bounds-table-row
 offset_bounds-table-row c =
-    omega (arith, first-room c.args.order c.args.row _ c.row_size.ensures _ c.requires)
+    omega (arith, first_room c.args.order c.args.row _ c.row_size.ensures _ c.requires)
 
 pub bounds-table-row : goal.bounds-table-row
 bounds-table-row c =
-    first-room c.args.order c.args.row _ c.row_size.ensures _ c.requires
+    first_room c.args.order c.args.row _ c.row_size.ensures _ c.requires
 
 pub returns : goal.returns
 returns c =
-    ap (λ i. set c.args.table.now i c.args.c) (first-place c.args.order c.args.row _ c.row_size.ensures)
+    ap (λ i. set c.args.table.now i c.args.c) (first_place c.args.order c.args.row _ c.row_size.ensures)

@@ -4,12 +4,12 @@ use borrow.Author.Rules.{rules}
 use native.Mathlib.Omega.{arith}
 use mathlib.Core.Path.{ap}
 use lib.ListN.{set}
-use Rattle.tables.proofs.cells.CellPlaces.{place, first-room, rank_room}
+use Rattle.tables.proofs.cells.CellPlaces.{place, first_room, rank_room}
 use Rattle.tables.proofs.cells.set_rank.Goals as goal
 
 pub overflow_mul-table : goal.overflow_mul-table
 overflow_mul-table c =
-    omega (arith, first-room c.args.order c.args.row _ c.row_size.ensures _ c.requires)
+    omega (arith, first_room c.args.order c.args.row _ c.row_size.ensures _ c.requires)
 
 pub overflow_add-table : goal.overflow_add-table
 overflow_add-table c =

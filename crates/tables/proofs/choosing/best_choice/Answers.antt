@@ -7,7 +7,7 @@ use mathlib.Core.Logic.{⊎_elim}
 use lib.ListN.{get_or}
 use Rattle.play.specs.Limits.{belief_limit, side_limit, pair_limit}
 use Rattle.tables.proofs.PositionMemoryLaws.{pair_le, spot_lt}
-use Rattle.tables.proofs.choosing.BestLoop.{Best, best-begin, best-new, best-kept, best-end}
+use Rattle.tables.proofs.choosing.BestLoop.{Best, best_begin, best_new, best_kept, best_end}
 use Rattle.tables.proofs.choosing.best_choice.Goals as goal
 use Rattle.tables.proofs.choosing.best_choice.Goals.{else-ranks-next, then-ranks-next}
 
@@ -31,7 +31,7 @@ pub loop-c-init : goal.loop-c-init
 loop-c-init c =
     let i = c.args.k * pair_limit + c.args.s * c.args.choices in
     let b : get_or c.args.moves.now i 0 < belief_limit = omega (arith, c.type_inv.moves i) in
-    best-begin _ _ _ _ _ _ c.requires.choices_nonzero b refl
+    best_begin _ _ _ _ _ _ c.requires.choices_nonzero b refl
 
 pub overflow_add-next : goal.overflow_add-next
 overflow_add-next c =
@@ -68,8 +68,8 @@ pub loop-c-preserved : goal.loop-c-preserved
 loop-c-preserved c =
     let i = c.args.k * pair_limit + c.args.s * c.args.choices + c.loop-c.c in
     let b : get_or c.args.moves.now i 0 < belief_limit = omega (arith, c.type_inv.moves i) in
-    elim c.if-ranks-next.branch [ then-ranks-next w ↦ best-new _ _ _ _ _ _ _ _ _ c.loop-c.invariant c.loop-c-test.true b refl _ _ w.if-ranks-next.true w.best-is w.at-is | else-ranks-next w ↦ best-kept _ _ _ _ _ _ _ _ _ c.loop-c.invariant c.loop-c-test.true b refl _ _ w.if-ranks-next.false w.best-is w.at-is ]
+    elim c.if-ranks-next.branch [ then-ranks-next w ↦ best_new _ _ _ _ _ _ _ _ _ c.loop-c.invariant c.loop-c-test.true b refl _ _ w.if-ranks-next.true w.best-is w.at-is | else-ranks-next w ↦ best_kept _ _ _ _ _ _ _ _ _ c.loop-c.invariant c.loop-c-test.true b refl _ _ w.if-ranks-next.false w.best-is w.at-is ]
 
 pub returns : goal.returns
 returns c =
-    best-end _ _ _ _ _ _ _ _ c.loop-c-test.false c.loop-c.invariant
+    best_end _ _ _ _ _ _ _ _ c.loop-c-test.false c.loop-c.invariant

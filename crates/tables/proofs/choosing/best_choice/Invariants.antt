@@ -9,7 +9,7 @@ use mathlib.Core.Logic.{⊎_elim}
 use lib.ListN.{get_or}
 use Rattle.play.specs.Limits.{belief_limit, side_limit, pair_limit}
 use Rattle.tables.proofs.PositionMemoryLaws.{pair_le, spot_lt}
-use Rattle.tables.proofs.choosing.BestLoop.{Best, best-begin, best-new, best-kept, best-end}
+use Rattle.tables.proofs.choosing.BestLoop.{Best, best_begin, best_new, best_kept, best_end}
 use Rattle.tables.proofs.choosing.best_choice.Given as goal
 
 abbrev pub invariant-loop-c : goal.invariant-loop-c

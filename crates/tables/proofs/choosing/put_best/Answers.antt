@@ -4,7 +4,7 @@ use native.Mathlib.Omega.{arith}
 use mathlib.Core.Path.{◌≡◌}
 use lib.ListN.{length, length-set}
 use Rattle.basics.proofs.Filling.{table_more}
-use Rattle.tables.proofs.choosing.BestLoop.{found_le, Chosen, all-chosen}
+use Rattle.tables.proofs.choosing.BestLoop.{found_le, Chosen, all_chosen}
 use Rattle.tables.proofs.choosing.put_best.Goals as goal
 
 pub overflow_cast-answers : goal.overflow_cast-answers
@@ -18,4 +18,4 @@ loop-s-preserved c =
 
 pub returns : goal.returns
 returns c =
-    all-chosen _ _ _ _ _ c.loop-s.s _ _ (omega arith) c.loop-s.invariant.2
+    all_chosen _ _ _ _ _ c.loop-s.s _ _ (omega arith) c.loop-s.invariant.2

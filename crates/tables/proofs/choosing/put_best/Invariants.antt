@@ -6,7 +6,7 @@ use native.Mathlib.Omega.{arith}
 use mathlib.Core.Path.{◌≡◌}
 use lib.ListN.{length, length-set}
 use Rattle.basics.proofs.Filling.{table_more}
-use Rattle.tables.proofs.choosing.BestLoop.{found_le, Chosen, all-chosen}
+use Rattle.tables.proofs.choosing.BestLoop.{found_le, Chosen, all_chosen}
 use Rattle.tables.proofs.choosing.put_best.Given as goal
 
 abbrev pub invariant-loop-s : goal.invariant-loop-s

@@ -4,9 +4,9 @@ use native.Mathlib.Omega.{arith}
 use mathlib.Core.Path.{◌≡◌, refl}
 use mathlib.Core.Bool.{true}
 use Rattle.basics.specs.Bounded.{all, first_that}
-use Rattle.basics.proofs.BoundedLaws.{first-none}
+use Rattle.basics.proofs.BoundedLaws.{first_none}
 use Rattle.play.specs.Limits.{pair_limit}
-use Rattle.tables.proofs.ranking.ChoiceLoop.{at, some_at, none_more, observation-more, observation-fails, observations-pass}
+use Rattle.tables.proofs.ranking.ChoiceLoop.{at, some_at, none_more, observation_more, observation_fails, observations_pass}
 use Rattle.tables.proofs.PositionMemoryLaws.{pair_le, spot_lt}
 use Rattle.tables.proofs.ranking.each_has_choice.Goals as goal
 
@@ -16,7 +16,7 @@ observations-init c =
 
 pub loop-c-init : goal.loop-c-init
 loop-c-init c =
-    (refl, c.observations-test.true, search rules, c.observations.invariant.1, first-none _)
+    (refl, c.observations-test.true, search rules, c.observations.invariant.1, first_none _)
 
 pub overflow_mul-s : goal.overflow_mul-s
 overflow_mul-s c =
@@ -57,7 +57,7 @@ bounds-ranks-moves c =
 pub observations-preserved : goal.observations-preserved
 observations-preserved c = (
   omega arith,
-  observation-more c.args.moves.now c.args.ranks.now c.args.choices c.args.observations c.args.r c.args.k c.observations.s c.loop-c.c c.loop-c.invariant.3
+  observation_more c.args.moves.now c.args.ranks.now c.args.choices c.args.observations c.args.r c.args.k c.observations.s c.loop-c.c c.loop-c.invariant.3
       (omega arith) c.if-ranks-moves.true,
 )
 
@@ -72,8 +72,8 @@ loop-c-preserved c = (
 
 pub returns-in-observations : goal.returns-in-observations
 returns-in-observations c =
-    observation-fails c.args.moves.now c.args.ranks.now c.args.choices c.args.observations c.args.r c.args.k c.observations.s c.loop-c.invariant.1 c.loop-c.c (omega arith) c.loop-c.invariant.4
+    observation_fails c.args.moves.now c.args.ranks.now c.args.choices c.args.observations c.args.r c.args.k c.observations.s c.loop-c.invariant.1 c.loop-c.c (omega arith) c.loop-c.invariant.4
 
 pub returns : goal.returns
 returns c =
-    observations-pass c.args.moves.now c.args.ranks.now c.args.choices c.args.observations c.args.r c.args.k c.observations.s (omega arith) c.observations.invariant.1
+    observations_pass c.args.moves.now c.args.ranks.now c.args.choices c.args.observations c.args.r c.args.k c.observations.s (omega arith) c.observations.invariant.1

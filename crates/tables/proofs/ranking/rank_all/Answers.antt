@@ -6,7 +6,7 @@ use mathlib.Core.Path.{◌≡◌, refl, ◌∙◌}
 use lib.ListN.{length, take, drop}
 use Rattle.play.specs.Limits.{belief_limit}
 use Rattle.tables.specs.PositionMemory.{ranks_below}
-use Rattle.tables.proofs.ranking.RoundLoop.{ranks-first, round_last, rounds_on, rounds_done}
+use Rattle.tables.proofs.ranking.RoundLoop.{ranks_first, round_last, rounds_on, rounds_done}
 use Rattle.tables.proofs.ranking.rank_all.Goals as goal
 
 pub loop-r-init : goal.loop-r-init
@@ -14,7 +14,7 @@ loop-r-init c = (
   search rules,
   c.requires.positions.some,
   c.rank_finals.auto.ranks ∙ c.requires.ranks_len,
-  ranks-first c.args.order c.args.n c.args.choices c.args.observations c.args.moves.now c.args.finals.now _ _ c.rank_finals.ensures,
+  ranks_first c.args.order c.args.n c.args.choices c.args.observations c.args.moves.now c.args.finals.now _ _ c.rank_finals.ensures,
   refl,
 )
 

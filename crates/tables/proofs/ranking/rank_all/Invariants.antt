@@ -8,7 +8,7 @@ use mathlib.Core.Path.{◌≡◌, refl, ◌∙◌}
 use lib.ListN.{length, take, drop}
 use Rattle.play.specs.Limits.{belief_limit}
 use Rattle.tables.specs.PositionMemory.{ranks_below}
-use Rattle.tables.proofs.ranking.RoundLoop.{ranks-first, round_last, rounds_on, rounds_done}
+use Rattle.tables.proofs.ranking.RoundLoop.{ranks_first, round_last, rounds_on, rounds_done}
 use Rattle.tables.proofs.ranking.rank_all.Given as goal
 
 abbrev pub invariant-loop-r : goal.invariant-loop-r

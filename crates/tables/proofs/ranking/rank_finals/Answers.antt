@@ -8,7 +8,7 @@ use lib.ListN.{length, drop, length-set}
 use Rattle.basics.specs.Lists.{tabulate}
 use Rattle.basics.proofs.Filling.{table_more, filled}
 use Rattle.tables.specs.PositionMemory.{first_rank, no_rank}
-use Rattle.tables.proofs.ranking.RoundLoop.{first-final, first-other}
+use Rattle.tables.proofs.ranking.RoundLoop.{first_final, first_other}
 use Rattle.tables.proofs.ranking.rank_finals.Goals as goal
 use Rattle.tables.proofs.ranking.rank_finals.Goals.{else-finals-k-eq1, then-finals-k-eq1}
 
@@ -19,12 +19,12 @@ loop-k-preserved c =
       | then-finals-k-eq1 t ↦ (
         omega arith,
         ap length t.ranks-is ∙ simp length-set c.loop-k.invariant.1,
-        t.ranks-is ∙ table_more c.loop-k.k (first_rank c.args.finals.now) c.args.ranks.now c.loop-k.ranks 0 h c.loop-k.invariant.2 (first-final c.args.finals.now c.loop-k.k t.if-finals-k-eq1.true),
+        t.ranks-is ∙ table_more c.loop-k.k (first_rank c.args.finals.now) c.args.ranks.now c.loop-k.ranks 0 h c.loop-k.invariant.2 (first_final c.args.finals.now c.loop-k.k t.if-finals-k-eq1.true),
       )
       | else-finals-k-eq1 t ↦ (
         omega arith,
         ap length t.ranks-is ∙ simp length-set c.loop-k.invariant.1,
-        t.ranks-is ∙ table_more c.loop-k.k (first_rank c.args.finals.now) c.args.ranks.now c.loop-k.ranks no_rank h c.loop-k.invariant.2 (first-other c.args.finals.now c.loop-k.k t.if-finals-k-eq1.false),
+        t.ranks-is ∙ table_more c.loop-k.k (first_rank c.args.finals.now) c.args.ranks.now c.loop-k.ranks no_rank h c.loop-k.invariant.2 (first_other c.args.finals.now c.loop-k.k t.if-finals-k-eq1.false),
       )
     ]
 

@@ -10,7 +10,7 @@ use lib.ListN.{length, drop, length-set}
 use Rattle.basics.specs.Lists.{tabulate}
 use Rattle.basics.proofs.Filling.{table_more, filled}
 use Rattle.tables.specs.PositionMemory.{first_rank, no_rank}
-use Rattle.tables.proofs.ranking.RoundLoop.{first-final, first-other}
+use Rattle.tables.proofs.ranking.RoundLoop.{first_final, first_other}
 use Rattle.tables.proofs.ranking.rank_finals.Given as goal
 
 abbrev pub invariant-loop-k : goal.invariant-loop-k

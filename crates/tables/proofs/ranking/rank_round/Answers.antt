@@ -2,7 +2,7 @@ use borrow.Author.Rules.{rules}
 use Prim.Native.Nat.{◌-◌}
 use native.Mathlib.Omega.{arith}
 use mathlib.Core.Logic.{⊎_elim}
-use Rattle.tables.proofs.ranking.RoundLoop.{Halfway, round_begin, round_end, ranked-stays, none_stays, gets_rank}
+use Rattle.tables.proofs.ranking.RoundLoop.{Halfway, round_begin, round_end, ranked_stays, none_stays, gets_rank}
 use Rattle.tables.proofs.ranking.rank_round.Goals as goal
 use Rattle.tables.proofs.ranking.rank_round.Goals.{else-ranks-k, then-ranks-k+else-can_lead, then-ranks-k+then-can_lead}
 
@@ -17,7 +17,7 @@ loop-k-preserved c =
           t.if-ranks-k.true _ t.can_lead.ensures t.if-can_lead.true _ _ t.ranks-is t.more-is
       | then-ranks-k+else-can_lead t ↦ none_stays _ _ _ _ _ _ _ _ c.requires.positions c.requires.r_nonzero c.requires.r_lt_no_rank c.requires.ranks_len c.requires.ranks_value _ c.loop-k-test.true _ _ c.loop-k.invariant
           t.if-ranks-k.true _ t.can_lead.ensures t.if-can_lead.false _ _ t.ranks-is t.more-is
-      | else-ranks-k t ↦ ranked-stays _ _ _ _ _ _ _ _ c.requires.positions c.requires.r_nonzero c.requires.r_lt_no_rank c.requires.ranks_len c.requires.ranks_value _ c.loop-k-test.true _ _ c.loop-k.invariant t.if-ranks-k.false _ _ t.ranks-is t.more-is
+      | else-ranks-k t ↦ ranked_stays _ _ _ _ _ _ _ _ c.requires.positions c.requires.r_nonzero c.requires.r_lt_no_rank c.requires.ranks_len c.requires.ranks_value _ c.loop-k-test.true _ _ c.loop-k.invariant t.if-ranks-k.false _ _ t.ranks-is t.more-is
     ]
 
 pub returns : goal.returns

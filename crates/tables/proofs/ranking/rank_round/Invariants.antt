@@ -4,7 +4,7 @@ use borrow.Author.Rules.{rules}
 use Prim.Native.Nat.{◌-◌}
 use native.Mathlib.Omega.{arith}
 use mathlib.Core.Logic.{⊎_elim}
-use Rattle.tables.proofs.ranking.RoundLoop.{Halfway, round_begin, round_end, ranked-stays, none_stays, gets_rank}
+use Rattle.tables.proofs.ranking.RoundLoop.{Halfway, round_begin, round_end, ranked_stays, none_stays, gets_rank}
 use Rattle.tables.proofs.ranking.rank_round.Given as goal
 
 abbrev pub invariant-loop-k : goal.invariant-loop-k

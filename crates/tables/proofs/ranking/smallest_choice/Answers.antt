@@ -3,17 +3,17 @@ use Prim.Native.Nat.{◌+◌, ◌*◌, ◌-◌, ◌≤◌, ◌<◌}
 use native.Mathlib.Omega.{arith}
 use mathlib.Core.Path.{◌≡◌, refl}
 use mathlib.Core.Bool.{true}
-use Rattle.basics.proofs.BoundedLaws.{first-none, all_done}
+use Rattle.basics.proofs.BoundedLaws.{first_none, all_done}
 use Rattle.play.specs.Limits.{pair_limit}
 use Rattle.basics.specs.Bounded.{all, first_that}
 use Rattle.tables.specs.PositionMemory.{works}
-use Rattle.tables.proofs.ranking.ChoiceLoop.{leads, leads-more, choice-fails, choice-found, none_left}
+use Rattle.tables.proofs.ranking.ChoiceLoop.{leads, leads_more, choice_fails, choice_found, none_left}
 use Rattle.tables.proofs.PositionMemoryLaws.{pair_le, spot_lt}
 use Rattle.tables.proofs.ranking.smallest_choice.Goals as goal
 
 pub choices-init : goal.choices-init
 choices-init c =
-    (first-none _, search rules)
+    (first_none _, search rules)
 
 pub loop-s-init : goal.loop-s-init
 loop-s-init c =
@@ -57,7 +57,7 @@ bounds-ranks-moves c =
 
 pub choices-preserved : goal.choices-preserved
 choices-preserved c = (
-  choice-fails c.args.moves.now c.args.ranks.now c.args.choices c.args.observations c.args.r c.args.k c.choices.c c.loop-s.s c.loop-s.invariant.3 (omega arith) c.if-ranks-moves.true,
+  choice_fails c.args.moves.now c.args.ranks.now c.args.choices c.args.observations c.args.r c.args.k c.choices.c c.loop-s.s c.loop-s.invariant.3 (omega arith) c.if-ranks-moves.true,
   omega arith,
 )
 
@@ -67,12 +67,12 @@ loop-s-preserved c = (
   c.loop-s.invariant.1,
   omega arith,
   c.loop-s.invariant.3,
-  leads-more c.args.moves.now c.args.ranks.now c.args.choices c.args.observations c.args.r c.args.k c.choices.c c.loop-s.s c.loop-s.invariant.4 c.if-ranks-moves.false,
+  leads_more c.args.moves.now c.args.ranks.now c.args.choices c.args.observations c.args.r c.args.k c.choices.c c.loop-s.s c.loop-s.invariant.4 c.if-ranks-moves.false,
 )
 
 pub returns-in-choices : goal.returns-in-choices
 returns-in-choices c =
-    choice-found c.args.moves.now c.args.ranks.now c.args.choices c.args.observations c.args.r c.args.k c.choices.c c.loop-s.invariant.1 c.loop-s.invariant.3
+    choice_found c.args.moves.now c.args.ranks.now c.args.choices c.args.observations c.args.r c.args.k c.choices.c c.loop-s.invariant.1 c.loop-s.invariant.3
     (all_done c.loop-s.s c.args.observations _ (omega arith) c.loop-s.invariant.4)
 
 pub returns : goal.returns

@@ -6,7 +6,7 @@ use mathlib.Core.Path.{◌≡◌, ap, ◌∙◌}
 use mathlib.Core.Logic.{⊎_elim}
 use lib.ListN.{length}
 use Rattle.tables.specs.PositionMemory.{with_choice}
-use Rattle.tables.proofs.writing.RowCells.{choice-none, choice-put, next-put}
+use Rattle.tables.proofs.writing.RowCells.{choice_none, choice_put, next_put}
 use Rattle.tables.proofs.writing.put_pair.Goals as goal
 use Rattle.tables.proofs.writing.put_pair.Goals.{in-Read, in-Set}
 
@@ -21,5 +21,5 @@ shape_of-cells c =
 
 pub returns : goal.returns
 returns c =
-    let is : c.match-order.cells ≡ with_choice c.args.order c.args.cells.now c.args.s c.args.c = elim c.match-order.branch [ in-Set w ↦ choice-none c.args.order c.args.cells.now c.args.s c.args.c _ w.in-Set.is w.cells-is | in-Read w ↦ choice-put c.args.order c.args.cells.now c.args.s c.args.c _ w.in-Read.is (w.cells-is ∙ w.set_choice.ensures) ] in
-    c.set_next.ensures ∙ next-put c.args.order c.args.cells.now c.args.s c.args.c _ is c.args.next
+    let is : c.match-order.cells ≡ with_choice c.args.order c.args.cells.now c.args.s c.args.c = elim c.match-order.branch [ in-Set w ↦ choice_none c.args.order c.args.cells.now c.args.s c.args.c _ w.in-Set.is w.cells-is | in-Read w ↦ choice_put c.args.order c.args.cells.now c.args.s c.args.c _ w.in-Read.is (w.cells-is ∙ w.set_choice.ensures) ] in
+    c.set_next.ensures ∙ next_put c.args.order c.args.cells.now c.args.s c.args.c _ is c.args.next

@@ -3,7 +3,7 @@ use Prim.Native.Nat.{◌-◌}
 use native.Mathlib.Omega.{arith}
 use mathlib.Core.Path.{refl, sym, ◌∙◌}
 use mathlib.Core.Logic.{⊎_elim}
-use Rattle.tables.proofs.writing.RowLoop.{Adding, adding_begin, adding_old, adding_new, adding_end, cells-room, place_le, room-left}
+use Rattle.tables.proofs.writing.RowLoop.{Adding, adding_begin, adding_old, adding_new, adding_end, cells_room, place_le, room_left}
 use Rattle.tables.proofs.PositionMemoryLaws.{pair_le, spot_lt}
 use Rattle.tables.proofs.writing.put_row.Goals as goal
 use Rattle.tables.proofs.writing.put_row.Goals.{else-j-n, then-j-n}
@@ -35,7 +35,7 @@ bounds-moves-from c =
 
 pub bounds-rows-n : goal.bounds-rows-n
 bounds-rows-n c =
-    let left = room-left _ _ _ _ _ _ _ _ _ _ _ _ c.loop-s.invariant c.loop-s-test.true _ _ refl c.row_of-j.ensures c.if-j-n.true c.requires.rows_len_bound in
+    let left = room_left _ _ _ _ _ _ _ _ _ _ _ _ c.loop-s.invariant c.loop-s-test.true _ _ refl c.row_of-j.ensures c.if-j-n.true c.requires.rows_len_bound in
     omega (arith, left, c.loop-s.invariant.long)
 
 pub overflow_cast-c : goal.overflow_cast-c
@@ -49,7 +49,7 @@ overflow_cast-j c =
 
 pub put_pair-requires : goal.put_pair-requires
 put_pair-requires c =
-    record { s_lt_side_limit = omega (arith, c.loop-s-test.true, c.requires.observations_le_side_limit); cells_len = cells-room _ _ _ _ _ _ _ _ _ _ _ _ c.loop-s.invariant }
+    record { s_lt_side_limit = omega (arith, c.loop-s-test.true, c.requires.observations_le_side_limit); cells_len = cells_room _ _ _ _ _ _ _ _ _ _ _ _ c.loop-s.invariant }
 
 pub loop-s-preserved : goal.loop-s-preserved
 loop-s-preserved c =
@@ -57,11 +57,11 @@ loop-s-preserved c =
 
 pub set_rank-requires : goal.set_rank-requires
 set_rank-requires c =
-    omega (arith, cells-room _ _ _ _ _ _ _ _ _ _ _ _ c.loop-s.invariant)
+    omega (arith, cells_room _ _ _ _ _ _ _ _ _ _ _ _ c.loop-s.invariant)
 
 pub shape_of-cells : goal.shape_of-cells
 shape_of-cells c =
-    c.set_rank.auto.table ∙ cells-room _ _ _ _ _ _ _ _ _ _ _ _ c.loop-s.invariant ∙ sym c.requires.cells_len
+    c.set_rank.auto.table ∙ cells_room _ _ _ _ _ _ _ _ _ _ _ _ c.loop-s.invariant ∙ sym c.requires.cells_len
 
 pub returns : goal.returns
 returns c =

@@ -9,7 +9,7 @@ use mathlib.Core.Logic.{⊎_elim}
 use lib.ListN.{length}
 use Rattle.play.specs.Limits.{belief_limit, side_limit}
 use Rattle.play.specs.Cells.{row_size}
-use Rattle.tables.proofs.writing.TableLoop.{Turn, row_room, turn-begin, row-part, row_small, turn-stop, row_asked, turn-choice, turn-answer}
+use Rattle.tables.proofs.writing.TableLoop.{Turn, row_room, turn_begin, row_part, row_small, turn_stop, row_asked, turn_choice, turn_answer}
 use Rattle.tables.proofs.writing.put_table.Given as goal
 
 abbrev pub invariant-loop-i : goal.invariant-loop-i

@@ -1,7 +1,7 @@
 use borrow.Author.Rules.{rules}
 use Prim.Native.Nat.{◌-◌, ◌≤◌}
 use native.Mathlib.Omega.{arith}
-use Rattle.tables.proofs.writing.RowNumbers.{Passed, passed_none, passed-more, passed-found, passed-all}
+use Rattle.tables.proofs.writing.RowNumbers.{Passed, passed_none, passed_more, passed_found, passed_all}
 use Rattle.tables.proofs.writing.row_of.Goals as goal
 
 pub loop-i-init : goal.loop-i-init
@@ -10,12 +10,12 @@ loop-i-init c =
 
 pub returns-then-rows-i : goal.returns-then-rows-i
 returns-then-rows-i c =
-    passed-found _ _ _ c.loop-i.i c.requires c.loop-i-test.true c.loop-i.invariant.1 c.if-rows-i.true
+    passed_found _ _ _ c.loop-i.i c.requires c.loop-i-test.true c.loop-i.invariant.1 c.if-rows-i.true
 
 pub loop-i-preserved : goal.loop-i-preserved
 loop-i-preserved c =
-    (omega arith, passed-more _ _ _ c.loop-i.i c.requires c.loop-i-test.true c.loop-i.invariant.1 c.if-rows-i.false)
+    (omega arith, passed_more _ _ _ c.loop-i.i c.requires c.loop-i-test.true c.loop-i.invariant.1 c.if-rows-i.false)
 
 pub returns : goal.returns
 returns c =
-    passed-all _ _ _ c.loop-i.i c.loop-i.invariant.0 c.loop-i-test.false c.loop-i.invariant.1
+    passed_all _ _ _ c.loop-i.i c.loop-i.invariant.0 c.loop-i-test.false c.loop-i.invariant.1

@@ -3,7 +3,7 @@
 use borrow.Author.Rules.{rules}
 use Prim.Native.Nat.{◌-◌, ◌≤◌}
 use native.Mathlib.Omega.{arith}
-use Rattle.tables.proofs.writing.RowNumbers.{Passed, passed_none, passed-more, passed-found, passed-all}
+use Rattle.tables.proofs.writing.RowNumbers.{Passed, passed_none, passed_more, passed_found, passed_all}
 use Rattle.tables.proofs.writing.row_of.Given as goal
 
 abbrev pub invariant-loop-i : goal.invariant-loop-i

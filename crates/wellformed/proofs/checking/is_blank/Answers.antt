@@ -5,7 +5,7 @@ use mathlib.Core.Bool.{true}
 use borrow.Author.Rules.{rules}
 use Rattle.play.specs.Limits.{side_limit}
 use Rattle.basics.specs.Bounded.{all}
-use Rattle.wellformed.proofs.WellFormedLaws.{row_room, blank_at, blank-fails, blank-more, blank-passes}
+use Rattle.wellformed.proofs.WellFormedLaws.{row_room, blank_at, blank_fails, blank_more, blank_passes}
 use Rattle.wellformed.proofs.checking.is_blank.Goals as goal
 
 pub loop-s-init : goal.loop-s-init
@@ -18,13 +18,13 @@ is_blank_at-requires c =
 
 pub returns-then-s-n : goal.returns-then-s-n
 returns-then-s-n c =
-    blank-fails c.args.table.now c.args.shape c.args.row _ c.next_count-n.ensures c.loop-s.s
+    blank_fails c.args.table.now c.args.shape c.args.row _ c.next_count-n.ensures c.loop-s.s
     _ c.is_blank_at.ensures c.loop-s-test.true c.if-s-n.true
 
 pub loop-s-preserved : goal.loop-s-preserved
 loop-s-preserved c =
-    (omega arith, blank-more c.args.shape.order c.args.table.now c.args.row _ c.loop-s.s _ c.is_blank_at.ensures c.if-s-n.false c.loop-s.invariant.1)
+    (omega arith, blank_more c.args.shape.order c.args.table.now c.args.row _ c.loop-s.s _ c.is_blank_at.ensures c.if-s-n.false c.loop-s.invariant.1)
 
 pub returns : goal.returns
 returns c =
-    blank-passes c.args.table.now c.args.shape c.args.row _ c.next_count-n.ensures c.loop-s.s c.loop-s.invariant.0 c.loop-s-test.false c.loop-s.invariant.1
+    blank_passes c.args.table.now c.args.shape c.args.row _ c.next_count-n.ensures c.loop-s.s c.loop-s.invariant.0 c.loop-s-test.false c.loop-s.invariant.1

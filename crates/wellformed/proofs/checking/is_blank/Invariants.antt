@@ -7,7 +7,7 @@ use mathlib.Core.Bool.{true}
 use borrow.Author.Rules.{rules}
 use Rattle.play.specs.Limits.{side_limit}
 use Rattle.basics.specs.Bounded.{all}
-use Rattle.wellformed.proofs.WellFormedLaws.{row_room, blank_at, blank-fails, blank-more, blank-passes}
+use Rattle.wellformed.proofs.WellFormedLaws.{row_room, blank_at, blank_fails, blank_more, blank_passes}
 use Rattle.wellformed.proofs.checking.is_blank.Given as goal
 
 abbrev pub invariant-loop-s : goal.invariant-loop-s

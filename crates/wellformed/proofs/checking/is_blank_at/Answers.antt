@@ -1,6 +1,6 @@
 -- `wellformed::checking::is_blank_at` meets its contract.
 -- Assumes nothing.
-use Rattle.wellformed.proofs.WellFormedLaws.{blank_set, blank-read}
+use Rattle.wellformed.proofs.WellFormedLaws.{blank_set, blank_read}
 use borrow.Author.Rules.{rules}
 use Rattle.wellformed.proofs.checking.is_blank_at.Goals as goal
 
@@ -10,5 +10,5 @@ returns-in-Set c =
 
 pub returns-in-Read : goal.returns-in-Read
 returns-in-Read c =
-    blank-read c.args.order c.in-Read.is c.args.table.now c.args.row c.args.s _ _ c.choice_cell.ensures
+    blank_read c.args.order c.in-Read.is c.args.table.now c.args.row c.args.s _ _ c.choice_cell.ensures
     c.next_cell-in-Read.ensures

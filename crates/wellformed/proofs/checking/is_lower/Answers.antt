@@ -2,7 +2,7 @@
 -- Assumes nothing.
 use native.Mathlib.Omega.{arith}
 use borrow.Author.Rules.{rules}
-use Rattle.wellformed.proofs.WellFormedLaws.{row_room, lower-is}
+use Rattle.wellformed.proofs.WellFormedLaws.{row_room, lower_is}
 use Rattle.wellformed.proofs.checking.is_lower.Goals as goal
 
 pub next_cell-next-requires : goal.next_cell-next-requires
@@ -19,5 +19,5 @@ rank_cell-requires-2 c =
 
 pub returns : goal.returns
 returns c =
-    lower-is c.args.table.now c.args.shape c.args.row c.args.s _ _ _ c.next_cell-next.ensures c.rank_cell.ensures
+    lower_is c.args.table.now c.args.shape c.args.row c.args.s _ _ _ c.next_cell-next.ensures c.rank_cell.ensures
     c.rank_cell-2.ensures

@@ -1,13 +1,13 @@
 -- `wellformed::checking::is_next` meets its contract.
 -- Assumes nothing.
 use borrow.Author.Rules.{rules}
-use Rattle.basics.proofs.GuardedTests.{first-fails, then_second}
-use Rattle.wellformed.proofs.WellFormedLaws.{row_room, next-out, next_in}
+use Rattle.basics.proofs.GuardedTests.{first_fails, then_second}
+use Rattle.wellformed.proofs.WellFormedLaws.{row_room, next_out, next_in}
 use Rattle.wellformed.proofs.checking.is_next.Goals as goal
 
 pub returns-then-row-shape : goal.returns-then-row-shape
 returns-then-row-shape c =
-    next-out c.args.table.now c.args.shape c.args.next c.if-row-shape.true
+    next_out c.args.table.now c.args.shape c.args.next c.if-row-shape.true
 
 pub first_cell-requires : goal.first_cell-requires
 first_cell-requires c =
@@ -15,7 +15,7 @@ first_cell-requires c =
 
 pub returns-then-not-is_first : goal.returns-then-not-is_first
 returns-then-not-is_first c =
-    first-fails _ _ _ _ (next_in c.args.table.now c.args.shape c.args.next c.if-row-shape.false _ c.first_cell.ensures)
+    first_fails _ _ _ _ (next_in c.args.table.now c.args.shape c.args.next c.if-row-shape.false _ c.first_cell.ensures)
     c.is_first.ensures c.if-not-is_first.true-raw
 
 pub returns : goal.returns

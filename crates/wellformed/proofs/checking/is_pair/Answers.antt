@@ -1,7 +1,7 @@
 -- `wellformed::checking::is_pair` meets its contract.
 -- Assumes nothing.
 use native.Mathlib.Omega.{arith}
-use Rattle.wellformed.proofs.WellFormedLaws.{row_room, pair-out, pair_in}
+use Rattle.wellformed.proofs.WellFormedLaws.{row_room, pair_out, pair_in}
 use borrow.Author.Rules.{rules}
 use Rattle.wellformed.proofs.checking.is_pair.Goals as goal
 
@@ -11,7 +11,7 @@ choice_cell-requires c =
 
 pub returns-then-choice_cell : goal.returns-then-choice_cell
 returns-then-choice_cell c =
-    pair-out c.args.table.now c.args.shape c.args.row c.args.s _ c.choice_cell.ensures c.if-choice_cell.true
+    pair_out c.args.table.now c.args.shape c.args.row c.args.s _ c.choice_cell.ensures c.if-choice_cell.true
 
 pub next_cell-requires : goal.next_cell-requires
 next_cell-requires c =

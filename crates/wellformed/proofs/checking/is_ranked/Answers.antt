@@ -6,13 +6,13 @@ use borrow.Author.Rules.{rules}
 use Rattle.play.specs.Limits.{side_limit}
 use Rattle.basics.specs.Bounded.{all}
 use Rattle.wellformed.specs.WellFormed.{is_lower}
-use Rattle.basics.proofs.GuardedTests.{first-fails, each-fails, each_more, each-passes}
-use Rattle.wellformed.proofs.WellFormedLaws.{count_le, ranked-is}
+use Rattle.basics.proofs.GuardedTests.{first_fails, each_fails, each_more, each_passes}
+use Rattle.wellformed.proofs.WellFormedLaws.{count_le, ranked_is}
 use Rattle.wellformed.proofs.checking.is_ranked.Goals as goal
 
 pub returns-then-not-rank_fits : goal.returns-then-not-rank_fits
 returns-then-not-rank_fits c =
-    first-fails _ _ _ _ (ranked-is c.args.table.now c.args.shape c.args.row) c.rank_fits.ensures c.if-not-rank_fits.true-raw
+    first_fails _ _ _ _ (ranked_is c.args.table.now c.args.shape c.args.row) c.rank_fits.ensures c.if-not-rank_fits.true-raw
 
 pub loop-s-init : goal.loop-s-init
 loop-s-init c =
@@ -24,7 +24,7 @@ is_lower-requires c =
 
 pub returns-then-not-is_lower : goal.returns-then-not-is_lower
 returns-then-not-is_lower c =
-    each-fails _ _ _ _ _ (ranked-is c.args.table.now c.args.shape c.args.row) c.rank_fits.ensures
+    each_fails _ _ _ _ _ (ranked_is c.args.table.now c.args.shape c.args.row) c.rank_fits.ensures
     c.if-not-rank_fits.false-raw _ c.next_count-n.ensures
     c.loop-s.s c.loop-s-test.true _ c.is_lower.ensures c.if-not-is_lower.true-raw
 
@@ -34,5 +34,5 @@ loop-s-preserved c =
 
 pub returns : goal.returns
 returns c =
-    each-passes _ _ _ _ _ (ranked-is c.args.table.now c.args.shape c.args.row) c.rank_fits.ensures
+    each_passes _ _ _ _ _ (ranked_is c.args.table.now c.args.shape c.args.row) c.rank_fits.ensures
     c.if-not-rank_fits.false-raw _ c.next_count-n.ensures c.loop-s.s c.loop-s.invariant.1 c.loop-s-test.false c.loop-s.invariant.2

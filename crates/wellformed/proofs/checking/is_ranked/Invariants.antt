@@ -8,8 +8,8 @@ use borrow.Author.Rules.{rules}
 use Rattle.play.specs.Limits.{side_limit}
 use Rattle.basics.specs.Bounded.{all}
 use Rattle.wellformed.specs.WellFormed.{is_lower}
-use Rattle.basics.proofs.GuardedTests.{first-fails, each-fails, each_more, each-passes}
-use Rattle.wellformed.proofs.WellFormedLaws.{count_le, ranked-is}
+use Rattle.basics.proofs.GuardedTests.{first_fails, each_fails, each_more, each_passes}
+use Rattle.wellformed.proofs.WellFormedLaws.{count_le, ranked_is}
 use Rattle.wellformed.proofs.checking.is_ranked.Given as goal
 
 abbrev pub invariant-loop-s : goal.invariant-loop-s

@@ -1,18 +1,18 @@
 -- `wellformed::checking::is_row` meets its contract.
 -- Assumes nothing.
 use borrow.Author.Rules.{rules}
-use Rattle.basics.proofs.GuardedTests.{first-fails, then_second}
+use Rattle.basics.proofs.GuardedTests.{first_fails, then_second}
 use Rattle.wellformed.proofs.WellFormedLaws.{row_is}
-use Rattle.wellformed.proofs.TestsSay.{leads-asks}
+use Rattle.wellformed.proofs.TestsSay.{leads_asks}
 use Rattle.wellformed.proofs.checking.is_row.Goals as goal
 
 pub returns-then-not-leads_on : goal.returns-then-not-leads_on
 returns-then-not-leads_on c =
-    first-fails _ _ _ _ (row_is c.args.table.now c.args.shape c.args.row) c.leads_on.ensures c.if-not-leads_on.true-raw
+    first_fails _ _ _ _ (row_is c.args.table.now c.args.shape c.args.row) c.leads_on.ensures c.if-not-leads_on.true-raw
 
 pub is_ranked-requires : goal.is_ranked-requires
 is_ranked-requires c =
-    record { order_in_bounds = c.requires.order_in_bounds; row_lt_rows = c.requires.row_lt_rows; observed_le_kind_limit = c.requires.observed_le_kind_limit; leads = leads-asks c.args.table.now c.args.shape c.args.row _ c.leads_on.ensures c.if-not-leads_on.false-raw }
+    record { order_in_bounds = c.requires.order_in_bounds; row_lt_rows = c.requires.row_lt_rows; observed_le_kind_limit = c.requires.observed_le_kind_limit; leads = leads_asks c.args.table.now c.args.shape c.args.row _ c.leads_on.ensures c.if-not-leads_on.false-raw }
 
 pub returns : goal.returns
 returns c =

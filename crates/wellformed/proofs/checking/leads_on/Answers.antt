@@ -6,8 +6,8 @@ use borrow.Author.Rules.{rules}
 use Rattle.play.specs.Limits.{side_limit}
 use Rattle.basics.specs.Bounded.{all}
 use Rattle.wellformed.specs.WellFormed.{is_pair}
-use Rattle.basics.proofs.GuardedTests.{first-fails, each-fails, each_more, each-passes}
-use Rattle.wellformed.proofs.WellFormedLaws.{row_room, count_le, leads-is}
+use Rattle.basics.proofs.GuardedTests.{first_fails, each_fails, each_more, each_passes}
+use Rattle.wellformed.proofs.WellFormedLaws.{row_room, count_le, leads_is}
 use Rattle.wellformed.proofs.checking.leads_on.Goals as goal
 
 pub first_cell-requires : goal.first_cell-requires
@@ -16,7 +16,7 @@ first_cell-requires c =
 
 pub returns-then-not-is_first : goal.returns-then-not-is_first
 returns-then-not-is_first c =
-    first-fails _ _ _ _ (leads-is c.args.table.now c.args.shape c.args.row _ c.first_cell.ensures) c.is_first.ensures
+    first_fails _ _ _ _ (leads_is c.args.table.now c.args.shape c.args.row _ c.first_cell.ensures) c.is_first.ensures
     c.if-not-is_first.true-raw
 
 pub loop-s-init : goal.loop-s-init
@@ -25,7 +25,7 @@ loop-s-init c =
 
 pub returns-then-not-is_pair : goal.returns-then-not-is_pair
 returns-then-not-is_pair c =
-    each-fails _ _ _ _ _ (leads-is c.args.table.now c.args.shape c.args.row _ c.first_cell.ensures) c.is_first.ensures
+    each_fails _ _ _ _ _ (leads_is c.args.table.now c.args.shape c.args.row _ c.first_cell.ensures) c.is_first.ensures
     c.if-not-is_first.false-raw _ c.next_count-n.ensures
     c.loop-s.s c.loop-s-test.true _ c.is_pair.ensures c.if-not-is_pair.true-raw
 
@@ -35,5 +35,5 @@ loop-s-preserved c =
 
 pub returns : goal.returns
 returns c =
-    each-passes _ _ _ _ _ (leads-is c.args.table.now c.args.shape c.args.row _ c.first_cell.ensures) c.is_first.ensures
+    each_passes _ _ _ _ _ (leads_is c.args.table.now c.args.shape c.args.row _ c.first_cell.ensures) c.is_first.ensures
     c.if-not-is_first.false-raw _ c.next_count-n.ensures c.loop-s.s c.loop-s.invariant.1 c.loop-s-test.false c.loop-s.invariant.2

@@ -8,8 +8,8 @@ use borrow.Author.Rules.{rules}
 use Rattle.play.specs.Limits.{side_limit}
 use Rattle.basics.specs.Bounded.{all}
 use Rattle.wellformed.specs.WellFormed.{is_pair}
-use Rattle.basics.proofs.GuardedTests.{first-fails, each-fails, each_more, each-passes}
-use Rattle.wellformed.proofs.WellFormedLaws.{row_room, count_le, leads-is}
+use Rattle.basics.proofs.GuardedTests.{first_fails, each_fails, each_more, each_passes}
+use Rattle.wellformed.proofs.WellFormedLaws.{row_room, count_le, leads_is}
 use Rattle.wellformed.proofs.checking.leads_on.Given as goal
 
 abbrev pub invariant-loop-s : goal.invariant-loop-s

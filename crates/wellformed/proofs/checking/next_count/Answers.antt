@@ -1,6 +1,6 @@
 -- `wellformed::checking::next_count` meets its contract.
 -- Assumes nothing.
-use Rattle.wellformed.proofs.WellFormedLaws.{row_room, stop-count, move-count}
+use Rattle.wellformed.proofs.WellFormedLaws.{row_room, stop_count, move_count}
 use borrow.Author.Rules.{rules}
 use Rattle.wellformed.proofs.checking.next_count.Goals as goal
 
@@ -10,8 +10,8 @@ first_cell-requires c =
 
 pub returns-then-first_cell : goal.returns-then-first_cell
 returns-then-first_cell c =
-    stop-count c.args.table.now c.args.shape c.args.row _ c.first_cell.ensures c.if-first_cell.true
+    stop_count c.args.table.now c.args.shape c.args.row _ c.first_cell.ensures c.if-first_cell.true
 
 pub returns-else-first_cell : goal.returns-else-first_cell
 returns-else-first_cell c =
-    move-count c.args.table.now c.args.shape c.args.row _ c.first_cell.ensures c.if-first_cell.false c.requires.observed_le_kind_limit
+    move_count c.args.table.now c.args.shape c.args.row _ c.first_cell.ensures c.if-first_cell.false c.requires.observed_le_kind_limit

@@ -1,7 +1,7 @@
 -- `wellformed::checking::rank_fits` meets its contract.
 -- Assumes nothing.
 use borrow.Author.Rules.{rules}
-use Rattle.wellformed.proofs.WellFormedLaws.{row_room, rank-out, rank-stops, rank-goes}
+use Rattle.wellformed.proofs.WellFormedLaws.{row_room, rank_out, rank_stops, rank_goes}
 use Rattle.wellformed.proofs.checking.rank_fits.Goals as goal
 
 pub rank_cell-rank-requires : goal.rank_cell-rank-requires
@@ -10,7 +10,7 @@ rank_cell-rank-requires c =
 
 pub returns-then-rank-shape : goal.returns-then-rank-shape
 returns-then-rank-shape c =
-    rank-out c.args.table.now c.args.shape c.args.row _ c.rank_cell-rank.ensures c.if-rank-shape.true
+    rank_out c.args.table.now c.args.shape c.args.row _ c.rank_cell-rank.ensures c.if-rank-shape.true
 
 pub first_cell-requires : goal.first_cell-requires
 first_cell-requires c =
@@ -18,8 +18,8 @@ first_cell-requires c =
 
 pub returns-then-first_cell : goal.returns-then-first_cell
 returns-then-first_cell c =
-    rank-stops c.args.table.now c.args.shape c.args.row _ c.rank_cell-rank.ensures c.if-rank-shape.false _ c.first_cell.ensures c.if-first_cell.true
+    rank_stops c.args.table.now c.args.shape c.args.row _ c.rank_cell-rank.ensures c.if-rank-shape.false _ c.first_cell.ensures c.if-first_cell.true
 
 pub returns : goal.returns
 returns c =
-    rank-goes c.args.table.now c.args.shape c.args.row _ c.rank_cell-rank.ensures c.if-rank-shape.false _ c.first_cell.ensures c.if-first_cell.false
+    rank_goes c.args.table.now c.args.shape c.args.row _ c.rank_cell-rank.ensures c.if-rank-shape.false _ c.first_cell.ensures c.if-first_cell.false

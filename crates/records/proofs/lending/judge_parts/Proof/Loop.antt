@@ -65,8 +65,8 @@ use Rattle.rules.specs.contracts.judging.Verdict as Vd
 use Rattle.rules.proofs.judging.Verdict.TheLaws as Vd'
 use Rattle.records.specs.Judging.{judged_in, JudgedBy, count_taken, list_to}
 use Rattle.records.specs.declared.listing.PartList.{PartList}
-use Rattle.records.proofs.JudgingLaws.{list_more, held_none, held_more, count_room, count-few, judged_list}
-use Rattle.records.proofs.JudgedByIffDue.{judged-by}
+use Rattle.records.proofs.JudgingLaws.{list_more, held_none, held_more, count_room, count_few, judged_list}
+use Rattle.records.proofs.JudgedByIffDue.{judged_by_lem}
 use Rattle.records.specs.contracts.listing.PartList as L
 use Rattle.records.proofs.listing.PartList.TheLaws as L'
 use Rattle.records.specs.contracts.listing.with_part as with_part
@@ -223,7 +223,7 @@ module _ {M : Type 1} {𝓤 : Ura M} (𝓛 : Logic 𝓤) (mem : Memory → SProp
     in-room = subst (λ (k : ℕ). k ≤ length ys) (sym en) (count_room (length ys) z)
 
     in_list : n ≤ part_limit
-    in_list = subst (λ (k : ℕ). k ≤ part_limit) (sym en) (count-few (length ys) z)
+    in_list = subst (λ (k : ℕ). k ≤ part_limit) (sym en) (count_few (length ys) z)
 
     -- how far the loop is, with what is known of the list and of the records there
     abbrev Upto : Type 0
@@ -358,7 +358,7 @@ module _ {M : Type 1} {𝓤 : Ura M} (𝓛 : Logic 𝓤) (mem : Memory → SProp
           told r k e held j =
               let is = j ∙ ap (λ (m : ℕ). judged_in (length ys) z (parts_in (take z.parts (list_to ys m).codes)) xs) e
               ∙ judged_list ys z xs (subst (λ (m : ℕ). Held (take m ys)) e held) in
-              (is, judged-by (length ys) z (take z.parts ys) xs r is)
+              (is, judged_by_lem (length ys) z (take z.parts ys) xs r is)
 
       -- the borrow of the records is taken out, and the loop runs
       pub fills : LooksLike 0 → Sq 𝓛 (‵ (froom T'.mir l₁₁ 0) ∷ ‵ (fdies T'.mir l₁₁) ∷ ‵ (froom ty_ptr l₁₀ 0) ∷ ‵ (fdies ty_ptr l₁₀)

@@ -64,7 +64,7 @@ use Rattle.rules.specs.Problem.{Outcome}
 use Rattle.rules.specs.Reading.{reading_of, told_reading}
 use Rattle.records.specs.Reading.{read_into, parts_given, records_after, ListedAs, listing_of}
 use Rattle.records.specs.declared.listing.Listing.{Listing}
-use Rattle.records.proofs.ReadingLaws.{given_few, given_room, listed-part, up_to, up_to_more, up_to_length, up_to_all}
+use Rattle.records.proofs.ReadingLaws.{given_few, given_room, listed_part, up_to, up_to_more, up_to_length, up_to_all}
 use Rattle.records.proofs.ListedIffDue.{listed_as}
 use Rattle.records.specs.contracts.listing.Listing as S
 use Rattle.records.proofs.listing.Listing.TheLaws as S'
@@ -157,11 +157,11 @@ module _ {M : Type 1} {𝓤 : Ura M} (𝓛 : Logic 𝓤) (mem : Memory → SProp
     abbrev ps : List Part
     ps = parts_given outcome
 
-    count-is : l.count ≡ length ps
-    count-is = ap (λ (m : Listing). m.count) e
+    count_is : l.count ≡ length ps
+    count_is = ap (λ (m : Listing). m.count) e
 
     part-is : (i : ℕ) → i < length ps → part_of (get_or l.codes i 0) ≡ part_at ps i
-    part-is i h = ap (λ (m : Listing). part_of (get_or m.codes i 0)) e ∙ listed-part (length ys) xs i h
+    part-is i h = ap (λ (m : Listing). part_of (get_or m.codes i 0)) e ∙ listed_part (length ys) xs i h
 
     abbrev mach : Val
     mach = LL.tuple_val S.the_type S'.the_laws ((S.the_type).to l)
@@ -288,13 +288,13 @@ module _ {M : Type 1} {𝓤 : Ura M} (𝓛 : Logic 𝓤) (mem : Memory → SProp
             keep ! (0 ∷ 1 ∷ 2 ∷ 4 ∷ 5 ∷ 3 ∷ []) $ by ! (exits r v (written i.0) (answer r er over) kept))))))
           where
             in_parts : T (ltb i.0 l.count) → i.0 < length ps
-            in_parts less = omega (arith, ltb→lt i.0 l.count less, count-is)
+            in_parts less = omega (arith, ltb→lt i.0 l.count less, count_is)
 
             below : T (ltb i.0 l.count) → i.0 < length ys
             below less = omega (arith, in_parts less, given_room (length ys) xs)
 
             fits : i.0 < 2 ^ 64
-            fits = omega (arith, i.1, count-is, given_room (length ys) xs, gn.0)
+            fits = omega (arith, i.1, count_is, given_room (length ys) xs, gn.0)
 
             few : T (ltb i.0 l.count) → i.0 < part_limit
             few less = omega (arith, in_parts less, given_few (length ys) xs)
@@ -306,7 +306,7 @@ module _ {M : Type 1} {𝓤 : Ura M} (𝓛 : Logic 𝓤) (mem : Memory → SProp
             next_fits less = omega (arith, below less, gn.0)
 
             kept : length (written i.0) ≡ length ys
-            kept = up_to_length ps ys (given_room (length ys) xs) i.0 (omega (arith, i.1, count-is))
+            kept = up_to_length ps ys (given_room (length ys) xs) i.0 (omega (arith, i.1, count_is))
 
             inside : T (ltb i.0 l.count) → i.0 < length (written i.0)
             inside less = subst (λ (n : ℕ). i.0 < n) (sym kept) (below less)
@@ -316,7 +316,7 @@ module _ {M : Type 1} {𝓤 : Ura M} (𝓛 : Logic 𝓤) (mem : Memory → SProp
 
             all-written : T (not (ltb i.0 l.count)) → written i.0 ≡ records_after xs ys
             all-written over =
-                ap written (le_antisymm i.1 (nltb→le i.0 l.count over) ∙ count-is) ∙ up_to_all ps ys (given_room (length ys) xs)
+                ap written (le_antisymm i.1 (nltb→le i.0 l.count over) ∙ count_is) ∙ up_to_all ps ys (given_room (length ys) xs)
 
             answer : (r : Reading) → r ≡ l.reading → T (not (ltb i.0 l.count))
                 → (r ≡ reading_of outcome) × (written i.0 ≡ records_after xs ys) × ListedAs xs ys (told_reading r) (written i.0)
