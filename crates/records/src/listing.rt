@@ -1,5 +1,6 @@
 // Parts by value, as an array of numbers: what the calls that lend records are made of.
 ghost use Rattle.std.specs.Prelude.{◌≡◌, ◌<◌, get_or, set, take};
+ghost use Rattle.basics.specs.Limits.{index_limit};
 ghost use Rattle.formula.specs.Limits.{part_limit};
 ghost use Rattle.formula.specs.Parts.{no_part};
 ghost use Rattle.formula.specs.Codes.{code_of, part_of, parts_in};
@@ -86,10 +87,11 @@ pub(crate) fn no_parts() -> PartList
     }
 }
 
-// The list with part i stored.
+// The list with part i stored, whose numbers are bytes.
 pub(crate) fn with_part(l: PartList, i: usize, p: Part) -> PartList
     requires { i < part_limit }
-    ensures { result ≡ record { codes = set l.codes i (code_of p) } }
+    ensures value { result ≡ record { codes = set l.codes i (code_of p) } }
+    ensures bytes { (p.left < index_limit) × (p.right < index_limit) }
 {
     let mut next = l;
     next.codes[i] = code_of(p);

@@ -38,9 +38,9 @@ pub loop-i-preserved : goal.loop-i-preserved
 loop-i-preserved c =
     let (in-a, in_b) = in_both c.loop-i.i (length c.args.a.now) (length c.args.b.now) c.loop-i-test.true in
     elim c.if-a-i-eq-LINE_END.branch [
-      | then-a-i-eq-LINE_END w ↦ rw w.line_is
+      | then-a-i-eq-LINE_END w ↦ rw w.line-is
           (omega arith, omega arith, omega arith, c.loop-i.invariant.3 ∙ line_more c.args.a.now c.args.b.now c.loop-i.line c.loop-i.i in-a in_b c.if-a-i.false w.if-a-i-eq-LINE_END.true)
-      | else-a-i-eq-LINE_END w ↦ rw w.line_is
+      | else-a-i-eq-LINE_END w ↦ rw w.line-is
           (omega arith, omega arith, omega arith, c.loop-i.invariant.3 ∙ line_same c.args.a.now c.args.b.now c.loop-i.line c.loop-i.i in-a in_b c.if-a-i.false w.if-a-i-eq-LINE_END.false)
     ]
 

@@ -17,10 +17,6 @@ use Rattle.records.proofs.JudgingLaws.{few_iff, short_is, signals_is, many_is, n
 use borrow.Author.Rules.{rules}
 use Rattle.records.proofs.listing.judge_list.Goals as goal
 
--- the array of a list that is passed has its length
-codes-long : (l : PartList) → Is L.the_row l (LL.val L.the_type L'.the_laws l ∷ []) → length l.codes ≡ 96
-codes-long l g = sym (length-map l.codes (λ (v : ℕ). v)) ∙ (LL.owed L.the_type L'.the_laws l _ g).0.1.0.1
-
 pub returns-then-room-n : goal.returns-then-room-n
 returns-then-room-n c =
     sym (short_is c.args.room c.args.s _ c.args.trace.now c.if-room-n.true)
@@ -42,17 +38,17 @@ returns-then-n-eq0 c =
 
 pub slice_bounds-codes-end : goal.slice_bounds-codes-end
 slice_bounds-codes-end c =
-    omega (arith, codes-long c.args.l c.well_formed.0, c.if-n-gt-PART_LIMIT.false)
+    omega (arith, c.if-n-gt-PART_LIMIT.false)
 
 pub slice_bounds-judge_trace-end : goal.slice_bounds-judge_trace-end
 slice_bounds-judge_trace-end c =
     sym (length-take-le c.args.s.parts c.args.l.codes
-    (omega (arith, codes-long c.args.l c.well_formed.0, c.if-n-gt-PART_LIMIT.false)))
+    (omega (arith, c.if-n-gt-PART_LIMIT.false)))
 
 pub judge_trace-requires : goal.judge_trace-requires
 judge_trace-requires c =
     let n = length-take-le c.args.s.parts c.args.l.codes
-    (omega (arith, codes-long c.args.l c.well_formed.0, c.if-n-gt-PART_LIMIT.false)) in
+    (omega (arith, c.if-n-gt-PART_LIMIT.false)) in
     let f = (few_iff (counts_of c.args.s)).0 (sym c.few_signals.ensures ∙ not-false c.few_signals.result c.if-not-few_signals.false-raw) in
     record { parts_nonzero = (omega (arith, n, c.if-n-eq0.false), omega (arith, n, c.if-n-gt-PART_LIMIT.false)); outputs_le_kind_limit = (f.outputs, f.observed, f.hidden) }
 

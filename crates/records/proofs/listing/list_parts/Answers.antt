@@ -5,11 +5,12 @@ use mathlib.Core.Logic.{⊎_elim}
 use Rattle.records.proofs.ReadingLaws.{listed_short, listed_read}
 use borrow.Author.Rules.{rules}
 use Rattle.records.proofs.listing.list_parts.Goals as goal
+use Rattle.records.proofs.listing.list_parts.Goals.{else-room-ge-PART_LIMIT, then-room-ge-PART_LIMIT}
 
 pub returns : goal.returns
 returns c =
-    ⊎_elim
-    (λ w. listed_read c.args.room c.args.source.now _ _ _ w.0.taken (w.4 ∙ w.2.ensures.1.0) (w.5 ∙ w.2.ensures.0)
-    c.count_of.ensures)
-    (λ w. listed_short c.args.room c.args.source.now _ _ _ w.0.left w.1 w.2 c.count_of.ensures)
-    c.if-room-ge-PART_LIMIT.branch
+    elim c.if-room-ge-PART_LIMIT.branch [
+      | then-room-ge-PART_LIMIT w ↦ listed_read c.args.room c.args.source.now _ _ _ w.if-room-ge-PART_LIMIT.true (w.codes-is ∙ w.read-reading.ensures.parts_after) (w.reading-is ∙ w.read-reading.ensures.value)
+          c.count_of.ensures
+      | else-room-ge-PART_LIMIT w ↦ listed_short c.args.room c.args.source.now _ _ _ w.if-room-ge-PART_LIMIT.false w.codes-is w.reading-is c.count_of.ensures
+    ]

@@ -1,2 +1,0 @@
--- What the proofs of `records::lending` use.
-pub mod Walk
