@@ -1,2 +1,0 @@
--- What the proofs of `stepping::position` use.
-pub mod Walk
