@@ -1,6 +1,9 @@
 // What `control --help` writes: one screen.
-pub(crate) fn explain() {
+use streams::Console;
+
+pub(crate) fn explain(console: Console) {
     streams::say_last(
+        console,
         b"control",
         b"control runs a controller table by hand, as it is tried at the bench: it writes
 the first choice, then reads an observation and writes the next choice, and so

@@ -1,7 +1,7 @@
 -- What is known of an argument, and what it asks for. Assumes nothing.
 use Rattle.std.specs.Prelude.{ℕ, Bool, false, ◌||◌, List, [], ◌∷◌, eqb}
-use Rattle.basics.specs.Bytes.{bytes_of, same_bytes}
 use Rattle.io.specs.Counts.{IsPrefixLen}
+use Rattle.basics.specs.Bytes.{bytes_of, same_bytes}
 use Rattle.streams.specs.declared.arguments.Argument.{Argument}
 use Rattle.streams.specs.declared.arguments.Argument.TheVariants.{Given, Missing, Long}
 

@@ -2,8 +2,11 @@
 ghost use Rattle.std.specs.Prelude.{◌≡◌};
 ghost use Rattle.streams.specs.Arguments.{Held, is_help, is_option};
 
-use crate::writing::fail;
+use crate::writing::{Console, fail, tell};
 use basics::same;
+use std::env::{Env, FillError};
+use std::fs::{File, Files};
+use std::str;
 
 // An argument: so many bytes of the buffer, none, or more than the buffer has room for.
 #[derive(Clone, Copy)]
@@ -14,18 +17,13 @@ pub enum Argument {
 }
 
 // Puts an argument into a buffer; the program's own first has number 1. An empty one is given.
-pub fn argument_at(i: usize, buffer: &mut [u8]) -> Argument
+pub fn argument_at<E: Env>(rt: &E, i: usize, buffer: &mut [u8]) -> Argument
     ensures { Held result buffer.new }
 {
-    let n = os::arg(i, buffer);
-    let error = os::errno();
-    if error == 0 {
-        return Argument::Given(n);
-    }
-    if error == libc::EINVAL {
-        Argument::Missing
-    } else {
-        Argument::Long
+    match rt.arg(i, buffer) {
+        Ok(n) => Argument::Given(n),
+        Err(FillError::NotPresent) => Argument::Missing,
+        Err(FillError::TooLong) => Argument::Long,
     }
 }
 
@@ -46,11 +44,17 @@ pub fn is_option(argument: &[u8]) -> bool
     argument[0] == b'-'
 }
 
-// Opens a file for reading, and answers a descriptor, or -1. A failure is told with the file's name.
-pub fn open(program: &[u8], path: &[u8]) -> i32 {
-    let fd = os::open_read(path);
-    if fd < 0 {
-        fail(program, path);
+// Opens a file for reading. A failure is told with the file's name, which has to be UTF-8.
+pub fn open<F: Files>(rt: &F, console: Console, program: &[u8], path: &[u8]) -> Option<F::File> {
+    let Ok(name) = str::from_utf8(path) else {
+        tell(console, program, path, b"no UTF-8 text");
+        return None;
+    };
+    match File::open(rt, name) {
+        Ok(file) => Some(file),
+        Err(error) => {
+            fail(console, program, path, error);
+            None
+        }
     }
-    fd
 }

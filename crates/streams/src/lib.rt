@@ -13,4 +13,4 @@ mod writing;
 pub use arguments::{Argument, argument_at, is_help, is_option, open};
 pub use reading::{Input, drain, first, read_to_end};
 pub use reading_lines::{Line, read_line, skip_line};
-pub use writing::{close_output, fail, say, say_last, say_number, tell};
+pub use writing::{Console, close_output, fail, say, say_last, say_number, tell};

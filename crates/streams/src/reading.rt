@@ -1,57 +1,59 @@
 // Reading an input to its end.
 ghost use Rattle.std.specs.Prelude.{length, take, ◌≡◌};
-ghost use Rattle.libc.specs.Io.{Moved};
+ghost use Rattle.std.specs.Io.{ReadsAtMost};
 ghost use Rattle.streams.specs.Reading.{ended_at, Within};
 
-use libc::EINTR;
+use std::io;
+use std::io::{ErrorKind, Read};
 
 // What is known of an input: that it has so many bytes and no more; that it fills the buffer, so that there may be more; or that a read
-// failed, and errno says why.
+// failed, and why.
 #[derive(Clone, Copy)]
 pub enum Input {
     Whole(usize),
     Longer,
-    Failed,
+    Failed(io::Error),
 }
 
 // One read, tried again where a signal interrupts it. A proved loop has to end: this one counts down from a number that no run uses up, and
 // what is answered then is a failed read.
-pub(crate) fn read_some(fd: i32, buffer: &mut [u8]) -> isize
-    ensures { Moved (length buffer.old) result }
+pub(crate) fn read_some<R: Read>(input: &mut R, buffer: &mut [u8]) -> io::Result<usize>
+    ensures { ReadsAtMost result buffer.new }
 {
-    let mut turns = u64::MAX;
-    while turns > 0 {
-        let got = libc::read(fd, buffer);
-        if got >= 0 || os::errno() != EINTR {
-            return got;
+    for _ in 0..u64::MAX {
+        match input.read(buffer) {
+            Ok(n) => return Ok(n),
+            Err(error) => {
+                if error.kind() != ErrorKind::Interrupted {
+                    return Err(error);
+                }
+            }
         }
-        turns -= 1;
     }
-    -1
+    Err(io::Error::from(ErrorKind::Interrupted))
 }
 
 // What a read that brought no byte tells, behind some bytes: that they are the whole input, or, where it failed, nothing of the kind.
-fn ended(got: isize, done: usize) -> Input
+fn ended(got: io::Result<usize>, done: usize) -> Input
     ensures { result ≡ ended_at got done }
 {
-    if got < 0 {
-        Input::Failed
-    } else {
-        Input::Whole(done)
+    match got {
+        Err(error) => Input::Failed(error),
+        Ok(_) => Input::Whole(done),
     }
 }
 
 // Reads an input to its end. A caller that can use n bytes lends a buffer of n + 1, so that `Longer` says that there are more than n.
-pub fn read_to_end(fd: i32, buffer: &mut [u8]) -> Input
+pub fn read_to_end<R: Read>(input: &mut R, buffer: &mut [u8]) -> Input
     ensures { Within result buffer.new }
 {
     let mut done = 0;
     while done < buffer.len() {
-        let got = read_some(fd, &mut buffer[done..]);
-        if got <= 0 {
-            return ended(got, done);
+        let got = read_some(input, &mut buffer[done..]);
+        match got {
+            Ok(0) | Err(_) => return ended(got, done),
+            Ok(n) => done += n,
         }
-        done += got as usize;
     }
     Input::Longer
 }
@@ -67,15 +69,19 @@ pub fn first(buffer: &[u8], n: usize) -> &[u8]
 }
 
 // Reads on, and answers whether there was more.
-fn skip_some(fd: i32) -> bool {
-    let mut bytes = io::buffer();
-    read_some(fd, &mut bytes) > 0
+fn skip_some<R: Read>(input: &mut R) -> bool {
+    let mut bytes = [0u8; 4096];
+    match read_some(input, &mut bytes) {
+        Ok(n) => n > 0,
+        Err(_) => false,
+    }
 }
 
 // Reads the rest of an input, up to its end or a read that fails, so that whoever writes it is not cut off.
-pub fn drain(fd: i32) {
-    let mut turns = u64::MAX;
-    while turns > 0 && skip_some(fd) {
-        turns -= 1;
+pub fn drain<R: Read>(input: &mut R) {
+    for _ in 0..u64::MAX {
+        if !skip_some(input) {
+            return;
+        }
     }
 }

@@ -1,8 +1,10 @@
 // What `synth --help` writes: one screen.
 use crate::write;
+use streams::Console;
 
-pub(crate) fn explain() {
+pub(crate) fn explain(console: Console) {
     write(
+        console,
         b"synth finds a controller for a problem of LTLf synthesis under partial
 observability, with the smallest worst-case number of steps, or says that none
 wins, or refuses the problem with a number.

@@ -1,4 +1,0 @@
-pub mod ArgumentsLaws
-pub mod MovedBytes
-pub mod ReadingLaws
-pub mod LinesLaws
