@@ -15,7 +15,7 @@ use Rattle.rules.specs.Satisfies.{Satisfies}
 use Rattle.search.specs.Limits.{state_limit}
 use Rattle.basics.specs.Member.{◌∈◌}
 use Rattle.obligations.specs.Letters.{letters_of}
-use Rattle.search.specs.PatternSet.{PatternSet, accepts, start, next, after}
+use Rattle.search.specs.PatternSet.{PatternSet, accepts, start, after}
 use Rattle.obligations.specs.Obligation.{operators_of, back}
 use Rattle.basics.specs.Reach.{closed}
 use Rattle.search.specs.ReachableSets.{same_set, next_sets, reachable_sets}

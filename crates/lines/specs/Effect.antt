@@ -2,7 +2,6 @@
 -- their order (REFERENCE.md, A problem and Refusals).
 -- Assumes nothing.
 use Rattle.std.specs.Prelude.{ℕ, zero, suc, ◌+◌, ◌*◌, Bool, true, not, ◌&&◌, ◌||◌, cond, List, [], ◌∷◌, eqb, ltb, set, replicate}
-use Rattle.std.proofs.Math.Option.{none, some}
 use Rattle.syntax.specs.declared.lex.Token.{Token}
 use Rattle.basics.specs.Bytes.{between}
 use Rattle.syntax.specs.declared.plans.PlanWord.{PlanWord}

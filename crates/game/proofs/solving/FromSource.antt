@@ -10,7 +10,6 @@ use Rattle.lines.specs.declared.problem.Sizes.{Sizes}
 use Rattle.lines.specs.Memory.{order_in}
 use Rattle.lines.specs.declared.problem.Reading.{Reading}
 use Rattle.lines.specs.declared.problem.Reading.TheVariants as reading
-use Rattle.formula.specs.Formula.{operators}
 use Rattle.basics.specs.Limits.{operator_limit}
 use Rattle.rules.specs.Reading.{reading_of, sizes_of}
 use Rattle.formula.specs.Codes.{parts_in}

@@ -1,9 +1,5 @@
-use borrow.Author.Rules.{rules}
-use Prim.Native.Nat.{◌≤◌, ◌-◌}
 use native.Mathlib.Omega.{arith}
-use mathlib.Core.Path.{◌≡◌, ◌∙◌}
-use lib.ListN.{length}
-use Rattle.beliefs.specs.BeliefMemory.{belief_size, with_hidden}
+use mathlib.Core.Path.{◌∙◌}
 use Rattle.beliefs.proofs.BeliefMemoryLaws.{hidden_place, hidden_state, hidden_none, hidden_more, hidden_done}
 use Rattle.beliefs.proofs.believing.add_hidden.Goals as goal
 

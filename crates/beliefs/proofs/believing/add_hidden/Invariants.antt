@@ -1,12 +1,9 @@
 -- `beliefs::believing::add_hidden` meets its contract. The invariant: the states of the hidden values passed are added.
 -- Assumes nothing.
-use borrow.Author.Rules.{rules}
 use Prim.Native.Nat.{◌≤◌, ◌-◌}
-use native.Mathlib.Omega.{arith}
-use mathlib.Core.Path.{◌≡◌, ◌∙◌}
+use mathlib.Core.Path.{◌≡◌}
 use lib.ListN.{length}
 use Rattle.beliefs.specs.BeliefMemory.{belief_size, with_hidden}
-use Rattle.beliefs.proofs.BeliefMemoryLaws.{hidden_place, hidden_state, hidden_none, hidden_more, hidden_done}
 use Rattle.beliefs.proofs.believing.add_hidden.Given as goal
 
 abbrev pub invariant-loop-h : goal.invariant-loop-h

@@ -1,6 +1,5 @@
 -- `beliefs::believing::add_state` meets its contract.
 -- Assumes nothing.
-use borrow.Author.Rules.{rules}
 use Rattle.beliefs.proofs.BeliefMemoryLaws.{state_set}
 use Rattle.beliefs.proofs.believing.add_state.Goals as goal
 

@@ -1,8 +1,5 @@
-use borrow.Author.Rules.{rules}
-use Prim.Native.Nat.{◌≤◌, ◌-◌}
 use native.Mathlib.Omega.{arith}
 use mathlib.Core.Path.{◌≡◌, sym, ap, ◌∙◌}
-use mathlib.Core.Bool.{true}
 use Rattle.beliefs.specs.BeliefMemory.{all_accept}
 use Rattle.beliefs.proofs.believing.MemberLoop.{accept_none, accept_more, accept_fails}
 use Rattle.beliefs.proofs.believing.is_final.Goals as goal

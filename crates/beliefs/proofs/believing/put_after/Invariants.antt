@@ -1,12 +1,9 @@
 -- `beliefs::believing::put_after` meets its contract. The invariant: the bytes have what the members passed lead to.
 -- Assumes nothing.
-use borrow.Author.Rules.{rules}
 use Prim.Native.Nat.{◌≤◌, ◌-◌}
-use native.Mathlib.Omega.{arith}
-use mathlib.Core.Path.{◌≡◌, ap, ◌∙◌}
+use mathlib.Core.Path.{◌≡◌}
 use lib.ListN.{length}
 use Rattle.beliefs.specs.BeliefMemory.{belief_size, after_members}
-use Rattle.beliefs.proofs.believing.MemberLoop.{after_none, after_more}
 use Rattle.beliefs.proofs.believing.put_after.Given as goal
 
 abbrev pub invariant-loop-i : goal.invariant-loop-i

@@ -1,12 +1,10 @@
-use borrow.Author.Rules.{rules}
-use Prim.Native.Nat.{◌≤◌, ◌<◌, ◌-◌}
+use Prim.Native.Nat.{◌<◌}
 use native.Mathlib.Omega.{arith}
 use mathlib.Core.Path.{sym, ◌∙◌}
-use mathlib.Core.Logic.{⊎_elim}
 use Rattle.search.specs.Limits.{state_limit}
 use Rattle.beliefs.proofs.LimitsLaws.{state_byte}
-use Rattle.beliefs.proofs.believing.MemberLoop.{in_belief, present_true, present_false}
-use Rattle.beliefs.proofs.believing.MemberLoop.{Gathered, gathered_none, gathered_there, gathered_not, gathered_all}
+use Rattle.beliefs.proofs.believing.MemberLoop.{present_true, present_false}
+use Rattle.beliefs.proofs.believing.MemberLoop.{gathered_none, gathered_there, gathered_not, gathered_all}
 use Rattle.beliefs.proofs.believing.put_members.Goals as goal
 use Rattle.beliefs.proofs.believing.put_members.Goals.{else-mem-at-eq1, then-mem-at-eq1}
 

@@ -1,14 +1,8 @@
 -- `beliefs::believing::put_members` meets its contract. The invariant: the states passed that are in the belief are listed.
 -- Assumes nothing.
-use borrow.Author.Rules.{rules}
-use Prim.Native.Nat.{◌≤◌, ◌<◌, ◌-◌}
-use native.Mathlib.Omega.{arith}
-use mathlib.Core.Path.{sym, ◌∙◌}
-use mathlib.Core.Logic.{⊎_elim}
-use Rattle.search.specs.Limits.{state_limit}
-use Rattle.beliefs.proofs.LimitsLaws.{state_byte}
-use Rattle.beliefs.proofs.believing.MemberLoop.{in_belief, present_true, present_false}
-use Rattle.beliefs.proofs.believing.MemberLoop.{Gathered, gathered_none, gathered_there, gathered_not, gathered_all}
+use Prim.Native.Nat.{◌≤◌, ◌-◌}
+use Rattle.beliefs.proofs.believing.MemberLoop.{in_belief}
+use Rattle.beliefs.proofs.believing.MemberLoop.{Gathered}
 use Rattle.beliefs.proofs.believing.put_members.Given as goal
 
 abbrev pub invariant-loop-s : goal.invariant-loop-s

@@ -1,10 +1,7 @@
-use Prim.Native.Nat.{◌-◌}
 use native.Mathlib.Omega.{arith}
 use mathlib.Core.Path.{refl, sym, ap, ◌∙◌}
-use mathlib.Core.Logic.{⊎_elim}
 use lib.ListN.{length}
-use borrow.Author.Rules.{rules}
-use Rattle.beliefs.proofs.counting.PairLoop.{place_small, Kept, kept_none, put_asked, kept_copy, kept_old, kept_new, kept_over, kept_all}
+use Rattle.beliefs.proofs.counting.PairLoop.{place_small, kept_none, put_asked, kept_copy, kept_old, kept_new, kept_over, kept_all}
 use Rattle.beliefs.proofs.counting.expand_belief.Goals as goal
 use Rattle.beliefs.proofs.counting.expand_belief.Goals.{else-b-q+else-t-eq-BELIEF_LIMIT, else-t-m, then-b-q, then-t-m}
 

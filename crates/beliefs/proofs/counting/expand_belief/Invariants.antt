@@ -2,12 +2,8 @@
 -- behind those that were there, and the row has their places.
 -- Assumes nothing.
 use Prim.Native.Nat.{◌-◌}
-use native.Mathlib.Omega.{arith}
-use mathlib.Core.Path.{refl, sym, ap, ◌∙◌}
-use mathlib.Core.Logic.{⊎_elim}
 use lib.ListN.{length}
-use borrow.Author.Rules.{rules}
-use Rattle.beliefs.proofs.counting.PairLoop.{place_small, Kept, kept_none, put_asked, kept_copy, kept_old, kept_new, kept_over, kept_all}
+use Rattle.beliefs.proofs.counting.PairLoop.{Kept}
 use Rattle.beliefs.proofs.counting.expand_belief.Given as goal
 
 abbrev pub invariant-loop-q : goal.invariant-loop-q

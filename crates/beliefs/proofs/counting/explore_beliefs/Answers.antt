@@ -4,11 +4,9 @@ use Prim.Native.Nat.{ℕ, ◌*◌}
 use native.Mathlib.Omega.{arith}
 use mathlib.Core.Path.{sym, ◌∙◌}
 use lib.ListN.{length-replicate}
-use borrow.Author.Rules.{rules}
 use Rattle.basics.proofs.ListsLaws.{zeros_length}
 use Rattle.play.specs.Limits.{belief_limit, pair_limit}
 use Rattle.beliefs.proofs.counting.Explored.{explored_few, explored_room, explored_moves, explored_finals, cleared_moves, left_finals}
-use borrow.Author.Rules.{rules}
 use Rattle.beliefs.proofs.counting.explore_beliefs.Goals as goal
 
 pub count_beliefs-requires : goal.count_beliefs-requires

@@ -4,11 +4,9 @@ use Prim.Native.Nat.{◌/◌}
 use native.Mathlib.Omega.{arith}
 use mathlib.Core.Path.{ap}
 use lib.ListN.{length, set}
-use borrow.Author.Rules.{rules}
 use Rattle.search.specs.Limits.{set_size}
 use Rattle.beliefs.proofs.believing.MemberLoop.{members_fewer}
 use Rattle.beliefs.proofs.counting.VisitLoop.{mark_is}
-use borrow.Author.Rules.{rules}
 use Rattle.beliefs.proofs.counting.mark_belief.Goals as goal
 
 pub is_final-requires : goal.is_final-requires

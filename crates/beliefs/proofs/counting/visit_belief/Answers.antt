@@ -3,7 +3,6 @@
 use Prim.Native.Nat.{◌<◌}
 use native.Mathlib.Omega.{arith}
 use lib.ListN.{length}
-use borrow.Author.Rules.{rules}
 use Rattle.beliefs.specs.BeliefMemory.{belief_in}
 use Rattle.beliefs.proofs.counting.VisitLoop.{visited_final, visited_other}
 use Rattle.beliefs.proofs.counting.visit_belief.Goals as goal

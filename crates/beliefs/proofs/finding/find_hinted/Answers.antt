@@ -2,7 +2,6 @@
 -- Assumes nothing.
 use native.Mathlib.Omega.{arith}
 use mathlib.Core.Path.{sym, ◌∙◌}
-use borrow.Author.Rules.{rules}
 use Rattle.beliefs.proofs.LimitsLaws.{belief_byte}
 use Rattle.beliefs.proofs.ApartPlaces.{only_place}
 use Rattle.beliefs.proofs.finding.find_hinted.Goals as goal

@@ -1,7 +1,6 @@
-use Prim.Native.Nat.{◌+◌, ◌*◌, ◌-◌, ◌≤◌, ◌<◌}
+use Prim.Native.Nat.{◌+◌, ◌*◌}
 use native.Mathlib.Omega.{arith}
-use borrow.Author.Rules.{rules}
-use Rattle.beliefs.specs.BeliefMemory.{belief_size, hint_size}
+use Rattle.beliefs.specs.BeliefMemory.{belief_size}
 use Rattle.beliefs.proofs.finding.hint_at.Goals as goal
 
 pub overflow_cast-x : goal.overflow_cast-x

@@ -1,8 +1,6 @@
 -- `beliefs::finding::hint_at` meets its contract. The invariant: the number is below the bound.
 -- Assumes nothing.
-use Prim.Native.Nat.{◌+◌, ◌*◌, ◌-◌, ◌≤◌, ◌<◌}
-use native.Mathlib.Omega.{arith}
-use borrow.Author.Rules.{rules}
+use Prim.Native.Nat.{◌-◌, ◌≤◌, ◌<◌}
 use Rattle.beliefs.specs.BeliefMemory.{belief_size, hint_size}
 use Rattle.beliefs.proofs.finding.hint_at.Given as goal
 

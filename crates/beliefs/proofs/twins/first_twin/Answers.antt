@@ -1,10 +1,7 @@
-use borrow.Author.Rules.{rules}
-use Prim.Native.Nat.{◌≤◌, ◌-◌}
 use native.Mathlib.Omega.{arith}
 use mathlib.Core.Path.{◌≡◌, sym, ◌∙◌}
-use Rattle.basics.specs.Bounded.{first_that}
 use Rattle.basics.proofs.BoundedLaws.{first_none, first_more, first_found, first_end}
-use Rattle.beliefs.specs.Twins.{same_pairs, first_twin}
+use Rattle.beliefs.specs.Twins.{first_twin}
 use Rattle.beliefs.proofs.twins.first_twin.Goals as goal
 
 pub loop-b-init : goal.loop-b-init

@@ -1,12 +1,9 @@
 -- `beliefs::twins::first_twin` meets its contract. The invariant: no pair passed leads where pair a leads.
 -- Assumes nothing.
-use borrow.Author.Rules.{rules}
 use Prim.Native.Nat.{◌≤◌, ◌-◌}
-use native.Mathlib.Omega.{arith}
-use mathlib.Core.Path.{◌≡◌, sym, ◌∙◌}
+use mathlib.Core.Path.{◌≡◌}
 use Rattle.basics.specs.Bounded.{first_that}
-use Rattle.basics.proofs.BoundedLaws.{first_none, first_more, first_found, first_end}
-use Rattle.beliefs.specs.Twins.{same_pairs, first_twin}
+use Rattle.beliefs.specs.Twins.{same_pairs}
 use Rattle.beliefs.proofs.twins.first_twin.Given as goal
 
 abbrev pub invariant-loop-b : goal.invariant-loop-b

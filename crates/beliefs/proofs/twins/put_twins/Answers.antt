@@ -1,10 +1,5 @@
-use borrow.Author.Rules.{rules}
-use Prim.Native.Nat.{◌≤◌, ◌-◌}
 use native.Mathlib.Omega.{arith}
-use mathlib.Core.Path.{◌≡◌}
-use mathlib.Core.List.{◌++◌}
-use lib.ListN.{length, drop, length-set}
-use Rattle.basics.specs.Lists.{tabulate}
+use lib.ListN.{length-set}
 use Rattle.basics.proofs.Filling.{table_more, filled}
 use Rattle.basics.proofs.BoundedLaws.{first_le}
 use Rattle.beliefs.specs.Twins.{same_pairs, first_twin}

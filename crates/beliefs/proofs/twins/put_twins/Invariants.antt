@@ -1,16 +1,11 @@
 -- `beliefs::twins::put_twins` meets its contract. The invariant: the pairs passed have their twins.
 -- Assumes nothing.
-use borrow.Author.Rules.{rules}
 use Prim.Native.Nat.{◌≤◌, ◌-◌}
-use native.Mathlib.Omega.{arith}
 use mathlib.Core.Path.{◌≡◌}
 use mathlib.Core.List.{◌++◌}
-use lib.ListN.{length, drop, length-set}
+use lib.ListN.{length, drop}
 use Rattle.basics.specs.Lists.{tabulate}
-use Rattle.basics.proofs.Filling.{table_more, filled}
-use Rattle.basics.proofs.BoundedLaws.{first_le}
-use Rattle.beliefs.specs.Twins.{same_pairs, first_twin}
-use Rattle.beliefs.proofs.LimitsLaws.{pair_byte}
+use Rattle.beliefs.specs.Twins.{first_twin}
 use Rattle.beliefs.proofs.twins.put_twins.Given as goal
 
 abbrev pub invariant-loop-q : goal.invariant-loop-q

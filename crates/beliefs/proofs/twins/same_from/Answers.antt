@@ -1,8 +1,5 @@
-use borrow.Author.Rules.{rules}
-use Prim.Native.Nat.{◌≤◌, ◌-◌}
 use native.Mathlib.Omega.{arith}
 use mathlib.Core.Path.{◌≡◌, sym, ap, ◌∙◌}
-use mathlib.Core.Bool.{true}
 use Rattle.beliefs.specs.Twins.{same_from}
 use Rattle.beliefs.proofs.BeliefMemoryLaws.{hidden_place}
 use Rattle.beliefs.proofs.TwinsLaws.{from_none, from_more, from_fails}

@@ -1,13 +1,9 @@
 -- `beliefs::twins::same_from` meets its contract. The invariant: the pairs agree at the hidden values passed.
 -- Assumes nothing.
-use borrow.Author.Rules.{rules}
 use Prim.Native.Nat.{◌≤◌, ◌-◌}
-use native.Mathlib.Omega.{arith}
-use mathlib.Core.Path.{◌≡◌, sym, ap, ◌∙◌}
+use mathlib.Core.Path.{◌≡◌}
 use mathlib.Core.Bool.{true}
 use Rattle.beliefs.specs.Twins.{same_from}
-use Rattle.beliefs.proofs.BeliefMemoryLaws.{hidden_place}
-use Rattle.beliefs.proofs.TwinsLaws.{from_none, from_more, from_fails}
 use Rattle.beliefs.proofs.twins.same_from.Given as goal
 
 abbrev pub invariant-loop-h : goal.invariant-loop-h

@@ -1,9 +1,5 @@
-use borrow.Author.Rules.{rules}
-use borrow.Author.Tests.{not-true, not-false}
-use Prim.Native.Nat.{◌≤◌, ◌-◌}
 use native.Mathlib.Omega.{arith}
 use mathlib.Core.Path.{◌≡◌, sym, ap, ◌∙◌}
-use mathlib.Core.Bool.{true}
 use Rattle.beliefs.specs.Twins.{same_pairs}
 use Rattle.beliefs.proofs.TwinsLaws.{pairs_none, pairs_more, pairs_fails}
 use Rattle.beliefs.proofs.twins.same_pairs.Goals as goal

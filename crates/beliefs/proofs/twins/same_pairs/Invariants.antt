@@ -1,13 +1,9 @@
 -- `beliefs::twins::same_pairs` meets its contract. The invariant: the pairs agree from the states passed.
 -- Assumes nothing.
-use borrow.Author.Rules.{rules}
-use borrow.Author.Tests.{not-true, not-false}
 use Prim.Native.Nat.{◌≤◌, ◌-◌}
-use native.Mathlib.Omega.{arith}
-use mathlib.Core.Path.{◌≡◌, sym, ap, ◌∙◌}
+use mathlib.Core.Path.{◌≡◌}
 use mathlib.Core.Bool.{true}
 use Rattle.beliefs.specs.Twins.{same_pairs}
-use Rattle.beliefs.proofs.TwinsLaws.{pairs_none, pairs_more, pairs_fails}
 use Rattle.beliefs.proofs.twins.same_pairs.Given as goal
 
 abbrev pub invariant-loop-s : goal.invariant-loop-s

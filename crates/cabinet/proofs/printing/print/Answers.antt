@@ -1,6 +1,5 @@
 -- `cabinet::printing::print` meets its contract, by that of `put_table`.
 -- Assumes nothing.
-use borrow.Author.Rules.{rules}
 use Rattle.cabinet.proofs.PrintLaws.{print_short, print_refused, print_asks, print_done}
 use Rattle.cabinet.proofs.printing.print.Goals as goal
 

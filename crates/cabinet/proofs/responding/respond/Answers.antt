@@ -8,7 +8,6 @@ use lib.Seq.{length-take-le}
 use Rattle.wellformed.proofs.WellFormedLaws.{size_fits}
 use Rattle.cabinet.specs.declared.printing.Printed.TheVariants.{Text}
 use Rattle.cabinet.proofs.ResponseLaws.{tight_right, text_long, few_rows, rows_within, table_right, refusal_right}
-use borrow.Author.Rules.{rules}
 use Rattle.cabinet.proofs.responding.respond.Goals as goal
 
 pub returns-then-work-table : goal.returns-then-work-table

@@ -1,6 +1,5 @@
 -- `formula::evaluate::holds_on` meets its contract, by that of `entries_at`.
 -- Assumes nothing.
-use borrow.Author.Rules.{rules}
 use mathlib.Core.Path.{◌∙◌}
 use lib.ListN.{length}
 use Rattle.formula.proofs.evaluate.EntryLoop.{last_value_lem}

@@ -1,13 +1,10 @@
 -- `formula::evaluate::owed_back` meets its contract. The invariant: the obligations of the parts passed are written, from the entries as they were.
 -- Assumes nothing.
-use borrow.Author.Rules.{rules}
 use Prim.Native.Nat.{◌-◌, ◌≤◌}
-use native.Mathlib.Omega.{arith}
-use mathlib.Core.Path.{◌≡◌, refl, ap, ◌∙◌}
-use lib.ListN.{length, length-set}
+use mathlib.Core.Path.{◌≡◌}
+use lib.ListN.{length}
 use Rattle.formula.specs.Codes.{parts_in}
 use Rattle.formula.specs.Entries.{with_owed}
-use Rattle.formula.proofs.evaluate.EntryLoop.{owed_none, owed_more}
 use Rattle.formula.proofs.evaluate.owed_back.Given as goal
 
 abbrev pub invariant-loop-i : goal.invariant-loop-i

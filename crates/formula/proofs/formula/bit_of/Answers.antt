@@ -1,6 +1,5 @@
 -- `formula::formula::bit_of` meets its contract: a shift and a mask read one bit, and a letter has none from 16 on.
 -- Assumes nothing.
-use borrow.Author.Rules.{rules}
 use native.Mathlib.Omega.{arith}
 use mathlib.Core.Path.{sym}
 use lib.Pow.{pow_mono}

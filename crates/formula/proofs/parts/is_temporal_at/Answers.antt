@@ -1,6 +1,5 @@
 -- `formula::parts::is_temporal_at` meets its contract.
 -- Assumes nothing.
-use borrow.Author.Rules.{rules}
 use mathlib.Core.Path.{◌∙◌}
 use Rattle.formula.proofs.CodesLaws.{temporal_in}
 use Rattle.formula.proofs.parts.is_temporal_at.Goals as goal

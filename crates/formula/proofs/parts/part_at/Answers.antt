@@ -1,6 +1,5 @@
 -- `formula::parts::part_at` meets its contract.
 -- Assumes nothing.
-use borrow.Author.Rules.{rules}
 use mathlib.Core.Path.{sym, ◌∙◌}
 use Rattle.formula.proofs.CodesLaws.{part_in}
 use Rattle.formula.proofs.parts.part_at.Goals as goal

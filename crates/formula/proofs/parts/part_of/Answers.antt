@@ -1,6 +1,5 @@
 -- `formula::parts::part_of` meets its contract.
 -- Assumes nothing.
-use borrow.Author.Rules.{rules}
 use Prim.Native.Nat.{◌/◌, ◌%◌}
 use mathlib.Core.Path.{ap}
 use Rattle.formula.specs.Codes.{part_of}

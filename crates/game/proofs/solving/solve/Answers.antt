@@ -3,7 +3,6 @@
 use mathlib.Core.Path.{sym, ◌∙◌}
 use lib.Seq.{length-take-le, length_front}
 use Rattle.game.proofs.solving.WholeCall.{short_right, long_work, long_table, long_right}
-use borrow.Author.Rules.{rules}
 use Rattle.game.proofs.solving.solve.Goals as goal
 
 pub returns-then-work-table : goal.returns-then-work-table

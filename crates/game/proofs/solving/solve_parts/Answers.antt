@@ -3,7 +3,6 @@
 use mathlib.Core.Path.{refl, sym, ◌∙◌}
 use native.Mathlib.Omega.{arith}
 use Rattle.game.proofs.solving.FromStates.{solved_many, widths_right, states_successors, states_few, states_some, solved_some}
-use borrow.Author.Rules.{rules}
 use Rattle.game.proofs.solving.solve_parts.Goals as goal
 
 pub explore-requires : goal.explore-requires

@@ -5,7 +5,6 @@ use mathlib.Core.Path.{sym}
 use Rattle.rules.specs.Problem.{read_problem}
 use Rattle.rules.proofs.JudgeLaws.{taken, taken_length, few_parts}
 use Rattle.game.proofs.solving.FromSource.{refused_right, stored_taken, sized_taken, source_right}
-use borrow.Author.Rules.{rules}
 use Rattle.game.proofs.solving.solve_source.Goals as goal
 
 pub slice_bounds-parts-end : goal.slice_bounds-parts-end

@@ -4,7 +4,6 @@ use Prim.Native.Nat.{ℕ}
 use native.Mathlib.Omega.{arith}
 use mathlib.Core.Path.{refl, sym, ◌∙◌}
 use lib.ListN.{length-replicate}
-use borrow.Author.Rules.{rules}
 use Rattle.game.proofs.solving.FromBeliefs.{widths_pairs, counted_positions, solved_verdict, solved_many}
 use Rattle.game.proofs.solving.solve_states.Goals as goal
 

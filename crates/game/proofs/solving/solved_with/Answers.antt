@@ -1,7 +1,6 @@
 -- `game::solving::solved_with` meets its contract: each case is the definition's.
 -- Assumes nothing.
 use mathlib.Core.Path.{ap, sym}
-use borrow.Author.Rules.{rules}
 use Rattle.game.specs.SolvedAs.{solved_with}
 use Rattle.game.proofs.solving.solved_with.Goals as goal
 

@@ -1,6 +1,5 @@
 -- `grammar::heads::during_from` meets its contract.
 -- Assumes nothing.
-use borrow.Author.Rules.{rules}
 use Rattle.grammar.proofs.heads.during_from.Goals as goal
 
 pub returns : goal.returns

@@ -1,6 +1,5 @@
 -- `grammar::heads::during_head` meets its contract.
 -- Assumes nothing.
-use borrow.Author.Rules.{rules}
 use Rattle.grammar.proofs.heads.during_head.Goals as goal
 
 pub returns-then-first-last : goal.returns-then-first-last

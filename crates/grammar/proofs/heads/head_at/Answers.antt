@@ -2,7 +2,6 @@
 -- Assumes nothing.
 use Rattle.grammar.specs.PlanParse.{head_at}
 use borrow.Author.Tests.{eq-eqb, ne_eqb}
-use borrow.Author.Rules.{rules}
 use Rattle.grammar.proofs.heads.head_at.Goals as goal
 
 pub returns-then-open-ne-OPEN : goal.returns-then-open-ne-OPEN

@@ -2,7 +2,6 @@
 -- Assumes nothing.
 use Rattle.grammar.specs.PlanParse.{head_of}
 use borrow.Author.Tests.{eq-eqb, ne_eqb}
-use borrow.Author.Rules.{rules}
 use Rattle.grammar.proofs.heads.head_of.Goals as goal
 
 pub returns-then-k-eq-ONCE : goal.returns-then-k-eq-ONCE

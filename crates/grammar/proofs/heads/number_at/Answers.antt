@@ -3,7 +3,6 @@
 use Rattle.grammar.specs.PlanParse.{number_at}
 use Rattle.basics.proofs.Booleans.{and_left}
 use borrow.Author.Tests.{leb-true}
-use borrow.Author.Rules.{rules}
 use Rattle.grammar.proofs.heads.number_at.Goals as goal
 
 pub overflow_sub-result : goal.overflow_sub-result

@@ -2,7 +2,6 @@
 -- Assumes nothing.
 use Rattle.grammar.specs.PlanParse.{second_at}
 use borrow.Author.Tests.{eq-eqb, ne_eqb, not-true, not-false}
-use borrow.Author.Rules.{rules}
 use Rattle.grammar.proofs.heads.second_at.Goals as goal
 
 pub returns-then-not-takes_two : goal.returns-then-not-takes_two

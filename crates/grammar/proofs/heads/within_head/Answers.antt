@@ -1,7 +1,6 @@
 -- `grammar::heads::within_head` meets its contract.
 -- Assumes nothing.
 use borrow.Author.Tests.{le-leb, lt-leb}
-use borrow.Author.Rules.{rules}
 use Rattle.grammar.proofs.heads.within_head.Goals as goal
 
 pub returns-then-steps-le-STEPS_LIMIT : goal.returns-then-steps-le-STEPS_LIMIT

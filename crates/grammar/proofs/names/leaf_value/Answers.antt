@@ -1,7 +1,6 @@
 use mathlib.Core.Path.{◌∙◌}
 use borrow.Author.Tests.{eq-eqb, ne_eqb}
 use Rattle.grammar.specs.Names.{leaf_value}
-use borrow.Author.Rules.{rules}
 use Rattle.grammar.proofs.names.leaf_value.Goals as goal
 
 pub returns-then-kind-ne-NAME : goal.returns-then-kind-ne-NAME

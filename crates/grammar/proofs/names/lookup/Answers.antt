@@ -1,8 +1,6 @@
-use Prim.Native.Nat.{◌≤◌, ◌-◌}
-use mathlib.Core.Path.{◌≡◌, sym, ◌∙◌}
+use mathlib.Core.Path.{sym, ◌∙◌}
 use native.Mathlib.Omega.{arith}
-use Rattle.grammar.specs.Names.{bits, index_of, names_in}
-use Rattle.grammar.proofs.NamesLaws.{from, index_start, index_here, index_more, index_end}
+use Rattle.grammar.proofs.NamesLaws.{index_start, index_here, index_more, index_end}
 use Rattle.grammar.proofs.names.lookup.Goals as goal
 
 pub loop-b-init : goal.loop-b-init

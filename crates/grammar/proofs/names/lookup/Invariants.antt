@@ -1,8 +1,7 @@
 use Prim.Native.Nat.{◌≤◌, ◌-◌}
-use mathlib.Core.Path.{◌≡◌, sym, ◌∙◌}
-use native.Mathlib.Omega.{arith}
+use mathlib.Core.Path.{◌≡◌}
 use Rattle.grammar.specs.Names.{bits, index_of, names_in}
-use Rattle.grammar.proofs.NamesLaws.{from, index_start, index_here, index_more, index_end}
+use Rattle.grammar.proofs.NamesLaws.{from}
 use Rattle.grammar.proofs.names.lookup.Given as goal
 
 abbrev pub invariant-loop-b : goal.invariant-loop-b

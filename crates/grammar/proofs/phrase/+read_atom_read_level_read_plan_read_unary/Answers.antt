@@ -1,10 +1,6 @@
-use Prim.Native.Nat.{◌+◌, ◌-◌, ◌*◌, ℕ, ◌<◌}
-use lib.ListN.{length}
-use Prim.Native.Nat.{ℕ}
 use lib.Dec.{eqb}
 use mathlib.Core.Path.{refl, sym, ◌∙◌}
-use borrow.Author.Rules.{rules}
-use borrow.Author.Tests.{eq-eqb, not-true, not-false}
+use borrow.Author.Tests.{eq-eqb}
 use native.Mathlib.Omega.{arith}
 use Rattle.syntax.specs.Kinds.{open_kind}
 use Rattle.grammar.specs.Grammar.{is_leaf}
@@ -12,13 +8,10 @@ use Rattle.syntax.proofs.LexLaws.{tok_high, tok_ordered, tok_real}
 use Rattle.grammar.proofs.PlanParseLaws.{formulas_laws}
 use Rattle.grammar.proofs.AnswerLaws.{room_at, leaf_done, other_done, group_bad, close_bad, close_done}
 use Rattle.grammar.proofs.PlanAnswers.{no_plan, has_plan}
-use Prim.Native.Nat.{◌-◌, ℕ}
-use borrow.Author.Tests.{not-true, not-false}
 use Rattle.grammar.specs.Grammar.{is_op, leftward}
 use Rattle.grammar.specs.PlanParse.{reader}
-use Rattle.grammar.specs.Names.{names_in, leaf_value}
 use Rattle.syntax.proofs.LexLaws.{tok_high, tok_real}
-use Rattle.grammar.proofs.AnswerLaws.{room_at, span, joined, Loop, level_is, right_most, at_zero, begin, first_bad, stopped}
+use Rattle.grammar.proofs.AnswerLaws.{room_at, span, joined, level_is, right_most, at_zero, begin, first_bad, stopped}
 use Rattle.grammar.proofs.AnswerLaws.{next_bad, next_more, next_done}
 use mathlib.Core.Path.{refl, sym}
 use Rattle.grammar.proofs.AnswerLaws.{room_at}

@@ -1,4 +1,3 @@
-use borrow.Author.Rules.{rules}
 use Rattle.grammar.proofs.AnswerLaws.{formula_bad, formula_more, formula_done}
 use Rattle.grammar.proofs.phrase.read_formula.Goals as goal
 

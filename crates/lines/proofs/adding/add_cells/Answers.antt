@@ -4,7 +4,6 @@ use native.Mathlib.Omega.{arith}
 use mathlib.Core.Path.{refl}
 use Rattle.lines.proofs.CellKinds.{temporals_few}
 use Rattle.lines.proofs.adding.AddFormula.{many_parts, many_operators, few_operators}
-use borrow.Author.Rules.{rules}
 use Rattle.lines.proofs.adding.add_cells.Goals as goal
 
 pub returns-then-all-gt-PART_LIMIT : goal.returns-then-all-gt-PART_LIMIT

@@ -1,9 +1,7 @@
 -- `lines::adding::add_formula` meets its contract: each return by the law of its effect.
 -- Assumes nothing.
-use borrow.Author.Rules.{rules}
 use native.Mathlib.Omega.{arith}
 use mathlib.Core.Path.{sym, ◌∙◌}
-use borrow.Author.Tests.{not-true, not-false}
 use Rattle.lines.proofs.adding.AddFormula.{not_parsed, parsed, size_count, formed, taken_count}
 use Rattle.lines.proofs.adding.AddFormula.{bad_line, bad_formula, unknown_name, too_many, read_effect_lem, refused, left_answers}
 use Rattle.lines.proofs.adding.TextTest.{text_short}

@@ -1,12 +1,6 @@
-use Prim.Native.Nat.{◌-◌, ◌≤◌}
 use native.Mathlib.Omega.{arith}
-use mathlib.Core.Path.{◌≡◌, refl, sym, ◌∙◌}
-use lib.ListN.{length}
-use Rattle.syntax.specs.Lex.{tokens}
+use mathlib.Core.Path.{refl, sym, ◌∙◌}
 use Rattle.syntax.proofs.LexLaws.{tok_high, tok_ordered}
-use Rattle.lines.specs.declared.problem.Sizes.{Sizes}
-use Rattle.lines.specs.Effect.{all_declared}
-use Rattle.lines.specs.Memory.{signals_in}
 use Rattle.lines.proofs.DeclaredNames.{index_below, declared_end, token_past, declared_other, declared_name, declared_none}
 use Rattle.lines.proofs.adding.all_declared.Goals as goal
 

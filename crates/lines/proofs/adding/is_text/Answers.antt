@@ -1,6 +1,5 @@
 -- `lines::adding::is_text` meets its contract.
 -- Assumes nothing.
-use borrow.Author.Rules.{rules}
 use Rattle.lines.proofs.adding.TextTest.{text_none, text_long, text_tab}
 use Rattle.lines.proofs.adding.is_text.Goals as goal
 

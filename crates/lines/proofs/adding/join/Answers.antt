@@ -2,7 +2,6 @@
 -- Assumes nothing.
 use native.Mathlib.Omega.{arith}
 use Rattle.lines.proofs.adding.Joint.{joint_some, join_none, join_some}
-use borrow.Author.Rules.{rules}
 use Rattle.lines.proofs.adding.join.Goals as goal
 
 pub returns-then-n-eq0 : goal.returns-then-n-eq0

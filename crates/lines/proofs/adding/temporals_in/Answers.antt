@@ -1,11 +1,6 @@
-use borrow.Author.Rules.{rules}
-use Prim.Native.Nat.{◌+◌, ◌-◌, ◌≤◌, ◌<◌}
+use Prim.Native.Nat.{◌<◌}
 use native.Mathlib.Omega.{arith}
-use mathlib.Core.Path.{◌≡◌}
-use mathlib.Core.Logic.{⊎_elim}
-use lib.ListN.{length, drop}
-use Rattle.formula.specs.Parts.{temporals}
-use Rattle.syntax.specs.Cells.{kinds_in}
+use lib.ListN.{length}
 use Rattle.lines.proofs.CellKinds.{temporals_hit, temporals_miss, temporals_end}
 use Rattle.lines.proofs.adding.temporals_in.Goals as goal
 use Rattle.lines.proofs.adding.temporals_in.Goals.{else-is_temporal, then-is_temporal}

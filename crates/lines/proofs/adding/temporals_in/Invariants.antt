@@ -1,14 +1,10 @@
 -- `lines::adding::temporals_in` meets its contract. The invariant: what is counted and what is left make the whole.
 -- Assumes nothing.
-use borrow.Author.Rules.{rules}
-use Prim.Native.Nat.{◌+◌, ◌-◌, ◌≤◌, ◌<◌}
-use native.Mathlib.Omega.{arith}
+use Prim.Native.Nat.{◌+◌, ◌-◌, ◌≤◌}
 use mathlib.Core.Path.{◌≡◌}
-use mathlib.Core.Logic.{⊎_elim}
 use lib.ListN.{length, drop}
 use Rattle.formula.specs.Parts.{temporals}
 use Rattle.syntax.specs.Cells.{kinds_in}
-use Rattle.lines.proofs.CellKinds.{temporals_hit, temporals_miss, temporals_end}
 use Rattle.lines.proofs.adding.temporals_in.Given as goal
 
 abbrev pub invariant-loop-i : goal.invariant-loop-i

@@ -1,6 +1,5 @@
 -- `lines::adding::with_joint` meets its contract.
 -- Assumes nothing.
-use borrow.Author.Rules.{rules}
 use Rattle.lines.proofs.adding.Joint.{joint_none, joint_some}
 use Rattle.lines.proofs.adding.with_joint.Goals as goal
 

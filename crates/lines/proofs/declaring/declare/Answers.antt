@@ -2,9 +2,7 @@ use Prim.Native.Nat.{◌+◌}
 use lib.ListN.{length-set}
 use mathlib.Core.Path.{sym, ap₂, ◌∙◌}
 use native.Mathlib.Omega.{arith}
-use borrow.Author.Tests.{not-true, not-false}
 use Rattle.lines.proofs.declaring.DeclareSignal.{count_limit, bit_below, no_name, name_twice, kind_full, all_full, new_signal}
-use borrow.Author.Rules.{rules}
 use Rattle.lines.proofs.declaring.declare.Goals as goal
 
 pub returns-then-not-is_name : goal.returns-then-not-is_name

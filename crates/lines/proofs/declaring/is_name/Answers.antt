@@ -1,5 +1,4 @@
 use Rattle.lines.proofs.declaring.NameTest.{name_kind_lem, name_from, name_next, name_length}
-use borrow.Author.Rules.{rules}
 use Rattle.lines.proofs.declaring.is_name.Goals as goal
 
 pub returns-then-kind-ne-NAME : goal.returns-then-kind-ne-NAME

@@ -1,5 +1,4 @@
 use native.Mathlib.Omega.{arith}
-use borrow.Author.Rules.{rules}
 use Rattle.lines.proofs.declaring.more_signals.Goals as goal
 
 pub overflow_add-t : goal.overflow_add-t

@@ -1,4 +1,3 @@
-use borrow.Author.Rules.{rules}
 use mathlib.Core.Path.{sym, ◌∙◌}
 use Rattle.lines.proofs.ordering.SayOrder.{said_twice, said_nothing, said}
 use Rattle.lines.proofs.ordering.add_order.Goals as goal

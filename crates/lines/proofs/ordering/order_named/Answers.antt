@@ -1,4 +1,3 @@
-use borrow.Author.Rules.{rules}
 use mathlib.Core.Path.{refl}
 use Rattle.lines.specs.Lines.{order_named}
 use Rattle.lines.proofs.ordering.order_named.Goals as goal

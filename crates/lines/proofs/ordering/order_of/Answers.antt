@@ -1,4 +1,3 @@
-use borrow.Author.Rules.{rules}
 use mathlib.Core.Path.{sym, ap}
 use Rattle.lines.specs.StepOrder.{order_or}
 use Rattle.lines.proofs.ordering.order_of.Goals as goal

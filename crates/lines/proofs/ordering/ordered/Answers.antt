@@ -1,4 +1,3 @@
-use borrow.Author.Rules.{rules}
 use mathlib.Core.Path.{ap, ◌∙◌}
 use Rattle.lines.specs.Memory.{fix_order}
 use Rattle.lines.proofs.ordering.ordered.Goals as goal

@@ -1,5 +1,4 @@
 use Rattle.lines.specs.Lines.{word_of}
-use borrow.Author.Rules.{rules}
 use Rattle.lines.proofs.problem.word_of.Goals as goal
 
 pub returns-then-same : goal.returns-then-same

@@ -3,7 +3,6 @@
 use native.Mathlib.Omega.{arith}
 use mathlib.Core.Path.{sym, ap, ◌∙◌}
 use lib.ListN.{get_or}
-use borrow.Author.Rules.{rules}
 use Rattle.basics.proofs.BitsLaws.{shl_one}
 use Rattle.wellformed.proofs.WellFormedLaws.{side_le}
 use Rattle.loader.specs.Candidate.{move_in, row_in}

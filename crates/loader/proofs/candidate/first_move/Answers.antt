@@ -1,11 +1,8 @@
-use Prim.Native.Nat.{◌≤◌, ◌-◌}
 use native.Mathlib.Omega.{arith}
 use mathlib.Core.Path.{◌≡◌, ◌∙◌}
-use borrow.Author.Rules.{rules}
-use Rattle.basics.specs.Bounded.{first_that}
 use Rattle.basics.proofs.BoundedLaws.{first_none, first_more}
 use Rattle.loader.specs.Candidate.{goes_on}
-use Rattle.loader.proofs.candidate.RowLoop.{RowAt, row_next, row_goes, move_here, move_none}
+use Rattle.loader.proofs.candidate.RowLoop.{row_next, row_goes, move_here, move_none}
 use Rattle.loader.proofs.candidate.first_move.Goals as goal
 
 pub loop-row-init : goal.loop-row-init

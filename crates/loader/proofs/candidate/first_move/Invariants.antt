@@ -1,13 +1,10 @@
 -- `loader::candidate::first_move` meets its contract. The invariant: the line of the row begins at the place, and all rows before it stop.
 -- Assumes nothing.
 use Prim.Native.Nat.{◌≤◌, ◌-◌}
-use native.Mathlib.Omega.{arith}
-use mathlib.Core.Path.{◌≡◌, ◌∙◌}
-use borrow.Author.Rules.{rules}
+use mathlib.Core.Path.{◌≡◌}
 use Rattle.basics.specs.Bounded.{first_that}
-use Rattle.basics.proofs.BoundedLaws.{first_none, first_more}
 use Rattle.loader.specs.Candidate.{goes_on}
-use Rattle.loader.proofs.candidate.RowLoop.{RowAt, row_next, row_goes, move_here, move_none}
+use Rattle.loader.proofs.candidate.RowLoop.{RowAt}
 use Rattle.loader.proofs.candidate.first_move.Given as goal
 
 abbrev pub invariant-loop-row : goal.invariant-loop-row

@@ -1,6 +1,5 @@
 -- `loader::candidate::limit_at` meets its contract.
 -- Assumes nothing.
-use borrow.Author.Rules.{rules}
 use Rattle.loader.proofs.CandidateLaws.{set_first, set_next, read_choice, read_next}
 use Rattle.loader.proofs.candidate.limit_at.Goals as goal
 

@@ -2,7 +2,6 @@
 -- Assumes nothing.
 use native.Mathlib.Omega.{arith}
 use mathlib.Core.Path.{◌∙◌}
-use borrow.Author.Rules.{rules}
 use Rattle.loader.proofs.ShownCells.{limit_few}
 use Rattle.loader.proofs.CandidateLaws.{size_small, shown_small, move_inside, move_zero, move_number}
 use Rattle.loader.proofs.candidate.move_in.Goals as goal

@@ -2,7 +2,6 @@
 -- Assumes nothing.
 use native.Mathlib.Omega.{arith}
 use mathlib.Core.Path.{ap, ◌∙◌}
-use borrow.Author.Rules.{rules}
 use Rattle.basics.specs.Numbers.{number_below}
 use Rattle.loader.proofs.CandidateLaws.{in_cell}
 use Rattle.loader.proofs.candidate.number_at.Goals as goal

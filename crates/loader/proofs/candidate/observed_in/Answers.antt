@@ -1,9 +1,5 @@
-use Prim.Native.Nat.{◌≤◌}
 use native.Mathlib.Omega.{arith}
-use mathlib.Core.Path.{◌≡◌, refl, sym, ◌∙◌}
-use borrow.Author.Rules.{rules}
-use Rattle.basics.specs.Limits.{kind_limit}
-use Rattle.loader.specs.Candidate.{observed_in}
+use mathlib.Core.Path.{refl, sym, ◌∙◌}
 use Rattle.loader.proofs.CandidateLaws.{tried_small, shown_small, observed_here, observed_less, observed_none}
 use Rattle.loader.proofs.candidate.observed_in.Goals as goal
 

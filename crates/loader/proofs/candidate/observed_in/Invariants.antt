@@ -1,12 +1,9 @@
 -- `loader::candidate::observed_in` meets its contract. The invariant: no number above k is right.
 -- Assumes nothing.
 use Prim.Native.Nat.{◌≤◌}
-use native.Mathlib.Omega.{arith}
-use mathlib.Core.Path.{◌≡◌, refl, sym, ◌∙◌}
-use borrow.Author.Rules.{rules}
+use mathlib.Core.Path.{◌≡◌}
 use Rattle.basics.specs.Limits.{kind_limit}
 use Rattle.loader.specs.Candidate.{observed_in}
-use Rattle.loader.proofs.CandidateLaws.{tried_small, shown_small, observed_here, observed_less, observed_none}
 use Rattle.loader.proofs.candidate.observed_in.Given as goal
 
 abbrev pub invariant-loop-k : goal.invariant-loop-k

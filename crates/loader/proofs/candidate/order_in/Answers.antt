@@ -1,7 +1,6 @@
 -- `loader::candidate::order_in` meets its contract.
 -- Assumes nothing.
 use mathlib.Core.Path.{ap, ◌∙◌}
-use borrow.Author.Rules.{rules}
 use Rattle.basics.specs.Bytes.{same_bytes}
 use Rattle.basics.specs.declared.order.Order.TheVariants.{Read}
 use Rattle.printer.specs.Text.{table_word}

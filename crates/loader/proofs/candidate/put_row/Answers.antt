@@ -1,9 +1,8 @@
-use Prim.Native.Nat.{◌-◌, ◌*◌, ◌≤◌}
+use Prim.Native.Nat.{◌*◌}
 use native.Mathlib.Omega.{arith}
-use mathlib.Core.Path.{◌≡◌, refl}
-use lib.ListN.{length, length-set}
-use lib.Seq.{paste, paste-zero}
-use borrow.Author.Rules.{rules}
+use mathlib.Core.Path.{refl}
+use lib.ListN.{length-set}
+use lib.Seq.{paste-zero}
 use Rattle.loader.specs.Candidate.{row_in}
 use Rattle.loader.proofs.candidate.CellLoop.{cell_place, row_place, cell_more, cells_all}
 use Rattle.loader.proofs.candidate.put_row.Goals as goal

@@ -1,9 +1,6 @@
-use Prim.Native.Nat.{◌-◌, ◌≤◌}
 use native.Mathlib.Omega.{arith}
 use mathlib.Core.Path.{◌≡◌, refl, ◌∙◌}
-use lib.ListN.{length}
-use borrow.Author.Rules.{rules}
-use Rattle.loader.proofs.candidate.RowLoop.{RowAt, row_next, row_line, RowsTo, rows_none, row_room, rows_more, rows_all_lem}
+use Rattle.loader.proofs.candidate.RowLoop.{row_next, row_line, rows_none, row_room, rows_more, rows_all_lem}
 use Rattle.loader.proofs.candidate.put_rows.Goals as goal
 
 pub loop-row-init : goal.loop-row-init

@@ -1,11 +1,9 @@
 -- `loader::candidate::put_rows` meets its contract. The invariant: the line of the row begins at the place, and the rows before it are written.
 -- Assumes nothing.
 use Prim.Native.Nat.{◌-◌, ◌≤◌}
-use native.Mathlib.Omega.{arith}
-use mathlib.Core.Path.{◌≡◌, refl, ◌∙◌}
+use mathlib.Core.Path.{◌≡◌}
 use lib.ListN.{length}
-use borrow.Author.Rules.{rules}
-use Rattle.loader.proofs.candidate.RowLoop.{RowAt, row_next, row_line, RowsTo, rows_none, row_room, rows_more, rows_all_lem}
+use Rattle.loader.proofs.candidate.RowLoop.{RowAt, RowsTo}
 use Rattle.loader.proofs.candidate.put_rows.Given as goal
 
 abbrev pub invariant-loop-row : goal.invariant-loop-row

@@ -2,7 +2,6 @@
 -- Assumes nothing.
 use Prim.Native.Nat.{suc}
 use mathlib.Core.Path.{ap, ◌∙◌}
-use borrow.Author.Rules.{rules}
 use Rattle.basics.specs.Numbers.{number_below}
 use Rattle.play.specs.Limits.{belief_limit}
 use Rattle.loader.proofs.CandidateLaws.{rows_none, rows_some}

@@ -1,7 +1,6 @@
 -- `loader::candidate::says_stop` meets its contract.
 -- Assumes nothing.
 use mathlib.Core.Path.{ap, ◌∙◌}
-use borrow.Author.Rules.{rules}
 use Rattle.basics.specs.Bytes.{bytes_of, same_bytes}
 use Rattle.loader.specs.Candidate.{says_stop}
 use Rattle.loader.proofs.candidate.says_stop.Goals as goal

@@ -1,6 +1,5 @@
 -- `loader::candidate::shape_in` meets its contract.
 -- Assumes nothing.
-use borrow.Author.Rules.{rules}
 use Rattle.loader.proofs.candidate.RowLoop.{shape_is}
 use Rattle.loader.proofs.candidate.shape_in.Goals as goal
 

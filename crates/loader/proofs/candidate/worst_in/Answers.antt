@@ -1,7 +1,6 @@
 -- `loader::candidate::worst_in` meets its contract.
 -- Assumes nothing.
 use mathlib.Core.Path.{ap, ◌∙◌}
-use borrow.Author.Rules.{rules}
 use Rattle.basics.specs.Numbers.{number_below}
 use Rattle.basics.specs.Pieces.{field_at}
 use Rattle.loader.specs.Candidate.{worst_in}

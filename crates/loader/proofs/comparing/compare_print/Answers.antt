@@ -2,7 +2,6 @@
 -- Assumes nothing.
 use mathlib.Core.Path.{ap, ◌∙◌}
 use lib.ListN.{replicate}
-use borrow.Author.Rules.{rules}
 use Rattle.printer.specs.Limits.{text_size}
 use Rattle.printer.specs.Text.{table_text}
 use Rattle.loader.specs.Difference.{difference}

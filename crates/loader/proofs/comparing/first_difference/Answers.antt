@@ -1,10 +1,6 @@
-use Prim.Native.Nat.{◌+◌, ◌-◌, ◌≤◌}
 use native.Mathlib.Omega.{arith}
 use mathlib.Core.Path.{◌≡◌, refl, sym, ◌∙◌}
-use mathlib.Core.Logic.{⊎_elim}
-use lib.ListN.{length, drop}
-use borrow.Author.Rules.{rules}
-use Rattle.loader.specs.Difference.{difference}
+use lib.ListN.{length}
 use Rattle.loader.proofs.comparing.DifferenceLoop.{in_both, not_both, differs_here, line_more, line_same, both_end, one_ends}
 use Rattle.loader.proofs.comparing.first_difference.Goals as goal
 use Rattle.loader.proofs.comparing.first_difference.Goals.{else-a-i-eq-LINE_END, then-a-i-eq-LINE_END}

@@ -1,7 +1,6 @@
 -- `loader::faults::rank_fault` meets its contract.
 -- Assumes nothing.
 use lib.ListN.{length}
-use borrow.Author.Rules.{rules}
 use Rattle.wellformed.proofs.WellFormedLaws.{row_room}
 use Rattle.loader.proofs.faults.FaultSteps.{worst_first, rows_then}
 use Rattle.loader.proofs.faults.rank_fault.Goals as goal

@@ -1,7 +1,5 @@
-use Prim.Native.Nat.{◌-◌, ◌≤◌}
 use native.Mathlib.Omega.{arith}
-use borrow.Author.Rules.{rules}
-use Rattle.loader.proofs.faults.FaultSteps.{RightTo, right_none, right_more, row_found, rows_right}
+use Rattle.loader.proofs.faults.FaultSteps.{right_none, right_more, row_found, rows_right}
 use Rattle.loader.proofs.faults.row_fault.Goals as goal
 
 pub loop-row-init : goal.loop-row-init

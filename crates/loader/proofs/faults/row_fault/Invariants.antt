@@ -1,9 +1,7 @@
 -- `loader::faults::row_fault` meets its contract. The invariant: the rows before this one are as they must be.
 -- Assumes nothing.
 use Prim.Native.Nat.{◌-◌, ◌≤◌}
-use native.Mathlib.Omega.{arith}
-use borrow.Author.Rules.{rules}
-use Rattle.loader.proofs.faults.FaultSteps.{RightTo, right_none, right_more, row_found, rows_right}
+use Rattle.loader.proofs.faults.FaultSteps.{RightTo}
 use Rattle.loader.proofs.faults.row_fault.Given as goal
 
 abbrev pub invariant-loop-row : goal.invariant-loop-row

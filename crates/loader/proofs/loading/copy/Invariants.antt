@@ -1,12 +1,9 @@
 -- `loader::loading::copy` meets its contract. The invariant: the first i cells are copied.
 -- Assumes nothing.
 use Prim.Native.Nat.{◌-◌, ◌≤◌}
-use native.Mathlib.Omega.{arith}
-use mathlib.Core.Path.{◌≡◌, refl}
+use mathlib.Core.Path.{◌≡◌}
 use mathlib.Core.List.{◌++◌}
-use lib.ListN.{length, take, drop, length-set}
-use borrow.Author.Rules.{rules}
-use Rattle.loader.proofs.loading.CopyLoop.{copied_more, copied_all}
+use lib.ListN.{length, take, drop}
 use Rattle.loader.proofs.loading.copy.Given as goal
 
 abbrev pub invariant-loop-i : goal.invariant-loop-i

@@ -2,7 +2,6 @@
 -- Assumes nothing.
 use native.Mathlib.Omega.{arith}
 use lib.ListN.{replicate, length-take}
-use borrow.Author.Rules.{rules}
 use Rattle.play.specs.Cells.{table_size}
 use Rattle.loader.proofs.LoadedAsLaws.{load_short, taken_long, cells_ask, size_few, cells_in_lem, cells_long, fault_asks, count_le, load_done}
 use Rattle.loader.proofs.loading.load.Goals as goal

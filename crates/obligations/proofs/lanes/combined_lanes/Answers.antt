@@ -1,6 +1,5 @@
 -- `obligations::lanes::combined_lanes` meets its contract: what each operator's word carries.
 -- Assumes nothing.
-use borrow.Author.Rules.{rules}
 use Rattle.obligations.proofs.WordsLaws.{own, none, all, nots, ands, ors, combines}
 use Rattle.obligations.proofs.lanes.combined_lanes.Goals as goal
 

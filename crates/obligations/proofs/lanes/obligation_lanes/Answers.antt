@@ -1,13 +1,9 @@
 -- `obligations::lanes::obligation_lanes` meets its contract: the six words of a block by computation, and the rest by `all_lanes`.
 -- Assumes nothing.
-use native.Mathlib.Nat.{sub-le, lt_trans, lt_of_le_of_lt}
 use native.Mathlib.Omega.{arith}
 use mathlib.Core.Path.{refl}
-use lib.Dec.{lit<}
-use borrow.Author.Rules.{rules}
 use Rattle.basics.specs.Bits.{from_bits}
 use Rattle.obligations.specs.Words.{lanes}
-use Rattle.basics.specs.Limits.{word_bits}
 use Rattle.obligations.proofs.WordsLaws.{obligation_low, obligation_high, not_low}
 use Rattle.obligations.proofs.lanes.obligation_lanes.Goals as goal
 

@@ -1,6 +1,5 @@
 -- `obligations::lanes::owed_lanes` meets its contract: what each operator's word carries.
 -- Assumes nothing.
-use borrow.Author.Rules.{rules}
 use Rattle.obligations.proofs.WordsLaws.{own, none, nots, owes}
 use Rattle.obligations.proofs.lanes.owed_lanes.Goals as goal
 

@@ -1,7 +1,6 @@
 -- `obligations::letters::letter_of` meets its contract: shifts and masks against division and remainder.
 -- Assumes nothing.
 use native.Mathlib.Omega.{arith}
-use borrow.Author.Rules.{rules}
 use Rattle.obligations.specs.Letters.{counts}
 use Rattle.obligations.proofs.LettersLaws.{shl_pos, letter_code, letter_fits}
 use Rattle.obligations.proofs.letters.letter_of.Goals as goal

@@ -1,14 +1,11 @@
 -- `obligations::letters::list_letters` meets its contract. The invariant: the letters passed are stored, the rest is as it was.
 -- Assumes nothing.
-use Prim.Native.Nat.{◌≤◌, ◌<◌, ◌-◌}
-use native.Mathlib.Omega.{arith}
-use mathlib.Core.Path.{◌≡◌, ap, ◌∙◌}
+use Prim.Native.Nat.{◌≤◌, ◌-◌}
+use mathlib.Core.Path.{◌≡◌}
 use mathlib.Core.List.{◌++◌}
-use lib.ListN.{length, drop, length-set}
-use borrow.Author.Rules.{rules}
+use lib.ListN.{length, drop}
 use Rattle.basics.specs.Lists.{tabulate}
-use Rattle.obligations.specs.Letters.{counts, letter_count, letter_of, letters_of}
-use Rattle.basics.proofs.Filling.{table_more}
+use Rattle.obligations.specs.Letters.{counts, letter_count, letter_of}
 use Rattle.obligations.proofs.letters.list_letters.Given as goal
 
 abbrev pub invariant-loop-i : goal.invariant-loop-i

@@ -1,11 +1,8 @@
-use Prim.Native.Nat.{◌-◌, ◌≤◌, ◌<◌}
+use Prim.Native.Nat.{◌<◌}
 use native.Mathlib.Omega.{arith}
 use mathlib.Core.Path.{◌≡◌, refl}
-use mathlib.Core.Logic.{⊎_elim}
 use lib.ListN.{length, length-set}
-use borrow.Author.Rules.{rules}
-use Rattle.formula.specs.Codes.{parts_in}
-use Rattle.obligations.proofs.NumberedParts.{Numbered, numbered_none, numbered_miss, numbered_room, numbered_hit, numbers_all, spots_all}
+use Rattle.obligations.proofs.NumberedParts.{numbered_none, numbered_miss, numbered_room, numbered_hit, numbers_all, spots_all}
 use Rattle.obligations.proofs.numbering.number_parts.Goals as goal
 use Rattle.obligations.proofs.numbering.number_parts.Goals.{else-is_temporal_at, then-is_temporal_at}
 

@@ -1,7 +1,6 @@
-use Prim.Native.Nat.{ℕ, ◌-◌, ◌<◌}
+use Prim.Native.Nat.{◌-◌, ◌<◌}
 use native.Mathlib.Omega.{arith}
 use lib.ListN.{length}
-use borrow.Author.Rules.{rules}
 use Rattle.obligations.proofs.StoredParts.{number_there, number_at, number_small}
 use Rattle.obligations.proofs.ValuesLaws.{values_none, values_more}
 use Rattle.obligations.proofs.values.+put_values.Goals as goal

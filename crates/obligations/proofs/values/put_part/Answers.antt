@@ -1,10 +1,6 @@
-use Prim.Native.Nat.{◌≤◌, ◌-◌}
 use native.Mathlib.Omega.{arith}
-use mathlib.Core.Path.{◌≡◌}
-use lib.ListN.{length, length-set}
-use borrow.Author.Rules.{rules}
-use Rattle.obligations.specs.Values.{block_size}
-use Rattle.obligations.proofs.ValuesLaws.{part_to, part_more, part_done}
+use lib.ListN.{length-set}
+use Rattle.obligations.proofs.ValuesLaws.{part_more, part_done}
 use Rattle.obligations.proofs.values.put_part.Goals as goal
 
 pub loop-x-preserved : goal.loop-x-preserved

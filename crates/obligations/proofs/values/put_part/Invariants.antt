@@ -1,12 +1,10 @@
 -- `obligations::values::put_part` meets its contract. The invariant: the words of the letters passed are written, from the memory as it was.
 -- Assumes nothing.
 use Prim.Native.Nat.{◌≤◌, ◌-◌}
-use native.Mathlib.Omega.{arith}
 use mathlib.Core.Path.{◌≡◌}
-use lib.ListN.{length, length-set}
-use borrow.Author.Rules.{rules}
+use lib.ListN.{length}
 use Rattle.obligations.specs.Values.{block_size}
-use Rattle.obligations.proofs.ValuesLaws.{part_to, part_more, part_done}
+use Rattle.obligations.proofs.ValuesLaws.{part_to}
 use Rattle.obligations.proofs.values.put_part.Given as goal
 
 abbrev pub invariant-loop-x : goal.invariant-loop-x

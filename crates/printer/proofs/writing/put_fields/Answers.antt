@@ -1,7 +1,6 @@
 -- `printer::writing::put_fields` meets its contract: two parts, one behind the other.
 -- Assumes nothing.
 use mathlib.Core.Path.{refl}
-use borrow.Author.Rules.{rules}
 use Rattle.basics.specs.Text.{decimal, field}
 use Rattle.basics.proofs.Stores.{rest_all, rest_room, rest_next}
 use Rattle.printer.proofs.writing.put_fields.Goals as goal

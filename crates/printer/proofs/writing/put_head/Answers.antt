@@ -9,7 +9,6 @@ use lib.Seq.{sets}
 use Rattle.basics.specs.Text.{decimal, line}
 use Rattle.basics.specs.declared.order.Order.{Order}
 use Rattle.printer.specs.Text.{table_word}
-use borrow.Author.Rules.{rules}
 use Rattle.printer.proofs.writing.put_head.Goals as goal
 
 abbrev head : Order → ℕ → ℕ → List ℕ

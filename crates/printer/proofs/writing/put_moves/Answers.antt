@@ -5,7 +5,6 @@ use native.Mathlib.Omega.{arith}
 use mathlib.Core.Path.{ap, subst}
 use lib.ListN.{length}
 use lib.Pow.{pow_mono}
-use borrow.Author.Rules.{rules}
 use Rattle.basics.proofs.Stores.{put_same}
 use Rattle.basics.proofs.BitsLaws.{shl_one}
 use Rattle.printer.proofs.TextLaws.{stop_field, move_fields}

@@ -1,7 +1,6 @@
 -- `printer::writing::put_row` meets its contract: the word, the two numbers, the moves and the end (places w, n, m) are its four parts.
 -- Assumes nothing.
 use native.Mathlib.Omega.{arith}
-use borrow.Author.Rules.{rules}
 use Rattle.basics.proofs.Stores.{room_1, room_2, room_3, room_4, put_4}
 use Rattle.printer.proofs.TextLaws.{row_puts}
 use Rattle.printer.proofs.writing.put_row.Goals as goal

@@ -1,11 +1,8 @@
-use Prim.Native.Nat.{◌-◌, ◌≤◌}
 use native.Mathlib.Omega.{arith}
 use mathlib.Core.Path.{◌≡◌, refl, ap, ◌∙◌}
 use mathlib.Core.List.{flat_map}
-use lib.ListN.{length}
-use borrow.Author.Rules.{rules}
 use Rattle.printer.specs.Text.{row_text, rows_text}
-use Rattle.basics.proofs.Stores.{Put, put_none, put_same}
+use Rattle.basics.proofs.Stores.{put_none, put_same}
 use Rattle.basics.proofs.TextLaws.{turn}
 use Rattle.wellformed.proofs.WellFormedLaws.{row_room}
 use Rattle.printer.proofs.writing.put_rows.Goals as goal

@@ -1,15 +1,10 @@
 -- `printer::writing::put_rows` meets its contract. The invariant: the rows passed are put.
 -- Assumes nothing.
 use Prim.Native.Nat.{◌-◌, ◌≤◌}
-use native.Mathlib.Omega.{arith}
-use mathlib.Core.Path.{◌≡◌, refl, ap, ◌∙◌}
-use mathlib.Core.List.{flat_map}
+use mathlib.Core.Path.{◌≡◌}
 use lib.ListN.{length}
-use borrow.Author.Rules.{rules}
-use Rattle.printer.specs.Text.{row_text, rows_text}
-use Rattle.basics.proofs.Stores.{Put, put_none, put_same}
-use Rattle.basics.proofs.TextLaws.{turn}
-use Rattle.wellformed.proofs.WellFormedLaws.{row_room}
+use Rattle.printer.specs.Text.{rows_text}
+use Rattle.basics.proofs.Stores.{Put}
 use Rattle.printer.proofs.writing.put_rows.Given as goal
 
 abbrev pub invariant-loop-row : goal.invariant-loop-row

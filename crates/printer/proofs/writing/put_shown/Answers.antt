@@ -1,13 +1,9 @@
-use Prim.Native.Nat.{◌+◌, ◌-◌, ◌*◌, ◌≤◌}
+use Prim.Native.Nat.{◌+◌, ◌*◌}
 use native.Mathlib.Omega.{arith}
-use mathlib.Core.Path.{◌≡◌, refl, ◌∙◌}
+use mathlib.Core.Path.{refl, ◌∙◌}
 use mathlib.Core.List.{flat_map}
-use lib.ListN.{length}
-use borrow.Author.Rules.{rules}
-use Rattle.basics.specs.Lists.{tabulate}
-use Rattle.basics.specs.Text.{field}
-use Rattle.basics.proofs.Stores.{Put, put_none}
-use Rattle.printer.proofs.TextLaws.{run, from_in, shown_in, shown_turn, shown_put}
+use Rattle.basics.proofs.Stores.{put_none}
+use Rattle.printer.proofs.TextLaws.{from_in, shown_in, shown_turn, shown_put}
 use Rattle.printer.proofs.writing.put_shown.Goals as goal
 
 pub overflow_mul-from : goal.overflow_mul-from

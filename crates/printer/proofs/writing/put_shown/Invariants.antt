@@ -1,15 +1,13 @@
 -- `printer::writing::put_shown` meets its contract. The invariant: the cells passed are put.
 -- Assumes nothing.
-use Prim.Native.Nat.{◌+◌, ◌-◌, ◌*◌, ◌≤◌}
-use native.Mathlib.Omega.{arith}
-use mathlib.Core.Path.{◌≡◌, refl, ◌∙◌}
+use Prim.Native.Nat.{◌-◌, ◌≤◌}
+use mathlib.Core.Path.{◌≡◌}
 use mathlib.Core.List.{flat_map}
 use lib.ListN.{length}
-use borrow.Author.Rules.{rules}
 use Rattle.basics.specs.Lists.{tabulate}
 use Rattle.basics.specs.Text.{field}
-use Rattle.basics.proofs.Stores.{Put, put_none}
-use Rattle.printer.proofs.TextLaws.{run, from_in, shown_in, shown_turn, shown_put}
+use Rattle.basics.proofs.Stores.{Put}
+use Rattle.printer.proofs.TextLaws.{run}
 use Rattle.printer.proofs.writing.put_shown.Given as goal
 
 abbrev pub invariant-loop-i : goal.invariant-loop-i

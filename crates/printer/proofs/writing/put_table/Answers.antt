@@ -5,7 +5,6 @@ use native.Mathlib.Omega.{arith}
 use mathlib.Core.Path.{refl, sym, ◌∙◌}
 use mathlib.Core.List.{[], ◌∷◌, ◌++◌}
 use lib.ListN.{length-append}
-use borrow.Author.Rules.{rules}
 use Rattle.printer.specs.Text.{rows_text, table_word, table_text}
 use Rattle.basics.specs.Text.{decimal, line}
 use Rattle.basics.proofs.Stores.{rest_all, rest_next, put_front}

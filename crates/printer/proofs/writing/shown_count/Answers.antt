@@ -1,6 +1,5 @@
 -- `printer::writing::shown_count` meets its contract.
 -- Assumes nothing.
-use borrow.Author.Rules.{rules}
 use Rattle.printer.proofs.writing.shown_count.Goals as goal
 
 pub returns-in-Set : goal.returns-in-Set

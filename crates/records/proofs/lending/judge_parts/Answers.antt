@@ -1,9 +1,9 @@
-use Rattle.std.proofs.Common.{◌≡◌, ◌≤◌, ◌<◌, ◌∙◌, length, take, get_or, arith, ap, sym, subst}
+use Rattle.std.proofs.Common.{◌≡◌, ◌<◌, ◌∙◌, length, take, arith, subst}
 use Rattle.std.proofs.lemmas.List.{get_or_default}
 use Rattle.formula.specs.Limits.{part_limit}
 use Rattle.formula.specs.Parts.{no_part}
 use Rattle.formula.proofs.CodesLaws.{Bytes, Held}
-use Rattle.records.specs.Judging.{judged_in, count_taken, list_to}
+use Rattle.records.specs.Judging.{count_taken}
 use Rattle.records.proofs.JudgingLaws.{list_more, held_none, held_more, count_room, count_few, judged_list}
 use Rattle.records.proofs.JudgedByIffDue.{judged_by_lem}
 use Rattle.records.proofs.lending.judge_parts.Goals as goal

@@ -1,7 +1,7 @@
-use Rattle.std.proofs.Common.{◌≡◌, ◌≤◌, ◌<◌, ◌∙◌, length, arith, ap, List, set}
+use Rattle.std.proofs.Common.{◌≡◌, ◌<◌, ◌∙◌, length, arith, ap, List, set}
 use Rattle.formula.specs.declared.parts.Part.{Part}
 use Rattle.formula.specs.Parts.{part_at}
-use Rattle.records.specs.Reading.{read_into, parts_given, listing_of}
+use Rattle.records.specs.Reading.{read_into, parts_given}
 use Rattle.records.proofs.ReadingLaws.{given_few, given_room, listed_part, up_to, up_to_more, up_to_all}
 use Rattle.records.proofs.ListedIffDue.{listed_as}
 use Rattle.records.proofs.lending.read_parts.Goals as goal

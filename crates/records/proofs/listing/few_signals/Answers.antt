@@ -2,7 +2,6 @@
 -- Assumes nothing.
 use Rattle.rules.specs.Trace.{counts_of}
 use Rattle.records.proofs.JudgingLaws.{many_outputs, many_observed, many_hidden, in_all}
-use borrow.Author.Rules.{rules}
 use Rattle.records.proofs.listing.few_signals.Goals as goal
 
 pub returns-then-s-gt-KIND_LIMIT : goal.returns-then-s-gt-KIND_LIMIT

@@ -1,20 +1,11 @@
 -- `records::listing::judge_list` meets its contract, test by test, and by that of `judge_trace`.
 -- Assumes nothing.
-use Prim.Native.Nat.{ℕ}
 use native.Mathlib.Omega.{arith}
-use mathlib.Core.Path.{◌≡◌, sym, ◌∙◌}
-use mathlib.Core.List.{[], ◌∷◌}
-use lib.ListN.{length, length-map}
+use mathlib.Core.Path.{sym, ◌∙◌}
 use lib.Seq.{length-take-le}
-use denote.Laws.{Is}
-use denote.Struct.Laws as LL
 use borrow.Author.Tests.{not-true, not-false}
 use Rattle.rules.specs.Trace.{counts_of}
-use Rattle.records.specs.declared.listing.PartList.{PartList}
-use Rattle.records.specs.contracts.listing.PartList as L
-use Rattle.records.proofs.listing.PartList.TheLaws as L'
 use Rattle.records.proofs.JudgingLaws.{few_iff, short_is, signals_is, many_is, none_is, value_is}
-use borrow.Author.Rules.{rules}
 use Rattle.records.proofs.listing.judge_list.Goals as goal
 
 pub returns-then-room-n : goal.returns-then-room-n

@@ -1,9 +1,7 @@
 -- `records::listing::list_parts` meets its contract, by that of `read`.
 -- Assumes nothing.
 use mathlib.Core.Path.{◌∙◌}
-use mathlib.Core.Logic.{⊎_elim}
 use Rattle.records.proofs.ReadingLaws.{listed_short, listed_read}
-use borrow.Author.Rules.{rules}
 use Rattle.records.proofs.listing.list_parts.Goals as goal
 use Rattle.records.proofs.listing.list_parts.Goals.{else-room-ge-PART_LIMIT, then-room-ge-PART_LIMIT}
 

@@ -1,10 +1,9 @@
-use borrow.Author.Rules.{rules}
-use Prim.Native.Nat.{◌+◌, ◌-◌, ◌≤◌, ◌<◌}
+use Prim.Native.Nat.{◌<◌}
 use native.Mathlib.Omega.{arith}
-use mathlib.Core.Path.{◌≡◌, sym, ap, ◌∙◌}
-use lib.ListN.{length, drop}
+use mathlib.Core.Path.{sym, ap, ◌∙◌}
+use lib.ListN.{length}
 use borrow.Author.Tests.{not-true, not-false}
-use Rattle.rules.specs.Trace.{counts_of, bad_step, step_number}
+use Rattle.rules.specs.Trace.{counts_of, step_number}
 use Rattle.rules.proofs.TraceLaws.{bad_end, bad_more, bad_here}
 use Rattle.rules.proofs.judging.bad_step.Goals as goal
 

@@ -1,13 +1,9 @@
 -- `rules::judging::bad_step` meets its contract. The invariant: the first bad step is that of the letters that are left.
 -- Assumes nothing.
-use borrow.Author.Rules.{rules}
-use Prim.Native.Nat.{◌+◌, ◌-◌, ◌≤◌, ◌<◌}
-use native.Mathlib.Omega.{arith}
-use mathlib.Core.Path.{◌≡◌, sym, ap, ◌∙◌}
+use Prim.Native.Nat.{◌+◌, ◌-◌, ◌≤◌}
+use mathlib.Core.Path.{◌≡◌}
 use lib.ListN.{length, drop}
-use borrow.Author.Tests.{not-true, not-false}
-use Rattle.rules.specs.Trace.{counts_of, bad_step, step_number}
-use Rattle.rules.proofs.TraceLaws.{bad_end, bad_more, bad_here}
+use Rattle.rules.specs.Trace.{counts_of, bad_step}
 use Rattle.rules.proofs.judging.bad_step.Given as goal
 
 abbrev pub invariant-loop-i : goal.invariant-loop-i

@@ -1,6 +1,5 @@
 -- `rules::judging::is_letter` meets its contract, field by field.
 -- Assumes nothing.
-use borrow.Author.Rules.{rules}
 use Rattle.rules.proofs.TraceLaws.{letter_test}
 use Rattle.rules.proofs.judging.is_letter.Goals as goal
 

@@ -1,7 +1,6 @@
 -- `rules::judging::judge` meets its contract, by that of `judge_source`.
 -- Assumes nothing.
 use mathlib.Core.Path.{◌∙◌}
-use borrow.Author.Rules.{rules}
 use Rattle.rules.proofs.JudgeLaws.{short_memory, long_memory}
 use Rattle.rules.proofs.judging.judge.Goals as goal
 

@@ -1,6 +1,5 @@
 -- `rules::judging::judge_source` meets its contract, by those of `read` and `judge_trace`.
 -- Assumes nothing.
-use borrow.Author.Rules.{rules}
 use native.Mathlib.Omega.{arith}
 use mathlib.Core.Path.{sym}
 use Rattle.rules.specs.Problem.{read_problem}

@@ -1,7 +1,6 @@
 -- `rules::judging::judge_trace` meets its contract, by those of `bad_step` and `holds_on`.
 -- Assumes nothing.
 use mathlib.Core.Bool.{cond}
-use borrow.Author.Rules.{rules}
 use mathlib.Core.Path.{sym, ap, ◌∙◌}
 use Rattle.rules.specs.declared.judging.Verdict.TheVariants.{True, False}
 use Rattle.rules.specs.Trace.{counts_of}

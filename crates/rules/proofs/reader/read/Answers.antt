@@ -1,6 +1,5 @@
 -- `rules::reader::read` meets its contract, by that of `read_source`.
 -- Assumes nothing.
-use borrow.Author.Rules.{rules}
 use mathlib.Core.Path.{sym, ◌∙◌}
 use Rattle.rules.specs.Problem.{read_problem}
 use Rattle.rules.proofs.ReadIffDue.{read_told}

@@ -1,6 +1,5 @@
 -- `rules::reader::read_line` meets its contract: each return by the law of its word.
 -- Assumes nothing.
-use borrow.Author.Rules.{rules}
 use native.Mathlib.Omega.{arith}
 use mathlib.Core.Path.{sym}
 use lib.Seq.{length-take-le}

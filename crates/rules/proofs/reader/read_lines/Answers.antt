@@ -1,8 +1,5 @@
-use borrow.Author.Rules.{rules}
-use Prim.Native.Nat.{◌-◌}
 use native.Mathlib.Omega.{arith}
-use lib.ListN.{length}
-use Rattle.rules.proofs.ReadingLaws.{Going, begin, line_in, unended_line, refused_line, accepted_line, no_formula, some_formula}
+use Rattle.rules.proofs.ReadingLaws.{begin, line_in, unended_line, refused_line, accepted_line, no_formula, some_formula}
 use Rattle.rules.proofs.ReadingLaws.{refused_answer}
 use Rattle.rules.proofs.reader.read_lines.Goals as goal
 

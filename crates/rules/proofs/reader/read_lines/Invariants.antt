@@ -1,11 +1,8 @@
 -- `rules::reader::read_lines` meets its contract. The invariant is `Going`.
 -- Assumes nothing.
-use borrow.Author.Rules.{rules}
 use Prim.Native.Nat.{◌-◌}
-use native.Mathlib.Omega.{arith}
 use lib.ListN.{length}
-use Rattle.rules.proofs.ReadingLaws.{Going, begin, line_in, unended_line, refused_line, accepted_line, no_formula, some_formula}
-use Rattle.rules.proofs.ReadingLaws.{refused_answer}
+use Rattle.rules.proofs.ReadingLaws.{Going}
 use Rattle.rules.proofs.reader.read_lines.Given as goal
 
 abbrev pub invariant-loop-at : goal.invariant-loop-at

@@ -1,6 +1,5 @@
 -- `rules::reader::read_source` meets its contract, by that of `read_lines`.
 -- Assumes nothing.
-use borrow.Author.Rules.{rules}
 use native.Mathlib.Omega.{arith}
 use mathlib.Core.Path.{ap, subst, ◌∙◌}
 use Rattle.rules.specs.Reading.{reading_of, PartsRead}

@@ -1,11 +1,7 @@
-use Prim.Native.Nat.{◌-◌}
 use native.Mathlib.Omega.{arith}
 use mathlib.Core.Path.{◌∙◌}
-use mathlib.Core.Logic.{⊎_elim}
-use lib.ListN.{length}
-use borrow.Author.Rules.{rules}
 use Rattle.search.proofs.StepsFromItem.{adding_all}
-use Rattle.search.proofs.searching.ExpandLoop.{place_small, Kept, kept_none, put_set_asked, kept_copy, kept_old, kept_new, kept_over}
+use Rattle.search.proofs.searching.ExpandLoop.{place_small, kept_none, put_set_asked, kept_copy, kept_old, kept_new, kept_over}
 use Rattle.search.proofs.searching.expand.Goals as goal
 use Rattle.search.proofs.searching.expand.Goals.{then-b-a, else-b-a, then-t-m+else-m-eq-STATE_LIMIT, else-t-m}
 

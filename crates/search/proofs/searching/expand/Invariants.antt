@@ -2,13 +2,8 @@
 -- those that were there, and the row has their places.
 -- Assumes nothing.
 use Prim.Native.Nat.{◌-◌}
-use native.Mathlib.Omega.{arith}
-use mathlib.Core.Path.{◌∙◌}
-use mathlib.Core.Logic.{⊎_elim}
 use lib.ListN.{length}
-use borrow.Author.Rules.{rules}
-use Rattle.search.proofs.StepsFromItem.{adding_all}
-use Rattle.search.proofs.searching.ExpandLoop.{place_small, Kept, kept_none, put_set_asked, kept_copy, kept_old, kept_new, kept_over}
+use Rattle.search.proofs.searching.ExpandLoop.{Kept}
 use Rattle.search.proofs.searching.expand.Given as goal
 
 abbrev pub invariant-loop-a : goal.invariant-loop-a

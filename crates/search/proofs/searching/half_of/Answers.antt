@@ -1,6 +1,5 @@
 -- `search::searching::half_of` meets its contract.
 -- Assumes nothing.
-use borrow.Author.Rules.{rules}
 use Rattle.search.proofs.HalfSets.{half_one, half_shift}
 use Rattle.search.proofs.LimitsLaws.{operators_shift}
 use Rattle.search.proofs.searching.half_of.Goals as goal

@@ -1,9 +1,5 @@
-use Prim.Native.Nat.{◌≤◌, ◌-◌}
 use native.Mathlib.Omega.{arith}
-use mathlib.Core.Path.{sym, ◌∙◌, ◌≡◌}
-use borrow.Author.Rules.{rules}
-use Rattle.basics.specs.Bounded.{first_that}
-use Rattle.search.specs.Slots.{same_slot}
+use mathlib.Core.Path.{sym, ◌∙◌}
 use Rattle.basics.proofs.EqualRows.{row_ends}
 use Rattle.basics.proofs.BoundedLaws.{first_none, first_more, first_found, first_end}
 use Rattle.search.proofs.sets.find.Goals as goal

@@ -1,13 +1,9 @@
 -- `search::sets::find` meets its contract. The invariant: none of the places passed has the bytes of place n.
 -- Assumes nothing.
 use Prim.Native.Nat.{◌≤◌, ◌-◌}
-use native.Mathlib.Omega.{arith}
-use mathlib.Core.Path.{sym, ◌∙◌, ◌≡◌}
-use borrow.Author.Rules.{rules}
+use mathlib.Core.Path.{◌≡◌}
 use Rattle.basics.specs.Bounded.{first_that}
 use Rattle.search.specs.Slots.{same_slot}
-use Rattle.basics.proofs.EqualRows.{row_ends}
-use Rattle.basics.proofs.BoundedLaws.{first_none, first_more, first_found, first_end}
 use Rattle.search.proofs.sets.find.Given as goal
 
 abbrev pub invariant-loop-i : goal.invariant-loop-i

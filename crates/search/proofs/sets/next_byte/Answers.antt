@@ -1,10 +1,9 @@
-use Prim.Native.Nat.{◌+◌, ◌*◌, ◌≤◌, ◌-◌}
+use Prim.Native.Nat.{◌+◌, ◌*◌, ◌-◌}
 use native.Mathlib.Nat.{le_refl}
 use native.Mathlib.Omega.{arith}
-use mathlib.Core.Path.{◌∙◌, ◌≡◌}
-use borrow.Author.Rules.{rules}
-use Rattle.basics.proofs.BitsLaws.{table_from, byte_none, byte_small, byte_more, byte_done}
-use Rattle.search.proofs.sets.SetLoops.{next_small, next_digit, next_all_lem, next_bit}
+use mathlib.Core.Path.{◌∙◌}
+use Rattle.basics.proofs.BitsLaws.{byte_none, byte_small, byte_more, byte_done}
+use Rattle.search.proofs.sets.SetLoops.{next_small, next_digit, next_all_lem}
 use Rattle.search.proofs.sets.next_byte.Goals as goal
 
 pub loop-j-init : goal.loop-j-init

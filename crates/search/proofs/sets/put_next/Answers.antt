@@ -1,11 +1,6 @@
-use Prim.Native.Nat.{◌≤◌, ◌-◌}
 use native.Mathlib.Omega.{arith}
-use mathlib.Core.Path.{◌∙◌, ◌≡◌}
-use mathlib.Core.List.{◌++◌}
-use lib.ListN.{length-set, length, drop}
-use borrow.Author.Rules.{rules}
-use Rattle.basics.specs.Lists.{tabulate}
-use Rattle.search.specs.Memory.{next_byte}
+use mathlib.Core.Path.{◌∙◌}
+use lib.ListN.{length-set}
 use Rattle.basics.proofs.Filling.{table_more}
 use Rattle.search.proofs.sets.SetLoops.{each_less, next_done}
 use Rattle.search.proofs.sets.put_next.Goals as goal

@@ -1,15 +1,11 @@
 -- `search::sets::put_next` meets its contract. The invariant: the bytes passed are those of the next set, and the others as they were.
 -- Assumes nothing.
 use Prim.Native.Nat.{◌≤◌, ◌-◌}
-use native.Mathlib.Omega.{arith}
-use mathlib.Core.Path.{◌∙◌, ◌≡◌}
+use mathlib.Core.Path.{◌≡◌}
 use mathlib.Core.List.{◌++◌}
-use lib.ListN.{length-set, length, drop}
-use borrow.Author.Rules.{rules}
+use lib.ListN.{length, drop}
 use Rattle.basics.specs.Lists.{tabulate}
 use Rattle.search.specs.Memory.{next_byte}
-use Rattle.basics.proofs.Filling.{table_more}
-use Rattle.search.proofs.sets.SetLoops.{each_less, next_done}
 use Rattle.search.proofs.sets.put_next.Given as goal
 
 abbrev pub invariant-loop-b : goal.invariant-loop-b

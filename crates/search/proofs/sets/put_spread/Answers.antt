@@ -1,12 +1,7 @@
-use Prim.Native.Nat.{◌*◌, ◌≤◌, ◌-◌}
 use native.Mathlib.Omega.{arith}
-use mathlib.Core.Path.{◌≡◌}
-use mathlib.Core.List.{◌++◌}
-use lib.ListN.{length-set, length, drop}
-use borrow.Author.Rules.{rules}
-use Rattle.basics.specs.Lists.{tabulate}
+use lib.ListN.{length-set}
 use Rattle.basics.proofs.Filling.{table_more}
-use Rattle.search.proofs.sets.SetLoops.{spread_digit, spread_done, spread_at}
+use Rattle.search.proofs.sets.SetLoops.{spread_digit, spread_done}
 use Rattle.search.proofs.sets.put_spread.Goals as goal
 
 pub loop-p-preserved : goal.loop-p-preserved

@@ -1,14 +1,11 @@
 -- `search::sets::put_spread` meets its contract. The invariant: the entries passed are the bits, and the others as they were.
 -- Assumes nothing.
 use Prim.Native.Nat.{◌*◌, ◌≤◌, ◌-◌}
-use native.Mathlib.Omega.{arith}
 use mathlib.Core.Path.{◌≡◌}
 use mathlib.Core.List.{◌++◌}
-use lib.ListN.{length-set, length, drop}
-use borrow.Author.Rules.{rules}
+use lib.ListN.{length, drop}
 use Rattle.basics.specs.Lists.{tabulate}
-use Rattle.basics.proofs.Filling.{table_more}
-use Rattle.search.proofs.sets.SetLoops.{spread_digit, spread_done, spread_at}
+use Rattle.search.proofs.sets.SetLoops.{spread_at}
 use Rattle.search.proofs.sets.put_spread.Given as goal
 
 abbrev pub invariant-loop-p : goal.invariant-loop-p

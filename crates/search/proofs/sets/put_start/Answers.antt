@@ -1,11 +1,5 @@
-use Prim.Native.Nat.{◌≤◌, ◌-◌}
 use native.Mathlib.Omega.{arith}
-use mathlib.Core.Path.{◌≡◌}
-use mathlib.Core.List.{◌++◌}
-use lib.ListN.{length-set, length, drop}
-use borrow.Author.Rules.{rules}
-use Rattle.basics.specs.Lists.{tabulate}
-use Rattle.search.specs.Memory.{start_byte}
+use lib.ListN.{length-set}
 use Rattle.basics.proofs.Filling.{table_more}
 use Rattle.search.proofs.PackedSets.{start_done}
 use Rattle.search.proofs.sets.put_start.Goals as goal

@@ -1,15 +1,11 @@
 -- `search::sets::put_start` meets its contract. The invariant: the bytes passed are those of the start set, and the others as they were.
 -- Assumes nothing.
 use Prim.Native.Nat.{◌≤◌, ◌-◌}
-use native.Mathlib.Omega.{arith}
 use mathlib.Core.Path.{◌≡◌}
 use mathlib.Core.List.{◌++◌}
-use lib.ListN.{length-set, length, drop}
-use borrow.Author.Rules.{rules}
+use lib.ListN.{length, drop}
 use Rattle.basics.specs.Lists.{tabulate}
 use Rattle.search.specs.Memory.{start_byte}
-use Rattle.basics.proofs.Filling.{table_more}
-use Rattle.search.proofs.PackedSets.{start_done}
 use Rattle.search.proofs.sets.put_start.Given as goal
 
 abbrev pub invariant-loop-i : goal.invariant-loop-i

@@ -1,12 +1,8 @@
-use Prim.Native.Nat.{◌≤◌, ◌-◌}
 use native.Mathlib.Nat.{le_refl}
 use native.Mathlib.Omega.{arith}
-use mathlib.Core.Path.{◌≡◌, refl}
-use mathlib.Core.List.{◌++◌}
-use lib.ListN.{length-set, length, drop}
-use borrow.Author.Rules.{rules}
-use Rattle.basics.specs.Lists.{tabulate}
-use Rattle.search.proofs.sets.SetLoops.{repeated_none, repeated_more, repeated_done, repeated_at}
+use mathlib.Core.Path.{refl}
+use lib.ListN.{length-set}
+use Rattle.search.proofs.sets.SetLoops.{repeated_none, repeated_more, repeated_done}
 use Rattle.search.proofs.sets.repeat.Goals as goal
 
 pub loop-b-init : goal.loop-b-init

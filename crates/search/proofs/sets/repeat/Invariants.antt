@@ -1,14 +1,11 @@
 -- `search::sets::repeat` meets its contract. The invariant: the bytes passed repeat the first h, and the others are as they were.
 -- Assumes nothing.
 use Prim.Native.Nat.{◌≤◌, ◌-◌}
-use native.Mathlib.Nat.{le_refl}
-use native.Mathlib.Omega.{arith}
-use mathlib.Core.Path.{◌≡◌, refl}
+use mathlib.Core.Path.{◌≡◌}
 use mathlib.Core.List.{◌++◌}
-use lib.ListN.{length-set, length, drop}
-use borrow.Author.Rules.{rules}
+use lib.ListN.{length, drop}
 use Rattle.basics.specs.Lists.{tabulate}
-use Rattle.search.proofs.sets.SetLoops.{repeated_none, repeated_more, repeated_done, repeated_at}
+use Rattle.search.proofs.sets.SetLoops.{repeated_at}
 use Rattle.search.proofs.sets.repeat.Given as goal
 
 abbrev pub invariant-loop-b : goal.invariant-loop-b

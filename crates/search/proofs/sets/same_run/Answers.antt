@@ -1,10 +1,6 @@
-use Prim.Native.Nat.{◌≤◌, ◌-◌}
 use native.Mathlib.Omega.{arith}
-use mathlib.Core.Path.{sym, ◌≡◌}
-use mathlib.Core.Bool.{true}
-use borrow.Author.Rules.{rules}
+use mathlib.Core.Path.{sym}
 use Rattle.search.specs.Limits.{run_size}
-use Rattle.search.specs.Slots.{same_run}
 use Rattle.search.proofs.sets.SetLoops.{run_none, run_more, run_fails, run_done}
 use Rattle.search.proofs.sets.same_run.Goals as goal
 

@@ -1,13 +1,10 @@
 -- `search::sets::same_run` meets its contract. The invariant: the bytes passed agree.
 -- Assumes nothing.
 use Prim.Native.Nat.{◌≤◌, ◌-◌}
-use native.Mathlib.Omega.{arith}
-use mathlib.Core.Path.{sym, ◌≡◌}
+use mathlib.Core.Path.{◌≡◌}
 use mathlib.Core.Bool.{true}
-use borrow.Author.Rules.{rules}
 use Rattle.search.specs.Limits.{run_size}
 use Rattle.search.specs.Slots.{same_run}
-use Rattle.search.proofs.sets.SetLoops.{run_none, run_more, run_fails, run_done}
 use Rattle.search.proofs.sets.same_run.Given as goal
 
 abbrev pub invariant-loop-y : goal.invariant-loop-y

@@ -1,11 +1,6 @@
-use Prim.Native.Nat.{◌≤◌, ◌-◌, ◌*◌, ◌%◌}
 use native.Mathlib.Omega.{arith}
-use mathlib.Core.Path.{sym, ◌≡◌, refl, ◌∙◌}
-use mathlib.Core.Bool.{true}
-use borrow.Author.Rules.{rules}
-use borrow.Author.Tests.{not-true, not-false}
+use mathlib.Core.Path.{sym, refl, ◌∙◌}
 use Rattle.search.specs.Limits.{run_size}
-use Rattle.search.specs.Slots.{same_run}
 use Rattle.search.proofs.sets.SetLoops.{run_none, slot_more, slot_fails, slot_done}
 use Rattle.search.proofs.sets.same_slot.Goals as goal
 

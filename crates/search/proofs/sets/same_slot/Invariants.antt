@@ -1,14 +1,10 @@
 -- `search::sets::same_slot` meets its contract. The invariant: the bytes passed agree, and they are whole runs.
 -- Assumes nothing.
 use Prim.Native.Nat.{◌≤◌, ◌-◌, ◌*◌, ◌%◌}
-use native.Mathlib.Omega.{arith}
-use mathlib.Core.Path.{sym, ◌≡◌, refl, ◌∙◌}
+use mathlib.Core.Path.{◌≡◌}
 use mathlib.Core.Bool.{true}
-use borrow.Author.Rules.{rules}
-use borrow.Author.Tests.{not-true, not-false}
 use Rattle.search.specs.Limits.{run_size}
 use Rattle.search.specs.Slots.{same_run}
-use Rattle.search.proofs.sets.SetLoops.{run_none, slot_more, slot_fails, slot_done}
 use Rattle.search.proofs.sets.same_slot.Given as goal
 
 abbrev pub invariant-loop-y : goal.invariant-loop-y

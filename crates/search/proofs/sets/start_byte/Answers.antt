@@ -1,10 +1,9 @@
-use Prim.Native.Nat.{◌+◌, ◌*◌, ◌/◌, ◌^◌, ◌≤◌, ◌-◌}
+use Prim.Native.Nat.{◌+◌, ◌*◌, ◌/◌, ◌^◌, ◌-◌}
 use native.Mathlib.Nat.{le_refl}
 use native.Mathlib.Omega.{arith}
-use mathlib.Core.Path.{◌∙◌, ◌≡◌}
-use borrow.Author.Rules.{rules}
-use Rattle.basics.proofs.BitsLaws.{low_lt, table_from, byte_none, byte_small, byte_more, byte_done}
-use Rattle.search.proofs.sets.SetLoops.{start_digit, start_all, start_bit}
+use mathlib.Core.Path.{◌∙◌}
+use Rattle.basics.proofs.BitsLaws.{low_lt, byte_none, byte_small, byte_more, byte_done}
+use Rattle.search.proofs.sets.SetLoops.{start_digit, start_all}
 use Rattle.search.proofs.sets.start_byte.Goals as goal
 
 pub loop-j-init : goal.loop-j-init

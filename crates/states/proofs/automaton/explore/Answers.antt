@@ -3,7 +3,6 @@
 use Prim.Native.Nat.{ℕ, ◌*◌, ◌≤◌}
 use mathlib.Core.Path.{refl, sym, ◌∙◌, subst}
 use lib.ListN.{length-replicate}
-use borrow.Author.Rules.{rules}
 use Rattle.formula.specs.Codes.{parts_in}
 use Rattle.rules.specs.Trace.{counts_of}
 use Rattle.search.specs.Limits.{letter_limit, map_size}

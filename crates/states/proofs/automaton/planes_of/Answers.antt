@@ -2,7 +2,6 @@
 -- Assumes nothing.
 use Prim.Native.Nat.{◌-◌}
 use native.Mathlib.Omega.{arith}
-use borrow.Author.Rules.{rules}
 use Rattle.basics.specs.Limits.{word_bits}
 use Rattle.basics.proofs.BitsLaws.{shl_one}
 use Rattle.states.proofs.LimitsLaws.{planes_one, planes_many}

@@ -4,7 +4,6 @@ use Prim.Native.Nat.{ℕ, ◌*◌, ◌≤◌}
 use native.Mathlib.Omega.{arith}
 use mathlib.Core.Path.{◌≡◌, refl, sym, ◌∙◌, subst}
 use lib.ListN.{length, length-replicate}
-use borrow.Author.Rules.{rules}
 use Rattle.search.specs.Limits.{letter_limit}
 use Rattle.obligations.specs.Letters.{counts, letters_of}
 use Rattle.states.specs.Limits.{plane_size, plane_count}

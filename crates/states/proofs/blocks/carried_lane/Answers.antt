@@ -1,7 +1,6 @@
 -- `states::blocks::carried_lane` meets its contract. The places of the operators are those of parts, and a byte is an index of a block.
 -- Assumes nothing.
 use native.Mathlib.Omega.{arith}
-use borrow.Author.Rules.{rules}
 use Rattle.formula.proofs.CodesLaws.{length_in}
 use Rattle.obligations.proofs.OperatorSpots.{listed_held, listed_spot}
 use Rattle.states.proofs.blocks.CarriedWords.{read_low, read_top, read_above}

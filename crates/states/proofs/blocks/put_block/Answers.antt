@@ -1,14 +1,10 @@
-use Prim.Native.Nat.{◌-◌, ◌*◌, ◌/◌, ◌%◌, ◌≤◌, ◌<◌}
+use Prim.Native.Nat.{◌*◌, ◌/◌, ◌%◌, ◌<◌}
 use native.Mathlib.Nat.{le_refl}
 use native.Mathlib.Omega.{arith}
-use mathlib.Core.Path.{◌≡◌, refl, ◌∙◌}
-use mathlib.Core.List.{◌++◌}
-use lib.ListN.{length, drop, length-set}
-use borrow.Author.Rules.{rules}
-use Rattle.formula.specs.Codes.{parts_in}
+use mathlib.Core.Path.{refl, ◌∙◌}
+use lib.ListN.{length, length-set}
 use Rattle.obligations.specs.Values.{block_size}
 use Rattle.states.specs.Limits.{slot_size}
-use Rattle.states.specs.Planes.{plane}
 use Rattle.states.proofs.blocks.CarriedWords.{carried_read}
 use Rattle.states.proofs.PlanesLaws.{plane_none, plane_more, plane_end}
 use Rattle.states.proofs.blocks.put_block.Goals as goal

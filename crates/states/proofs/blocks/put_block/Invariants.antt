@@ -1,18 +1,13 @@
 -- `states::blocks::put_block` meets its contract. The invariant: the words passed are right, and the others as they were.
 -- Assumes nothing.
-use Prim.Native.Nat.{◌-◌, ◌*◌, ◌/◌, ◌%◌, ◌≤◌, ◌<◌}
-use native.Mathlib.Nat.{le_refl}
-use native.Mathlib.Omega.{arith}
-use mathlib.Core.Path.{◌≡◌, refl, ◌∙◌}
+use Prim.Native.Nat.{◌-◌, ◌*◌, ◌≤◌}
+use mathlib.Core.Path.{◌≡◌}
 use mathlib.Core.List.{◌++◌}
-use lib.ListN.{length, drop, length-set}
-use borrow.Author.Rules.{rules}
+use lib.ListN.{length, drop}
 use Rattle.formula.specs.Codes.{parts_in}
 use Rattle.obligations.specs.Values.{block_size}
 use Rattle.states.specs.Limits.{slot_size}
 use Rattle.states.specs.Planes.{plane}
-use Rattle.states.proofs.blocks.CarriedWords.{carried_read}
-use Rattle.states.proofs.PlanesLaws.{plane_none, plane_more, plane_end}
 use Rattle.states.proofs.blocks.put_block.Given as goal
 
 abbrev pub invariant-loop-y : goal.invariant-loop-y

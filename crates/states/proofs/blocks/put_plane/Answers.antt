@@ -1,9 +1,8 @@
-use Prim.Native.Nat.{ℕ, ◌+◌, ◌-◌, ◌*◌, ◌≤◌}
+use Prim.Native.Nat.{ℕ, ◌+◌, ◌-◌, ◌*◌}
 use native.Mathlib.Omega.{arith}
 use mathlib.Core.Path.{◌≡◌, refl, sym, ap, ◌∙◌}
 use mathlib.Core.List.{◌++◌}
-use lib.ListN.{length, drop, length-replicate}
-use borrow.Author.Rules.{rules}
+use lib.ListN.{drop, length-replicate}
 use borrow.Rule.Slice.PartMut.{same_len_mid}
 use Rattle.formula.specs.Codes.{parts_in}
 use Rattle.basics.specs.Limits.{index_limit}

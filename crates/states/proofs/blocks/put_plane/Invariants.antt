@@ -1,19 +1,14 @@
 -- `states::blocks::put_plane` meets its contract. The invariant: the words of the blocks passed are right, and the others as they were.
 -- Assumes nothing.
-use Prim.Native.Nat.{ℕ, ◌+◌, ◌-◌, ◌*◌, ◌≤◌}
-use native.Mathlib.Omega.{arith}
-use mathlib.Core.Path.{◌≡◌, refl, sym, ap, ◌∙◌}
+use Prim.Native.Nat.{◌-◌, ◌*◌, ◌≤◌}
+use mathlib.Core.Path.{◌≡◌}
 use mathlib.Core.List.{◌++◌}
-use lib.ListN.{length, drop, length-replicate}
-use borrow.Author.Rules.{rules}
-use borrow.Rule.Slice.PartMut.{same_len_mid}
+use lib.ListN.{length, drop}
 use Rattle.formula.specs.Codes.{parts_in}
 use Rattle.basics.specs.Limits.{index_limit}
 use Rattle.obligations.specs.Values.{block_size}
 use Rattle.states.specs.Limits.{slot_size}
 use Rattle.states.specs.Planes.{plane}
-use Rattle.basics.proofs.LentPart.{part_length}
-use Rattle.states.proofs.PlanesLaws.{plane_none, plane_block}
 use Rattle.states.proofs.blocks.put_plane.Given as goal
 
 abbrev pub invariant-loop-b : goal.invariant-loop-b

@@ -1,9 +1,6 @@
-use Prim.Native.Nat.{◌≤◌, ◌-◌}
 use native.Mathlib.Omega.{arith}
 use mathlib.Core.Path.{◌≡◌, sym, ◌∙◌}
-use borrow.Author.Rules.{rules}
-use Rattle.basics.specs.Bounded.{first_that}
-use Rattle.states.specs.Planes.{same_words, first_of}
+use Rattle.states.specs.Planes.{first_of}
 use Rattle.basics.proofs.BoundedLaws.{first_none, first_more, first_found, first_end}
 use Rattle.states.proofs.maps.first_same.Goals as goal
 

@@ -1,11 +1,10 @@
-use Prim.Native.Nat.{◌≤◌, ◌-◌, ◌+◌, ◌/◌, ◌^◌}
+use Prim.Native.Nat.{◌-◌, ◌+◌, ◌/◌, ◌^◌}
 use native.Mathlib.Omega.{arith}
-use mathlib.Core.Path.{◌≡◌, ◌∙◌}
+use mathlib.Core.Path.{◌∙◌}
 use lib.ListN.{get_or}
-use borrow.Author.Rules.{rules}
-use Rattle.basics.proofs.BitsLaws.{low_lt, table_from, bits_none, bits_more, bits_done}
+use Rattle.basics.proofs.BitsLaws.{low_lt, bits_none, bits_more, bits_done}
 use Rattle.states.specs.Limits.{slot_size}
-use Rattle.states.proofs.maps.MapLoops.{bit_in, lane_small, lane_all, lane_digit}
+use Rattle.states.proofs.maps.MapLoops.{lane_small, lane_all, lane_digit}
 use Rattle.states.proofs.maps.lane_of.Goals as goal
 
 pub loop-k-init : goal.loop-k-init

@@ -1,13 +1,10 @@
 -- `states::maps::lane_of` meets its contract. The invariant: n is the number of the bits from k on.
 -- Assumes nothing.
-use Prim.Native.Nat.{◌≤◌, ◌-◌, ◌+◌, ◌/◌, ◌^◌}
-use native.Mathlib.Omega.{arith}
-use mathlib.Core.Path.{◌≡◌, ◌∙◌}
-use lib.ListN.{get_or}
-use borrow.Author.Rules.{rules}
-use Rattle.basics.proofs.BitsLaws.{low_lt, table_from, bits_none, bits_more, bits_done}
+use Prim.Native.Nat.{◌≤◌, ◌-◌}
+use mathlib.Core.Path.{◌≡◌}
+use Rattle.basics.proofs.BitsLaws.{table_from}
 use Rattle.states.specs.Limits.{slot_size}
-use Rattle.states.proofs.maps.MapLoops.{bit_in, lane_small, lane_all, lane_digit}
+use Rattle.states.proofs.maps.MapLoops.{bit_in}
 use Rattle.states.proofs.maps.lane_of.Given as goal
 
 abbrev pub invariant-loop-k : goal.invariant-loop-k

@@ -1,13 +1,10 @@
-use Prim.Native.Nat.{◌*◌, ◌≤◌, ◌<◌, ◌-◌}
+use Prim.Native.Nat.{◌*◌, ◌<◌}
 use native.Mathlib.Omega.{arith}
 use mathlib.Core.Path.{◌≡◌}
-use mathlib.Core.List.{◌++◌}
-use lib.ListN.{length, drop, length-set}
-use borrow.Author.Rules.{rules}
+use lib.ListN.{length, length-set}
 use Rattle.basics.specs.Limits.{word_size}
-use Rattle.basics.specs.Lists.{tabulate}
 use Rattle.basics.proofs.Filling.{table_more}
-use Rattle.states.proofs.maps.MapLoops.{map_entry, entry_code, map_all}
+use Rattle.states.proofs.maps.MapLoops.{entry_code, map_all}
 use Rattle.states.proofs.maps.put_map.Goals as goal
 
 pub loop-p-preserved : goal.loop-p-preserved

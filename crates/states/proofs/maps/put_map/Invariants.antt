@@ -1,15 +1,12 @@
 -- `states::maps::put_map` meets its contract. The invariant: the entries passed are stored, the rest is as it was.
 -- Assumes nothing.
-use Prim.Native.Nat.{◌*◌, ◌≤◌, ◌<◌, ◌-◌}
-use native.Mathlib.Omega.{arith}
+use Prim.Native.Nat.{◌*◌, ◌≤◌, ◌-◌}
 use mathlib.Core.Path.{◌≡◌}
 use mathlib.Core.List.{◌++◌}
-use lib.ListN.{length, drop, length-set}
-use borrow.Author.Rules.{rules}
+use lib.ListN.{length, drop}
 use Rattle.basics.specs.Limits.{word_size}
 use Rattle.basics.specs.Lists.{tabulate}
-use Rattle.basics.proofs.Filling.{table_more}
-use Rattle.states.proofs.maps.MapLoops.{map_entry, entry_code, map_all}
+use Rattle.states.proofs.maps.MapLoops.{map_entry}
 use Rattle.states.proofs.maps.put_map.Given as goal
 
 abbrev pub invariant-loop-p : goal.invariant-loop-p

@@ -1,11 +1,8 @@
-use Prim.Native.Nat.{◌*◌, ◌≤◌, ◌-◌}
+use Prim.Native.Nat.{◌*◌}
 use native.Mathlib.Omega.{arith}
 use mathlib.Core.Path.{◌≡◌}
-use mathlib.Core.Bool.{true}
-use borrow.Author.Rules.{rules}
-use Rattle.basics.specs.Bounded.{agree}
 use Rattle.states.specs.Limits.{slot_size, plane_count}
-use Rattle.states.proofs.maps.MapLoops.{word_at, same_none, same_more, same_fails, same_all}
+use Rattle.states.proofs.maps.MapLoops.{same_none, same_more, same_fails, same_all}
 use Rattle.states.proofs.maps.same_words.Goals as goal
 
 pub loop-y-init : goal.loop-y-init

@@ -1,13 +1,11 @@
 -- `states::maps::same_words` meets its contract. The invariant: the words passed agree.
 -- Assumes nothing.
 use Prim.Native.Nat.{◌*◌, ◌≤◌, ◌-◌}
-use native.Mathlib.Omega.{arith}
 use mathlib.Core.Path.{◌≡◌}
 use mathlib.Core.Bool.{true}
-use borrow.Author.Rules.{rules}
 use Rattle.basics.specs.Bounded.{agree}
 use Rattle.states.specs.Limits.{slot_size, plane_count}
-use Rattle.states.proofs.maps.MapLoops.{word_at, same_none, same_more, same_fails, same_all}
+use Rattle.states.proofs.maps.MapLoops.{word_at}
 use Rattle.states.proofs.maps.same_words.Given as goal
 
 abbrev pub invariant-loop-y : goal.invariant-loop-y

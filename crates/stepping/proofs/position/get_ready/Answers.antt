@@ -1,6 +1,5 @@
 -- `stepping::position::get_ready` meets its contract.
 -- Assumes nothing.
-use borrow.Author.Rules.{rules}
 use Rattle.stepping.proofs.PositionLaws.{ready_stop, ready}
 use Rattle.stepping.proofs.position.get_ready.Goals as goal
 

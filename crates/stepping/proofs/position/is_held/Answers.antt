@@ -1,6 +1,5 @@
 -- `stepping::position::is_held` meets its contract.
 -- Assumes nothing.
-use borrow.Author.Rules.{rules}
 use Rattle.stepping.proofs.PositionLaws.{held_set, held_read}
 use Rattle.stepping.proofs.position.is_held.Goals as goal
 

@@ -1,6 +1,5 @@
 -- `stepping::position::is_holding` meets its contract.
 -- Assumes nothing.
-use borrow.Author.Rules.{rules}
 use Rattle.stepping.proofs.PositionLaws.{stands, has_row, not_standing, held_there}
 use Rattle.stepping.proofs.position.is_holding.Goals as goal
 

@@ -1,7 +1,6 @@
 -- `stepping::position::is_standing` meets its contract.
 -- Assumes nothing.
 use lib.ListN.{length}
-use borrow.Author.Rules.{rules}
 use Rattle.wellformed.specs.WellFormed.{is_sized, is_row}
 use Rattle.basics.proofs.GuardedTests.{guard_fails, guard_left, guarded}
 use Rattle.wellformed.proofs.TestsSay.{sized_says}

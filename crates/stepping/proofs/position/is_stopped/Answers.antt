@@ -1,6 +1,5 @@
 -- `stepping::position::is_stopped` meets its contract.
 -- Assumes nothing.
-use borrow.Author.Rules.{rules}
 use Rattle.stepping.proofs.PositionLaws.{has_row, holds, not_stopped, stopped_there}
 use Rattle.stepping.proofs.position.is_stopped.Goals as goal
 

@@ -1,6 +1,5 @@
 -- `stepping::position::move_to` meets its contract.
 -- Assumes nothing.
-use borrow.Author.Rules.{rules}
 use Rattle.stepping.proofs.PositionLaws.{on_stop, on_choice}
 use Rattle.stepping.proofs.position.move_to.Goals as goal
 

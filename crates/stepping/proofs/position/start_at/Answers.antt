@@ -1,6 +1,5 @@
 -- `stepping::position::start_at` meets its contract.
 -- Assumes nothing.
-use borrow.Author.Rules.{rules}
 use mathlib.Core.Path.{subst}
 use Rattle.play.specs.Cells.{row_size}
 use Prim.Native.Nat.{◌≤◌}

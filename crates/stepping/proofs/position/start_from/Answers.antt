@@ -1,6 +1,5 @@
 -- `stepping::position::start_from` meets its contract.
 -- Assumes nothing.
-use borrow.Author.Rules.{rules}
 use Rattle.stepping.proofs.AnswersDue.{start_told}
 use Rattle.stepping.proofs.PositionLaws.{stands, has_first, start_refused, start_moves}
 use Rattle.stepping.proofs.position.start_from.Goals as goal

@@ -1,10 +1,8 @@
 -- `stepping::position::step_from` meets its contract.
 -- Assumes nothing.
 use native.Mathlib.Omega.{arith}
-use borrow.Author.Rules.{rules}
-use Rattle.stepping.specs.Position.{Holds}
 use Rattle.stepping.proofs.AnswersDue.{step_told}
-use Rattle.stepping.proofs.PositionLaws.{has_row, holds, Goes, goes, step_nowhere, step_stopped, step_unseen, step_asks, step_moves}
+use Rattle.stepping.proofs.PositionLaws.{has_row, holds, goes, step_nowhere, step_stopped, step_unseen, step_asks, step_moves}
 use Rattle.stepping.proofs.position.step_from.Goals as goal
 
 pub returns-then-not-is_holding : goal.returns-then-not-is_holding

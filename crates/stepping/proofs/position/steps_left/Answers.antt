@@ -1,6 +1,5 @@
 -- `stepping::position::steps_left` meets its contract.
 -- Assumes nothing.
-use borrow.Author.Rules.{rules}
 use Rattle.stepping.proofs.AnswersDue.{left_told}
 use Rattle.stepping.proofs.PositionLaws.{has_row, holds, left_nowhere, left_there}
 use Rattle.stepping.proofs.position.steps_left.Goals as goal

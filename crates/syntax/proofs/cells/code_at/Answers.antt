@@ -1,7 +1,6 @@
 -- `syntax::cells::code_at` meets its contract.
 -- Assumes nothing.
 use Rattle.syntax.proofs.CellsLaws.{made_leaf, made_prefix, made_infix}
-use borrow.Author.Rules.{rules}
 use Rattle.syntax.proofs.cells.code_at.Goals as goal
 
 pub returns-then-x-lt-ONE_SIDED : goal.returns-then-x-lt-ONE_SIDED

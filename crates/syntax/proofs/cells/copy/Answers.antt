@@ -1,9 +1,9 @@
 use borrow.Author.Rules.{rules}
-use Prim.Native.Nat.{◌+◌, ◌≤◌, ◌<◌, ◌-◌}
+use Prim.Native.Nat.{◌+◌, ◌<◌}
 use native.Mathlib.Omega.{arith}
 use mathlib.Core.Path.{◌≡◌, refl, ap, ◌∙◌}
-use lib.ListN.{length, take, set, get_or}
-use lib.Seq.{sets, take-length}
+use lib.ListN.{length, set, get_or}
+use lib.Seq.{take-length}
 use Rattle.syntax.proofs.CellsLaws.{copy_more}
 use Rattle.syntax.proofs.cells.copy.Goals as goal
 

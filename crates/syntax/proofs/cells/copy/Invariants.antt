@@ -1,12 +1,9 @@
 -- `syntax::cells::copy` meets its contract. The invariant: the cells passed are written.
 -- Assumes nothing.
-use borrow.Author.Rules.{rules}
-use Prim.Native.Nat.{◌+◌, ◌≤◌, ◌<◌, ◌-◌}
-use native.Mathlib.Omega.{arith}
-use mathlib.Core.Path.{◌≡◌, refl, ap, ◌∙◌}
-use lib.ListN.{length, take, set, get_or}
-use lib.Seq.{sets, take-length}
-use Rattle.syntax.proofs.CellsLaws.{copy_more}
+use Prim.Native.Nat.{◌≤◌, ◌-◌}
+use mathlib.Core.Path.{◌≡◌}
+use lib.ListN.{length, take}
+use lib.Seq.{sets}
 use Rattle.syntax.proofs.cells.copy.Given as goal
 
 abbrev pub invariant-loop-i : goal.invariant-loop-i

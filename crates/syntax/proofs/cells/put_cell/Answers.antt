@@ -2,7 +2,6 @@
 -- Assumes nothing.
 use mathlib.Core.Path.{sym}
 use lib.Seq.{set_out}
-use borrow.Author.Rules.{rules}
 use Rattle.syntax.proofs.cells.put_cell.Goals as goal
 
 pub returns-else-n-cells : goal.returns-else-n-cells

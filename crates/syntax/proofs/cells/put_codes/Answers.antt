@@ -1,10 +1,9 @@
 use borrow.Author.Rules.{rules}
-use Prim.Native.Nat.{◌+◌, ◌≤◌, ◌<◌, ◌-◌}
+use Prim.Native.Nat.{◌+◌, ◌<◌}
 use native.Mathlib.Omega.{arith}
 use mathlib.Core.Path.{◌≡◌, refl, ap₂, ◌∙◌}
-use lib.ListN.{length, take, set, length-set}
-use lib.Seq.{sets, take-length}
-use Rattle.syntax.specs.Cells.{codes_from}
+use lib.ListN.{length, set, length-set}
+use lib.Seq.{take-length}
 use Rattle.syntax.proofs.CellsLaws.{codes_none, codes_more}
 use Rattle.syntax.proofs.cells.put_codes.Goals as goal
 

@@ -1,13 +1,10 @@
 -- `syntax::cells::put_codes` meets its contract. The invariant: the numbers of the cells passed are written.
 -- Assumes nothing.
-use borrow.Author.Rules.{rules}
-use Prim.Native.Nat.{◌+◌, ◌≤◌, ◌<◌, ◌-◌}
-use native.Mathlib.Omega.{arith}
-use mathlib.Core.Path.{◌≡◌, refl, ap₂, ◌∙◌}
-use lib.ListN.{length, take, set, length-set}
-use lib.Seq.{sets, take-length}
+use Prim.Native.Nat.{◌≤◌, ◌-◌}
+use mathlib.Core.Path.{◌≡◌}
+use lib.ListN.{length, take}
+use lib.Seq.{sets}
 use Rattle.syntax.specs.Cells.{codes_from}
-use Rattle.syntax.proofs.CellsLaws.{codes_none, codes_more}
 use Rattle.syntax.proofs.cells.put_codes.Given as goal
 
 abbrev pub invariant-loop-i : goal.invariant-loop-i

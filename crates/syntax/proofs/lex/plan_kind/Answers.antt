@@ -1,7 +1,6 @@
 -- `syntax::lex::plan_kind` meets its contract.
 -- Assumes nothing.
 use Rattle.syntax.specs.Lex.{plan_kind}
-use borrow.Author.Rules.{rules}
 use Rattle.syntax.proofs.lex.plan_kind.Goals as goal
 
 pub returns-then-same : goal.returns-then-same

@@ -2,11 +2,9 @@
 -- Assumes nothing.
 use native.Mathlib.Omega.{arith}
 use mathlib.Core.Path.{sym, ◌∙◌}
-use mathlib.Core.Logic.{⊎_elim}
 use Rattle.basics.specs.Bytes.{word_byte}
 use Rattle.syntax.proofs.LexLaws.{tok_end, tok_word, tok_arrow, tok_dash, tok_none, tok_sign}
 use Rattle.basics.proofs.BytesLaws.{past_in}
-use borrow.Author.Rules.{rules}
 use Rattle.syntax.proofs.lex.token_at.Goals as goal
 use Rattle.syntax.proofs.lex.token_at.Goals.{then-i-text+else-text-i-eq62, else-i-text}
 

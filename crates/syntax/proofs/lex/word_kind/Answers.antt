@@ -1,7 +1,6 @@
 -- `syntax::lex::word_kind` meets its contract.
 -- Assumes nothing.
 use Rattle.syntax.specs.Lex.{word_kind}
-use borrow.Author.Rules.{rules}
 use Rattle.syntax.proofs.lex.word_kind.Goals as goal
 
 pub returns-then-same : goal.returns-then-same

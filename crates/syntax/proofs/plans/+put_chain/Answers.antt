@@ -1,8 +1,7 @@
-use Prim.Native.Nat.{ℕ, ◌-◌, ◌<◌}
+use Prim.Native.Nat.{◌-◌}
 use native.Mathlib.Omega.{arith}
 use mathlib.Core.Path.{refl}
 use lib.ListN.{length}
-use borrow.Author.Rules.{rules}
 use Rattle.syntax.proofs.PlansLaws.{chain_length, chain_none, chain_more, chain_size}
 use Rattle.syntax.proofs.plans.Wrote.{from_copy, from_chain, wrote_as, wrote_prefix, wrote_infix, tell}
 use Rattle.syntax.proofs.plans.+put_chain.Goals as goal

@@ -3,7 +3,6 @@
 use Rattle.syntax.specs.Kinds.{not_kind, or_kind, eventually_kind, always_kind}
 use Rattle.syntax.proofs.PlansLaws.{after_length}
 use Rattle.syntax.proofs.plans.Wrote.{from_prefix, wrote_joined, tell}
-use borrow.Author.Rules.{rules}
 use Rattle.syntax.proofs.plans.put_after.Goals as goal
 
 pub returns : goal.returns

@@ -3,7 +3,6 @@
 use Rattle.syntax.specs.Kinds.{not_kind, until_kind}
 use Rattle.syntax.proofs.PlansLaws.{before_length}
 use Rattle.syntax.proofs.plans.Wrote.{from_copy, from_prefix, wrote_joined, tell}
-use borrow.Author.Rules.{rules}
 use Rattle.syntax.proofs.plans.put_before.Goals as goal
 
 pub returns : goal.returns

@@ -1,13 +1,12 @@
-use Prim.Native.Nat.{◌+◌, ◌-◌, ◌≤◌}
+use Prim.Native.Nat.{◌-◌}
 use native.Mathlib.Omega.{arith}
 use mathlib.Core.Path.{◌≡◌, refl, ap, ◌∙◌}
 use mathlib.Core.List.{[], ◌++◌}
-use lib.ListN.{length}
 use borrow.Author.Rules.{rules}
 use Rattle.syntax.specs.Kinds.{and_kind, weak_next_kind}
 use Rattle.syntax.specs.Plans.{chain_cells, delay_cells}
 use Rattle.syntax.proofs.PlansLaws.{delay_more, delay_behind, during_length}
-use Rattle.syntax.proofs.plans.Wrote.{Wrote, from_chain, wrote_as, wrote_none, wrote_then, wrote_prefix, tell}
+use Rattle.syntax.proofs.plans.Wrote.{from_chain, wrote_as, wrote_none, wrote_then, wrote_prefix, tell}
 use Rattle.syntax.proofs.plans.put_during.Goals as goal
 
 pub loop-i-init : goal.loop-i-init

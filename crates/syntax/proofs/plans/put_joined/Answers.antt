@@ -4,7 +4,6 @@ use Prim.Native.Nat.{◌+◌}
 use mathlib.Core.Path.{refl}
 use Rattle.syntax.specs.Cells.{cell, one_sided}
 use Rattle.syntax.proofs.plans.Wrote.{set_on}
-use borrow.Author.Rules.{rules}
 use Rattle.syntax.proofs.plans.put_joined.Goals as goal
 
 pub returns : goal.returns

@@ -2,7 +2,6 @@
 -- Assumes nothing.
 use native.Mathlib.Omega.{arith}
 use mathlib.Core.Path.{subst}
-use borrow.Author.Rules.{rules}
 use Rattle.syntax.specs.Plans.{InRange, plan_cells, plan_size}
 use Rattle.syntax.proofs.plans.Wrote.{room_known, told_known}
 use Rattle.syntax.proofs.plans.put_plan.Goals as goal

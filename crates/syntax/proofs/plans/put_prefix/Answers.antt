@@ -2,7 +2,6 @@
 -- Assumes nothing.
 use Rattle.syntax.proofs.PlansLaws.{prefix_length}
 use Rattle.syntax.proofs.plans.Wrote.{from_copy, wrote_prefix, tell}
-use borrow.Author.Rules.{rules}
 use Rattle.syntax.proofs.plans.put_prefix.Goals as goal
 
 pub returns : goal.returns

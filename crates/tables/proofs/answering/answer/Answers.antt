@@ -6,7 +6,6 @@ use mathlib.Core.Path.{refl, ◌∙◌}
 use lib.ListN.{length-replicate}
 use Rattle.tables.proofs.PositionMemoryLaws.{ranks_taken}
 use Rattle.tables.proofs.answering.StartRank.{start_found, start_small, none_answer, table_answer}
-use borrow.Author.Rules.{rules}
 use Rattle.tables.proofs.answering.answer.Goals as goal
 
 pub returns-then-r : goal.returns-then-r

@@ -2,7 +2,6 @@
 -- Assumes nothing.
 use mathlib.Core.Path.{sym, ap}
 use Rattle.play.specs.Cells.{choice_at}
-use borrow.Author.Rules.{rules}
 use Rattle.tables.proofs.cells.choice_at.Goals as goal
 
 pub returns-in-Read : goal.returns-in-Read

@@ -1,9 +1,9 @@
 use borrow.Author.Rules.{rules}
-use Prim.Native.Nat.{◌≤◌, ◌<◌, ◌-◌}
+use Prim.Native.Nat.{◌<◌}
 use native.Mathlib.Omega.{arith}
 use mathlib.Core.Path.{◌≡◌, refl, ap, ◌∙◌}
-use mathlib.Core.List.{◌++◌, append-nil}
-use lib.ListN.{length, drop, set, replicate, length-set}
+use mathlib.Core.List.{append-nil}
+use lib.ListN.{length, set, length-set}
 use lib.Seq.{drop-length}
 use borrow.Author.Fill.{fill_none, fill_more}
 use Rattle.tables.proofs.cells.clear_cells.Goals as goal

@@ -2,7 +2,6 @@
 -- Assumes nothing.
 use mathlib.Core.Path.{sym, ap}
 use Rattle.play.specs.Cells.{next_at}
-use borrow.Author.Rules.{rules}
 use Rattle.tables.proofs.cells.next_at.Goals as goal
 
 pub returns-in-Set : goal.returns-in-Set

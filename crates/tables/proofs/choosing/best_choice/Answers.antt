@@ -1,13 +1,11 @@
-use borrow.Author.Rules.{rules}
-use Prim.Native.Nat.{◌+◌, ◌-◌, ◌*◌, ◌<◌}
+use Prim.Native.Nat.{◌+◌, ◌*◌, ◌<◌}
 use native.Mathlib.Nat.{le_refl}
 use native.Mathlib.Omega.{arith}
 use mathlib.Core.Path.{refl}
-use mathlib.Core.Logic.{⊎_elim}
 use lib.ListN.{get_or}
 use Rattle.play.specs.Limits.{belief_limit, side_limit, pair_limit}
 use Rattle.tables.proofs.PositionMemoryLaws.{pair_le, spot_lt}
-use Rattle.tables.proofs.choosing.BestLoop.{Best, best_begin, best_new, best_kept, best_end}
+use Rattle.tables.proofs.choosing.BestLoop.{best_begin, best_new, best_kept, best_end}
 use Rattle.tables.proofs.choosing.best_choice.Goals as goal
 use Rattle.tables.proofs.choosing.best_choice.Goals.{else-ranks-next, then-ranks-next}
 

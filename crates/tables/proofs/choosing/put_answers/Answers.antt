@@ -1,6 +1,5 @@
 -- `tables::choosing::put_answers` meets its contract.
 -- Assumes nothing.
-use borrow.Author.Rules.{rules}
 use native.Mathlib.Omega.{arith}
 use mathlib.Core.Path.{sym, ap, ◌∙◌}
 use Rattle.basics.specs.Lists.{written}

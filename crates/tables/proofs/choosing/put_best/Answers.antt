@@ -1,10 +1,8 @@
-use borrow.Author.Rules.{rules}
-use Prim.Native.Nat.{◌-◌, ◌≤◌, ◌<◌}
+use Prim.Native.Nat.{◌<◌}
 use native.Mathlib.Omega.{arith}
-use mathlib.Core.Path.{◌≡◌}
 use lib.ListN.{length, length-set}
 use Rattle.basics.proofs.Filling.{table_more}
-use Rattle.tables.proofs.choosing.BestLoop.{found_le, Chosen, all_chosen}
+use Rattle.tables.proofs.choosing.BestLoop.{found_le, all_chosen}
 use Rattle.tables.proofs.choosing.put_best.Goals as goal
 
 pub overflow_cast-answers : goal.overflow_cast-answers

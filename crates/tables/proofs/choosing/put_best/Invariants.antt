@@ -1,12 +1,9 @@
 -- `tables::choosing::put_best` meets its contract. The invariant: the observations passed have their best choices.
 -- Assumes nothing.
-use borrow.Author.Rules.{rules}
-use Prim.Native.Nat.{◌-◌, ◌≤◌, ◌<◌}
-use native.Mathlib.Omega.{arith}
+use Prim.Native.Nat.{◌-◌, ◌≤◌}
 use mathlib.Core.Path.{◌≡◌}
-use lib.ListN.{length, length-set}
-use Rattle.basics.proofs.Filling.{table_more}
-use Rattle.tables.proofs.choosing.BestLoop.{found_le, Chosen, all_chosen}
+use lib.ListN.{length}
+use Rattle.tables.proofs.choosing.BestLoop.{Chosen}
 use Rattle.tables.proofs.choosing.put_best.Given as goal
 
 abbrev pub invariant-loop-s : goal.invariant-loop-s

@@ -1,12 +1,9 @@
 -- `tables::choosing::put_one` meets its contract. The invariant: the observations passed have the choice.
 -- Assumes nothing.
-use borrow.Author.Rules.{rules}
-use borrow.Author.Fill.{fill_none, fill_more}
-use Prim.Native.Nat.{◌-◌, ◌≤◌, ◌<◌}
-use native.Mathlib.Omega.{arith}
-use mathlib.Core.Path.{◌≡◌, refl, sym, ap, ◌∙◌}
+use Prim.Native.Nat.{◌-◌, ◌≤◌}
+use mathlib.Core.Path.{◌≡◌}
 use mathlib.Core.List.{◌++◌}
-use lib.ListN.{length, drop, set, replicate, length-set, length-replicate}
+use lib.ListN.{length, drop, replicate}
 use Rattle.tables.proofs.choosing.put_one.Given as goal
 
 abbrev pub invariant-loop-s : goal.invariant-loop-s

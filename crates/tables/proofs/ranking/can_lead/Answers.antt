@@ -1,6 +1,5 @@
 -- `tables::ranking::can_lead` meets its contract.
 -- Assumes nothing.
-use borrow.Author.Rules.{rules}
 use mathlib.Core.Path.{sym, ap, ◌∙◌}
 use Rattle.tables.specs.PositionMemory.{can_lead}
 use Rattle.tables.proofs.ranking.ChoiceLoop.{lead_set}

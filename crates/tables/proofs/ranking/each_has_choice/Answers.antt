@@ -1,12 +1,10 @@
 use borrow.Author.Rules.{rules}
-use Prim.Native.Nat.{◌+◌, ◌*◌, ◌-◌, ◌≤◌, ◌<◌}
+use Prim.Native.Nat.{◌+◌, ◌*◌}
 use native.Mathlib.Omega.{arith}
-use mathlib.Core.Path.{◌≡◌, refl}
-use mathlib.Core.Bool.{true}
-use Rattle.basics.specs.Bounded.{all, first_that}
+use mathlib.Core.Path.{refl}
 use Rattle.basics.proofs.BoundedLaws.{first_none}
 use Rattle.play.specs.Limits.{pair_limit}
-use Rattle.tables.proofs.ranking.ChoiceLoop.{at, some_at, none_more, observation_more, observation_fails, observations_pass}
+use Rattle.tables.proofs.ranking.ChoiceLoop.{none_more, observation_more, observation_fails, observations_pass}
 use Rattle.tables.proofs.PositionMemoryLaws.{pair_le, spot_lt}
 use Rattle.tables.proofs.ranking.each_has_choice.Goals as goal
 

@@ -1,16 +1,11 @@
 -- `tables::ranking::each_has_choice` meets its contract. Outer loop: at every observation passed some choice leads below r. Inner loop: no
 -- choice passed does, and the observation is still the outer loop's.
 -- Assumes nothing.
-use borrow.Author.Rules.{rules}
-use Prim.Native.Nat.{◌+◌, ◌*◌, ◌-◌, ◌≤◌, ◌<◌}
-use native.Mathlib.Omega.{arith}
-use mathlib.Core.Path.{◌≡◌, refl}
+use Prim.Native.Nat.{◌-◌, ◌≤◌, ◌<◌}
+use mathlib.Core.Path.{◌≡◌}
 use mathlib.Core.Bool.{true}
 use Rattle.basics.specs.Bounded.{all, first_that}
-use Rattle.basics.proofs.BoundedLaws.{first_none}
-use Rattle.play.specs.Limits.{pair_limit}
-use Rattle.tables.proofs.ranking.ChoiceLoop.{at, some_at, none_more, observation_more, observation_fails, observations_pass}
-use Rattle.tables.proofs.PositionMemoryLaws.{pair_le, spot_lt}
+use Rattle.tables.proofs.ranking.ChoiceLoop.{at, some_at}
 use Rattle.tables.proofs.ranking.each_has_choice.Given as goal
 
 abbrev pub invariant-loop-c : goal.invariant-loop-c

@@ -1,11 +1,6 @@
 use borrow.Author.Rules.{rules}
-use borrow.Author.Tests.{not-true}
-use Prim.Native.Nat.{◌-◌, ◌≤◌, ◌<◌}
 use native.Mathlib.Omega.{arith}
-use mathlib.Core.Path.{◌≡◌, refl, ◌∙◌}
-use lib.ListN.{length, take, drop}
-use Rattle.play.specs.Limits.{belief_limit}
-use Rattle.tables.specs.PositionMemory.{ranks_below}
+use mathlib.Core.Path.{refl, ◌∙◌}
 use Rattle.tables.proofs.ranking.RoundLoop.{ranks_first, round_last, rounds_on, rounds_done}
 use Rattle.tables.proofs.ranking.rank_all.Goals as goal
 

@@ -1,11 +1,7 @@
-use borrow.Author.Rules.{rules}
-use Prim.Native.Nat.{◌-◌, ◌≤◌, ◌<◌}
+use Prim.Native.Nat.{◌<◌}
 use native.Mathlib.Omega.{arith}
-use mathlib.Core.Path.{◌≡◌, ap, ◌∙◌}
-use mathlib.Core.Logic.{⊎_elim}
-use mathlib.Core.List.{◌++◌}
-use lib.ListN.{length, drop, length-set}
-use Rattle.basics.specs.Lists.{tabulate}
+use mathlib.Core.Path.{ap, ◌∙◌}
+use lib.ListN.{length, length-set}
 use Rattle.basics.proofs.Filling.{table_more, filled}
 use Rattle.tables.specs.PositionMemory.{first_rank, no_rank}
 use Rattle.tables.proofs.ranking.RoundLoop.{first_final, first_other}

@@ -1,16 +1,11 @@
 -- `tables::ranking::rank_finals` meets its contract: the entries passed are those of `first_rank`.
 -- Assumes nothing.
-use borrow.Author.Rules.{rules}
-use Prim.Native.Nat.{◌-◌, ◌≤◌, ◌<◌}
-use native.Mathlib.Omega.{arith}
-use mathlib.Core.Path.{◌≡◌, ap, ◌∙◌}
-use mathlib.Core.Logic.{⊎_elim}
+use Prim.Native.Nat.{◌-◌, ◌≤◌}
+use mathlib.Core.Path.{◌≡◌}
 use mathlib.Core.List.{◌++◌}
-use lib.ListN.{length, drop, length-set}
+use lib.ListN.{length, drop}
 use Rattle.basics.specs.Lists.{tabulate}
-use Rattle.basics.proofs.Filling.{table_more, filled}
-use Rattle.tables.specs.PositionMemory.{first_rank, no_rank}
-use Rattle.tables.proofs.ranking.RoundLoop.{first_final, first_other}
+use Rattle.tables.specs.PositionMemory.{first_rank}
 use Rattle.tables.proofs.ranking.rank_finals.Given as goal
 
 abbrev pub invariant-loop-k : goal.invariant-loop-k

@@ -1,8 +1,5 @@
-use borrow.Author.Rules.{rules}
-use Prim.Native.Nat.{◌-◌}
 use native.Mathlib.Omega.{arith}
-use mathlib.Core.Logic.{⊎_elim}
-use Rattle.tables.proofs.ranking.RoundLoop.{Halfway, round_begin, round_end, ranked_stays, none_stays, gets_rank}
+use Rattle.tables.proofs.ranking.RoundLoop.{round_begin, round_end, ranked_stays, none_stays, gets_rank}
 use Rattle.tables.proofs.ranking.rank_round.Goals as goal
 use Rattle.tables.proofs.ranking.rank_round.Goals.{else-ranks-k, then-ranks-k+else-can_lead, then-ranks-k+then-can_lead}
 

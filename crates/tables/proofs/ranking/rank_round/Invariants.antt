@@ -1,10 +1,7 @@
 -- `tables::ranking::rank_round` meets its contract. The invariant: the positions passed have their ranks after the round, the others those before.
 -- Assumes nothing.
-use borrow.Author.Rules.{rules}
 use Prim.Native.Nat.{◌-◌}
-use native.Mathlib.Omega.{arith}
-use mathlib.Core.Logic.{⊎_elim}
-use Rattle.tables.proofs.ranking.RoundLoop.{Halfway, round_begin, round_end, ranked_stays, none_stays, gets_rank}
+use Rattle.tables.proofs.ranking.RoundLoop.{Halfway}
 use Rattle.tables.proofs.ranking.rank_round.Given as goal
 
 abbrev pub invariant-loop-k : goal.invariant-loop-k

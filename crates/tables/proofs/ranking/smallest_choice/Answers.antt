@@ -1,13 +1,10 @@
 use borrow.Author.Rules.{rules}
-use Prim.Native.Nat.{◌+◌, ◌*◌, ◌-◌, ◌≤◌, ◌<◌}
+use Prim.Native.Nat.{◌+◌, ◌*◌}
 use native.Mathlib.Omega.{arith}
-use mathlib.Core.Path.{◌≡◌, refl}
-use mathlib.Core.Bool.{true}
+use mathlib.Core.Path.{refl}
 use Rattle.basics.proofs.BoundedLaws.{first_none, all_done}
 use Rattle.play.specs.Limits.{pair_limit}
-use Rattle.basics.specs.Bounded.{all, first_that}
-use Rattle.tables.specs.PositionMemory.{works}
-use Rattle.tables.proofs.ranking.ChoiceLoop.{leads, leads_more, choice_fails, choice_found, none_left}
+use Rattle.tables.proofs.ranking.ChoiceLoop.{leads_more, choice_fails, choice_found, none_left}
 use Rattle.tables.proofs.PositionMemoryLaws.{pair_le, spot_lt}
 use Rattle.tables.proofs.ranking.smallest_choice.Goals as goal
 

@@ -1,17 +1,12 @@
 -- `tables::ranking::smallest_choice` meets its contract. Outer loop: no choice passed works. Inner loop: every observation passed leads below r,
 -- and the choice is still the outer loop's.
 -- Assumes nothing.
-use borrow.Author.Rules.{rules}
-use Prim.Native.Nat.{◌+◌, ◌*◌, ◌-◌, ◌≤◌, ◌<◌}
-use native.Mathlib.Omega.{arith}
-use mathlib.Core.Path.{◌≡◌, refl}
+use Prim.Native.Nat.{◌-◌, ◌≤◌, ◌<◌}
+use mathlib.Core.Path.{◌≡◌}
 use mathlib.Core.Bool.{true}
-use Rattle.basics.proofs.BoundedLaws.{first_none, all_done}
-use Rattle.play.specs.Limits.{pair_limit}
 use Rattle.basics.specs.Bounded.{all, first_that}
 use Rattle.tables.specs.PositionMemory.{works}
-use Rattle.tables.proofs.ranking.ChoiceLoop.{leads, leads_more, choice_fails, choice_found, none_left}
-use Rattle.tables.proofs.PositionMemoryLaws.{pair_le, spot_lt}
+use Rattle.tables.proofs.ranking.ChoiceLoop.{leads}
 use Rattle.tables.proofs.ranking.smallest_choice.Given as goal
 
 abbrev pub invariant-loop-s : goal.invariant-loop-s

@@ -1,9 +1,7 @@
 -- `tables::writing::put_pair` meets its contract.
 -- Assumes nothing.
-use borrow.Author.Rules.{rules}
 use native.Mathlib.Omega.{arith}
 use mathlib.Core.Path.{◌≡◌, ap, ◌∙◌}
-use mathlib.Core.Logic.{⊎_elim}
 use lib.ListN.{length}
 use Rattle.tables.specs.PositionMemory.{with_choice}
 use Rattle.tables.proofs.writing.RowCells.{choice_none, choice_put, next_put}

@@ -1,9 +1,6 @@
-use borrow.Author.Rules.{rules}
-use Prim.Native.Nat.{◌-◌}
 use native.Mathlib.Omega.{arith}
 use mathlib.Core.Path.{refl, sym, ◌∙◌}
-use mathlib.Core.Logic.{⊎_elim}
-use Rattle.tables.proofs.writing.RowLoop.{Adding, adding_begin, adding_old, adding_new, adding_end, cells_room, place_le, room_left}
+use Rattle.tables.proofs.writing.RowLoop.{adding_begin, adding_old, adding_new, adding_end, cells_room, place_le, room_left}
 use Rattle.tables.proofs.PositionMemoryLaws.{pair_le, spot_lt}
 use Rattle.tables.proofs.writing.put_row.Goals as goal
 use Rattle.tables.proofs.writing.put_row.Goals.{else-j-n, then-j-n}

@@ -1,13 +1,8 @@
 -- `tables::writing::put_row` meets its contract. The invariant: the next positions of the observations passed are among the rows, and
 -- the cells have their choices and numbers.
 -- Assumes nothing.
-use borrow.Author.Rules.{rules}
 use Prim.Native.Nat.{◌-◌}
-use native.Mathlib.Omega.{arith}
-use mathlib.Core.Path.{refl, sym, ◌∙◌}
-use mathlib.Core.Logic.{⊎_elim}
-use Rattle.tables.proofs.writing.RowLoop.{Adding, adding_begin, adding_old, adding_new, adding_end, cells_room, place_le, room_left}
-use Rattle.tables.proofs.PositionMemoryLaws.{pair_le, spot_lt}
+use Rattle.tables.proofs.writing.RowLoop.{Adding}
 use Rattle.tables.proofs.writing.put_row.Given as goal
 
 abbrev pub invariant-loop-s : goal.invariant-loop-s

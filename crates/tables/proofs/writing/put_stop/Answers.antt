@@ -1,6 +1,5 @@
 -- `tables::writing::put_stop` meets its contract.
 -- Assumes nothing.
-use borrow.Author.Rules.{rules}
 use mathlib.Core.Path.{refl, ◌∙◌}
 use Rattle.tables.proofs.writing.RowCells.{first_put, stop_is}
 use Rattle.tables.proofs.writing.put_stop.Goals as goal

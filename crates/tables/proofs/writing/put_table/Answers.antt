@@ -1,12 +1,9 @@
-use borrow.Author.Rules.{rules}
 use Prim.Native.Nat.{◌+◌, ◌-◌, ◌*◌}
 use native.Mathlib.Omega.{arith}
 use mathlib.Core.Path.{◌≡◌, refl, ap, ◌∙◌}
-use mathlib.Core.Logic.{⊎_elim}
 use lib.ListN.{length}
-use Rattle.play.specs.Limits.{belief_limit, side_limit}
 use Rattle.play.specs.Cells.{row_size}
-use Rattle.tables.proofs.writing.TableLoop.{Turn, row_room, turn_begin, row_part, row_small, turn_stop, row_asked, turn_choice, turn_answer}
+use Rattle.tables.proofs.writing.TableLoop.{row_room, turn_begin, row_part, row_small, turn_stop, row_asked, turn_choice, turn_answer}
 use Rattle.tables.proofs.writing.put_table.Goals as goal
 use Rattle.tables.proofs.writing.put_table.Goals.{else-finals-k-eq1, then-finals-k-eq1}
 

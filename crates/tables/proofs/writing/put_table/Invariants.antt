@@ -1,15 +1,11 @@
 -- `tables::writing::put_table` meets its contract. The invariant: the rows met so far are those of the search at this turn, and the rows
 -- passed have the cells that they have in the end.
 -- Assumes nothing.
-use borrow.Author.Rules.{rules}
-use Prim.Native.Nat.{◌+◌, ◌-◌, ◌*◌}
-use native.Mathlib.Omega.{arith}
-use mathlib.Core.Path.{◌≡◌, refl, ap, ◌∙◌}
-use mathlib.Core.Logic.{⊎_elim}
+use Prim.Native.Nat.{◌-◌}
+use mathlib.Core.Path.{◌≡◌}
 use lib.ListN.{length}
 use Rattle.play.specs.Limits.{belief_limit, side_limit}
-use Rattle.play.specs.Cells.{row_size}
-use Rattle.tables.proofs.writing.TableLoop.{Turn, row_room, turn_begin, row_part, row_small, turn_stop, row_asked, turn_choice, turn_answer}
+use Rattle.tables.proofs.writing.TableLoop.{Turn}
 use Rattle.tables.proofs.writing.put_table.Given as goal
 
 abbrev pub invariant-loop-i : goal.invariant-loop-i

@@ -1,7 +1,5 @@
-use borrow.Author.Rules.{rules}
-use Prim.Native.Nat.{◌-◌, ◌≤◌}
 use native.Mathlib.Omega.{arith}
-use Rattle.tables.proofs.writing.RowNumbers.{Passed, passed_none, passed_more, passed_found, passed_all}
+use Rattle.tables.proofs.writing.RowNumbers.{passed_none, passed_more, passed_found, passed_all}
 use Rattle.tables.proofs.writing.row_of.Goals as goal
 
 pub loop-i-init : goal.loop-i-init

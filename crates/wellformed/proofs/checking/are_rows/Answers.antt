@@ -1,10 +1,5 @@
-use Prim.Native.Nat.{◌-◌, ◌≤◌}
 use native.Mathlib.Omega.{arith}
-use mathlib.Core.Path.{◌≡◌, refl}
-use mathlib.Core.Bool.{true}
-use borrow.Author.Rules.{rules}
-use Rattle.basics.specs.Bounded.{all}
-use Rattle.wellformed.specs.WellFormed.{is_printable_row}
+use mathlib.Core.Path.{refl}
 use Rattle.wellformed.proofs.WellFormedLaws.{rows_fail, rows_more, rows_pass}
 use Rattle.wellformed.proofs.checking.are_rows.Goals as goal
 

@@ -1,13 +1,10 @@
 -- `wellformed::checking::are_rows` meets its contract. The invariant: the rows passed can be printed.
 -- Assumes nothing.
 use Prim.Native.Nat.{◌-◌, ◌≤◌}
-use native.Mathlib.Omega.{arith}
-use mathlib.Core.Path.{◌≡◌, refl}
+use mathlib.Core.Path.{◌≡◌}
 use mathlib.Core.Bool.{true}
-use borrow.Author.Rules.{rules}
 use Rattle.basics.specs.Bounded.{all}
 use Rattle.wellformed.specs.WellFormed.{is_printable_row}
-use Rattle.wellformed.proofs.WellFormedLaws.{rows_fail, rows_more, rows_pass}
 use Rattle.wellformed.proofs.checking.are_rows.Given as goal
 
 abbrev pub invariant-loop-row : goal.invariant-loop-row

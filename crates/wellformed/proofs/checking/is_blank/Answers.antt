@@ -1,11 +1,6 @@
-use Prim.Native.Nat.{◌-◌, ◌≤◌}
 use native.Mathlib.Omega.{arith}
-use mathlib.Core.Path.{◌≡◌, refl}
-use mathlib.Core.Bool.{true}
-use borrow.Author.Rules.{rules}
-use Rattle.play.specs.Limits.{side_limit}
-use Rattle.basics.specs.Bounded.{all}
-use Rattle.wellformed.proofs.WellFormedLaws.{row_room, blank_at, blank_fails, blank_more, blank_passes}
+use mathlib.Core.Path.{refl}
+use Rattle.wellformed.proofs.WellFormedLaws.{row_room, blank_fails, blank_more, blank_passes}
 use Rattle.wellformed.proofs.checking.is_blank.Goals as goal
 
 pub loop-s-init : goal.loop-s-init

@@ -1,13 +1,11 @@
 -- `wellformed::checking::is_blank` meets its contract. The invariant: the observations passed have used cells, or zeros.
 -- Assumes nothing.
 use Prim.Native.Nat.{◌-◌, ◌≤◌}
-use native.Mathlib.Omega.{arith}
-use mathlib.Core.Path.{◌≡◌, refl}
+use mathlib.Core.Path.{◌≡◌}
 use mathlib.Core.Bool.{true}
-use borrow.Author.Rules.{rules}
 use Rattle.play.specs.Limits.{side_limit}
 use Rattle.basics.specs.Bounded.{all}
-use Rattle.wellformed.proofs.WellFormedLaws.{row_room, blank_at, blank_fails, blank_more, blank_passes}
+use Rattle.wellformed.proofs.WellFormedLaws.{blank_at}
 use Rattle.wellformed.proofs.checking.is_blank.Given as goal
 
 abbrev pub invariant-loop-s : goal.invariant-loop-s

@@ -1,7 +1,6 @@
 -- `wellformed::checking::is_blank_at` meets its contract.
 -- Assumes nothing.
 use Rattle.wellformed.proofs.WellFormedLaws.{blank_set, blank_read}
-use borrow.Author.Rules.{rules}
 use Rattle.wellformed.proofs.checking.is_blank_at.Goals as goal
 
 pub returns-in-Set : goal.returns-in-Set

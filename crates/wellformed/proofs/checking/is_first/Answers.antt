@@ -4,7 +4,6 @@ use mathlib.Core.Path.{ap}
 use mathlib.Core.Bool.{◌||◌}
 use lib.Dec.{eqb, ltb}
 use Rattle.play.specs.Cells.{stop_cell}
-use borrow.Author.Rules.{rules}
 use Rattle.wellformed.proofs.checking.is_first.Goals as goal
 
 pub returns : goal.returns

@@ -1,7 +1,6 @@
 -- `wellformed::checking::is_lower` meets its contract.
 -- Assumes nothing.
 use native.Mathlib.Omega.{arith}
-use borrow.Author.Rules.{rules}
 use Rattle.wellformed.proofs.WellFormedLaws.{row_room, lower_is}
 use Rattle.wellformed.proofs.checking.is_lower.Goals as goal
 

@@ -1,6 +1,5 @@
 -- `wellformed::checking::is_next` meets its contract.
 -- Assumes nothing.
-use borrow.Author.Rules.{rules}
 use Rattle.basics.proofs.GuardedTests.{first_fails, then_second}
 use Rattle.wellformed.proofs.WellFormedLaws.{row_room, next_out, next_in}
 use Rattle.wellformed.proofs.checking.is_next.Goals as goal

@@ -2,7 +2,6 @@
 -- Assumes nothing.
 use native.Mathlib.Omega.{arith}
 use Rattle.wellformed.proofs.WellFormedLaws.{row_room, pair_out, pair_in}
-use borrow.Author.Rules.{rules}
 use Rattle.wellformed.proofs.checking.is_pair.Goals as goal
 
 pub choice_cell-requires : goal.choice_cell-requires

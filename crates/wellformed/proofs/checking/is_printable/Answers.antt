@@ -2,8 +2,6 @@
 -- Assumes nothing.
 use mathlib.Core.Path.{sym, ◌∙◌}
 use lib.ListN.{length}
-use borrow.Author.Rules.{rules}
-use borrow.Author.Tests.{not-false}
 use Rattle.wellformed.proofs.WellFormedLaws.{row_room, sizes_fail, worst_fails, rows_left}
 use Rattle.wellformed.proofs.TestsSay.{sized_says}
 use Rattle.wellformed.proofs.checking.is_printable.Goals as goal

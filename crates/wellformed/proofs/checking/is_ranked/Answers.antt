@@ -1,10 +1,7 @@
-use Prim.Native.Nat.{◌-◌, ◌≤◌}
+use Prim.Native.Nat.{◌≤◌}
 use native.Mathlib.Omega.{arith}
-use mathlib.Core.Path.{◌≡◌, refl, sym, subst}
-use mathlib.Core.Bool.{true}
-use borrow.Author.Rules.{rules}
+use mathlib.Core.Path.{refl, sym, subst}
 use Rattle.play.specs.Limits.{side_limit}
-use Rattle.basics.specs.Bounded.{all}
 use Rattle.wellformed.specs.WellFormed.{is_lower}
 use Rattle.basics.proofs.GuardedTests.{first_fails, each_fails, each_more, each_passes}
 use Rattle.wellformed.proofs.WellFormedLaws.{count_le, ranked_is}

@@ -1,15 +1,11 @@
 -- `wellformed::checking::is_ranked` meets its contract. The invariant: the observations passed lead to lower ranks.
 -- Assumes nothing.
 use Prim.Native.Nat.{◌-◌, ◌≤◌}
-use native.Mathlib.Omega.{arith}
-use mathlib.Core.Path.{◌≡◌, refl, sym, subst}
+use mathlib.Core.Path.{◌≡◌}
 use mathlib.Core.Bool.{true}
-use borrow.Author.Rules.{rules}
 use Rattle.play.specs.Limits.{side_limit}
 use Rattle.basics.specs.Bounded.{all}
 use Rattle.wellformed.specs.WellFormed.{is_lower}
-use Rattle.basics.proofs.GuardedTests.{first_fails, each_fails, each_more, each_passes}
-use Rattle.wellformed.proofs.WellFormedLaws.{count_le, ranked_is}
 use Rattle.wellformed.proofs.checking.is_ranked.Given as goal
 
 abbrev pub invariant-loop-s : goal.invariant-loop-s

@@ -1,6 +1,5 @@
 -- `wellformed::checking::is_row` meets its contract.
 -- Assumes nothing.
-use borrow.Author.Rules.{rules}
 use Rattle.basics.proofs.GuardedTests.{first_fails, then_second}
 use Rattle.wellformed.proofs.WellFormedLaws.{row_is}
 use Rattle.wellformed.proofs.TestsSay.{leads_asks}

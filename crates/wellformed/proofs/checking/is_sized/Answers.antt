@@ -2,7 +2,6 @@
 -- Assumes nothing.
 use native.Mathlib.Omega.{arith}
 use Rattle.wellformed.proofs.WellFormedLaws.{few_rows, size_fits, sized_fails, sized_left}
-use borrow.Author.Rules.{rules}
 use Rattle.wellformed.proofs.checking.is_sized.Goals as goal
 
 pub returns-then-rows : goal.returns-then-rows

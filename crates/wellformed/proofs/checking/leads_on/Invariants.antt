@@ -1,15 +1,11 @@
 -- `wellformed::checking::leads_on` meets its contract. The invariant: the observations passed have a choice and a next row.
 -- Assumes nothing.
 use Prim.Native.Nat.{◌-◌, ◌≤◌}
-use native.Mathlib.Omega.{arith}
-use mathlib.Core.Path.{◌≡◌, refl, sym, subst}
+use mathlib.Core.Path.{◌≡◌}
 use mathlib.Core.Bool.{true}
-use borrow.Author.Rules.{rules}
 use Rattle.play.specs.Limits.{side_limit}
 use Rattle.basics.specs.Bounded.{all}
 use Rattle.wellformed.specs.WellFormed.{is_pair}
-use Rattle.basics.proofs.GuardedTests.{first_fails, each_fails, each_more, each_passes}
-use Rattle.wellformed.proofs.WellFormedLaws.{row_room, count_le, leads_is}
 use Rattle.wellformed.proofs.checking.leads_on.Given as goal
 
 abbrev pub invariant-loop-s : goal.invariant-loop-s

@@ -1,7 +1,6 @@
 -- `wellformed::checking::next_count` meets its contract.
 -- Assumes nothing.
 use Rattle.wellformed.proofs.WellFormedLaws.{row_room, stop_count, move_count}
-use borrow.Author.Rules.{rules}
 use Rattle.wellformed.proofs.checking.next_count.Goals as goal
 
 pub first_cell-requires : goal.first_cell-requires

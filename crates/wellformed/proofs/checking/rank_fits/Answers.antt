@@ -1,6 +1,5 @@
 -- `wellformed::checking::rank_fits` meets its contract.
 -- Assumes nothing.
-use borrow.Author.Rules.{rules}
 use Rattle.wellformed.proofs.WellFormedLaws.{row_room, rank_out, rank_stops, rank_goes}
 use Rattle.wellformed.proofs.checking.rank_fits.Goals as goal
 
