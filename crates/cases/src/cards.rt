@@ -7,70 +7,70 @@ use crate::memory::{look_at, look_at_cells, look_at_work, ones};
 use basics::Order;
 use cabinet::{Loaded, Printed};
 use game::{Shape, Solved, TABLE_SIZE};
-use streams::first;
+use streams::{Console, first};
 use tables::{SIDE_LIMIT, STOP, rank_at};
 
 // Says so where the print of a loaded table is not its text.
-fn look_at_print(l: Loaded, cells: &[u16], text: &[u8]) {
+fn look_at_print(console: Console, l: Loaded, cells: &[u16], text: &[u8]) {
     match l {
         Loaded::Table { shape, worst_case } => {
             let mut memory = ones();
             cabinet::print(cells, shape, worst_case, &mut memory);
-            look_at(&memory, text, 1);
+            look_at(console, &memory, text, 1);
         }
         Loaded::Refused(_) => {}
     }
 }
 
 // Loads a text, and looks at the table that was lent.
-fn load_in(text: &[u8], expected: &[u16], cells: &mut [u16]) -> Loaded {
+fn load_in(console: Console, text: &[u8], expected: &[u16], cells: &mut [u16]) -> Loaded {
     let l = cabinet::load(text, cells);
-    look_at_cells(cells, expected);
-    look_at_print(l, cells, text);
+    look_at_cells(console, cells, expected);
+    look_at_print(console, l, cells, text);
     l
 }
 
 // The same with a table of all cells.
-fn load_whole(text: &[u8], expected: &[u16]) -> Loaded {
+fn load_whole(console: Console, text: &[u8], expected: &[u16]) -> Loaded {
     let mut cells = [1u16; TABLE_SIZE];
-    load_in(text, expected, &mut cells)
+    load_in(console, text, expected, &mut cells)
 }
 
-pub(crate) fn load(line: &[u8], text: &[u8], expected: &[u16]) {
+pub(crate) fn load(console: Console, line: &[u8], text: &[u8], expected: &[u16]) {
     let mut cells = [1u16; TABLE_SIZE];
-    let n = TABLE_SIZE - argument(line, 5) % TABLE_SIZE;
-    loaded(load_in(text, expected, &mut cells[..n]));
+    let n = TABLE_SIZE - argument(console, line, 5) % TABLE_SIZE;
+    loaded(console, load_in(console, text, expected, &mut cells[..n]));
 }
 
 // Loads every proper beginning of a text, and then the text.
-pub(crate) fn prefixes(text: &[u8], expected: &[u16]) {
+pub(crate) fn prefixes(console: Console, text: &[u8], expected: &[u16]) {
     let mut n = 0;
     while n < text.len() {
-        fault(load_whole(&text[..n], &[]));
+        fault(console, load_whole(console, &text[..n], &[]));
         n += 1;
     }
-    loaded(load_whole(text, expected));
+    loaded(console, load_whole(console, text, expected));
 }
 
 // Prints a table that has ones behind its rows, and loads its text.
-fn copy(cells: &[u16], shape: Shape, worst: usize) {
+fn copy(console: Console, cells: &[u16], shape: Shape, worst: usize) {
     let mut text = ones();
     let p = cabinet::print(cells, shape, worst, &mut text);
-    printed(p);
+    printed(console, p);
     match p {
-        Printed::Text(n) => loaded(load_whole(first(&text, n), cells)),
+        Printed::Text(n) => loaded(console, load_whole(console, first(&text, n), cells)),
         Printed::Refused(_) => {}
     }
 }
 
 // Copies the table that solves a problem.
-pub(crate) fn card(source: &[u8], work: &mut [u8]) {
+pub(crate) fn card(console: Console, source: &[u8], work: &mut [u8]) {
     let mut cells = [1u16; TABLE_SIZE];
     let s = game::solve(source, work, &mut cells);
-    solved(s);
-    look_at_work(work, false);
+    solved(console, s);
+    look_at_work(console, work, false);
     match s {
-        Solved::Table { shape, worst_case } => copy(&cells, shape, worst_case),
+        Solved::Table { shape, worst_case } => copy(console, &cells, shape, worst_case),
         Solved::Refused(_) => {}
     }
 }
@@ -109,13 +109,13 @@ fn put_rows(cells: &mut [u16], row: &[u16], size: usize, rows: usize)
 }
 
 // Copies a table of equal rows.
-pub(crate) fn fill(line: &[u8], row: &[u16]) {
-    let shape = shape_at(line, 5, 7, 8);
-    let worst = argument(line, 6);
+pub(crate) fn fill(console: Console, line: &[u8], row: &[u16]) {
+    let shape = shape_at(console, line, 5, 7, 8);
+    let worst = argument(console, line, 6);
     let mut cells = [1u16; CELLS];
     let order = shape.order;
     put_rows(&mut cells, row, row_size(order), shape.rows);
-    copy(&cells, shape, worst);
+    copy(console, &cells, shape, worst);
 }
 
 // Whether cell k of a row is a next row.
@@ -163,11 +163,11 @@ fn put_ladder(cells: &mut [u16], row: &[u16], order: Order, size: usize, rows: u
 }
 
 // Copies a table of rows that lead down to the last.
-pub(crate) fn ladder(line: &[u8], row: &[u16]) {
-    let shape = shape_at(line, 5, 7, 8);
-    let worst = argument(line, 6);
+pub(crate) fn ladder(console: Console, line: &[u8], row: &[u16]) {
+    let shape = shape_at(console, line, 5, 7, 8);
+    let worst = argument(console, line, 6);
     let mut cells = [1u16; CELLS];
     let order = shape.order;
     put_ladder(&mut cells, row, order, row_size(order), shape.rows);
-    copy(&cells, shape, worst);
+    copy(console, &cells, shape, worst);
 }

@@ -22,8 +22,7 @@
 #![tactic(auto)]
 
 use basics::Class;
-use libc::STDIN_FILENO;
-use streams::Input;
+use streams::{Console, Input};
 
 mod answer;
 mod call;
@@ -33,18 +32,18 @@ mod memory;
 mod parts;
 
 // Runs the case of a line, and answers whether the end of its line could be written.
-fn run(line: &[u8]) -> bool {
-    answer::say(basics::field(line, 0));
-    call::call(line);
-    streams::say(b"cases", b"\n")
+fn run(console: Console, line: &[u8]) -> bool {
+    answer::say(console, basics::field(line, 0));
+    call::call(console, line);
+    streams::say(console, b"cases", b"\n")
 }
 
 // Runs the cases up to one that could not be written.
-fn run_lines(input: &[u8]) -> bool {
+fn run_lines(console: Console, input: &[u8]) -> bool {
     let mut i = 0;
     while i < input.len() {
         let end = basics::past(input, i, Class::Line);
-        if !run(&input[i..end]) {
+        if !run(console, &input[i..end]) {
             return false;
         }
         i = end + 1;
@@ -52,18 +51,23 @@ fn run_lines(input: &[u8]) -> bool {
     true
 }
 
-fn run_all(input: &[u8]) {
-    if run_lines(input) {
-        streams::close_output(b"cases");
+fn run_all(console: Console, input: &[u8]) {
+    if run_lines(console, input) {
+        streams::close_output(console, b"cases");
     }
 }
 
 // No case is run from a part of the input: one that fills the buffer may go on.
-fn main() {
-    let mut input = io::large_buffer();
-    match streams::read_to_end(STDIN_FILENO, &mut input) {
-        Input::Whole(n) => run_all(streams::first(&input, n)),
-        Input::Longer => streams::tell(b"cases", b"standard input", b"over 65,535 bytes"),
-        Input::Failed => streams::fail(b"cases", b"standard input"),
+fn main(rt: HostRuntime) {
+    let console = Console {
+        output: rt.stdout(),
+        errors: rt.stderr(),
+        alloc: rt.alloc(),
+    };
+    let mut input = [0u8; 65536];
+    match streams::read_to_end(&mut rt.stdin(), &mut input) {
+        Input::Whole(n) => run_all(console, streams::first(&input, n)),
+        Input::Longer => streams::tell(console, b"cases", b"standard input", b"over 65,535 bytes"),
+        Input::Failed(error) => streams::fail(console, b"cases", b"standard input", error),
     }
 }

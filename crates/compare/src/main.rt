@@ -7,8 +7,7 @@
 #![tactic(auto)]
 
 use basics::{Class, field, past};
-use libc::STDIN_FILENO;
-use streams::Input;
+use streams::{Console, Input};
 
 mod answer;
 mod comparing;
@@ -25,23 +24,23 @@ mod plain_states;
 mod summary;
 
 // Draws and compares the problems of a line, and answers whether the ends of its lines could be written.
-fn run(line: &[u8]) -> bool {
+fn run(console: Console, line: &[u8]) -> bool {
     let kind = field(line, 0);
-    let seed = line::argument(line, 1);
+    let seed = line::argument(console, line, 1);
     let mut set = [0u64; summary::CLASSES];
     let mut read = [0u64; summary::CLASSES];
-    for k in 0..line::argument(line, 2) {
-        summary::draw_both(line, (seed + k) as u64, &mut set, &mut read);
+    for k in 0..line::argument(console, line, 2) {
+        summary::draw_both(console, line, (seed + k) as u64, &mut set, &mut read);
     }
-    summary::write(kind, b"\tset", &set) && summary::write(kind, b"\tread", &read)
+    summary::write(console, kind, b"\tset", &set) && summary::write(console, kind, b"\tread", &read)
 }
 
 // Goes on up to a line that could not be written.
-fn run_lines(input: &[u8]) -> bool {
+fn run_lines(console: Console, input: &[u8]) -> bool {
     let mut i = 0;
     while i < input.len() {
         let end = past(input, i, Class::Line);
-        if !run(&input[i..end]) {
+        if !run(console, &input[i..end]) {
             return false;
         }
         i = end + 1;
@@ -50,24 +49,35 @@ fn run_lines(input: &[u8]) -> bool {
 }
 
 // The names of what is counted.
-fn write_names() -> bool {
+fn write_names(console: Console) -> bool {
     answer::say(
+        console,
         b"kind\torder\tdrawn\tagree\ttables\t1\t2\t3\t4\t5\t6\t7\t8\t9\t10\t11\tover 1 step\tover 2 steps\thidden matter\talike\torder matters\n",
     )
 }
 
-fn run_all(input: &[u8]) {
-    if write_names() && run_lines(input) {
-        streams::close_output(b"compare");
+fn run_all(console: Console, input: &[u8]) {
+    if write_names(console) && run_lines(console, input) {
+        streams::close_output(console, b"compare");
     }
 }
 
 // Nothing is drawn from a part of the input: one that fills the buffer may go on.
-fn main() {
-    let mut input = io::large_buffer();
-    match streams::read_to_end(STDIN_FILENO, &mut input) {
-        Input::Whole(n) => run_all(streams::first(&input, n)),
-        Input::Longer => streams::tell(b"compare", b"standard input", b"over 65,535 bytes"),
-        Input::Failed => streams::fail(b"compare", b"standard input"),
+fn main(rt: HostRuntime) {
+    let console = Console {
+        output: rt.stdout(),
+        errors: rt.stderr(),
+        alloc: rt.alloc(),
+    };
+    let mut input = [0u8; 65536];
+    match streams::read_to_end(&mut rt.stdin(), &mut input) {
+        Input::Whole(n) => run_all(console, streams::first(&input, n)),
+        Input::Longer => streams::tell(
+            console,
+            b"compare",
+            b"standard input",
+            b"over 65,535 bytes",
+        ),
+        Input::Failed(error) => streams::fail(console, b"compare", b"standard input", error),
     }
 }

@@ -8,6 +8,7 @@ use crate::draw::{Kind, draw};
 use crate::line::argument;
 use basics::field;
 use std::num::{wrapping_add_u64, wrapping_add_usize};
+use streams::Console;
 
 // What is counted: all problems; those on which both solvers agree, and of these the tables and the refusals by number; tables with a worst
 // case over 1 and over 2; where it matters that hidden signals are hidden; those whose two texts differ and are answered alike; and all
@@ -33,13 +34,13 @@ pub const CLASSES: usize = ORDER_MATTERS + 1;
 type Counts = [u64; CLASSES];
 
 // Writes the line of a kind and an order, and answers whether its end could be written. What fails before is told.
-pub(crate) fn write(kind: &[u8], order: &[u8], counts: &Counts) -> bool {
-    say(kind);
-    say(order);
+pub(crate) fn write(console: Console, kind: &[u8], order: &[u8], counts: &Counts) -> bool {
+    say(console, kind);
+    say(console, order);
     for k in 0..CLASSES {
-        tell(counts[k]);
+        tell(console, counts[k]);
     }
-    say(b"\n")
+    say(console, b"\n")
 }
 
 // Whether a problem was solved: by a table, or as unrealizable.
@@ -76,19 +77,25 @@ fn add_agreed(counts: &mut Counts, c: Compared, d: Compared) {
 }
 
 // Writes a problem, in both ways where they differ.
-fn show(text: &[u8], other: &[u8], c: Compared) {
-    say(b"\n");
-    say(text);
+fn show(console: Console, text: &[u8], other: &[u8], c: Compared) {
+    say(console, b"\n");
+    say(console, text);
     if c.texts_differ {
-        say(other);
+        say(console, other);
     }
 }
 
 // Solves a problem by both. If they differ, and have not before on a problem of the kind, it is written.
-fn compare_shown(text: &[u8], other: &[u8], counts: &Counts, agreed: bool) -> Compared {
+fn compare_shown(
+    console: Console,
+    text: &[u8],
+    other: &[u8],
+    counts: &Counts,
+    agreed: bool,
+) -> Compared {
     let c = compare(text, other);
     if agreed & !c.agrees & (counts[DRAWN] == counts[AGREE]) {
-        show(text, other, c);
+        show(console, text, other, c);
     }
     c
 }
@@ -102,27 +109,34 @@ fn add_compared(counts: &mut Counts, c: Compared, d: Compared) {
 }
 
 // Solves a problem by both, then with its hidden signals observed, counts it, and answers how the first went.
-fn count(text: &mut [u8], other: &mut [u8], counts: &mut Counts) -> Compared {
-    let c = compare_shown(text, other, counts, true);
+fn count(console: Console, text: &mut [u8], other: &mut [u8], counts: &mut Counts) -> Compared {
+    let c = compare_shown(console, text, other, counts, true);
     observe(text);
     observe(other);
-    let d = compare_shown(text, other, counts, c.agrees);
+    let d = compare_shown(console, text, other, counts, c.agrees);
     add_compared(counts, c, d);
     c
 }
 
 // Draws a problem of a line's kind and an order, by one side of its pairs.
-fn draw_by(line: &[u8], seed: u64, read: bool, second: bool, text: &mut [u8]) -> usize
+fn draw_by(
+    console: Console,
+    line: &[u8],
+    seed: u64,
+    read: bool,
+    second: bool,
+    text: &mut [u8],
+) -> usize
     ensures { result ≤ length text.new }
 {
     let kind = Kind {
-        outputs: argument(line, 3),
-        observed: argument(line, 4),
-        hidden: argument(line, 5),
-        rules: argument(line, 6),
-        size: argument(line, 7),
-        operators: argument(line, 8),
-        damage: argument(line, 9),
+        outputs: argument(console, line, 3),
+        observed: argument(console, line, 4),
+        hidden: argument(console, line, 5),
+        rules: argument(console, line, 6),
+        size: argument(console, line, 7),
+        operators: argument(console, line, 8),
+        damage: argument(console, line, 9),
         second,
         read,
     };
@@ -130,18 +144,24 @@ fn draw_by(line: &[u8], seed: u64, read: bool, second: bool, text: &mut [u8]) ->
 }
 
 // Draws a problem of a line's kind and an order in both ways, and counts it.
-fn draw_one(line: &[u8], seed: u64, read: bool, counts: &mut Counts) -> Compared {
+fn draw_one(console: Console, line: &[u8], seed: u64, read: bool, counts: &mut Counts) -> Compared {
     let mut text = [0u8; ROOM];
     let mut other = [0u8; ROOM];
-    let n = draw_by(line, seed, read, false, &mut text);
-    let m = draw_by(line, seed, read, true, &mut other);
-    count(&mut text[..n], &mut other[..m], counts)
+    let n = draw_by(console, line, seed, read, false, &mut text);
+    let m = draw_by(console, line, seed, read, true, &mut other);
+    count(console, &mut text[..n], &mut other[..m], counts)
 }
 
 // Draws a problem of a line's kind under both orders, and counts it.
-pub(crate) fn draw_both(line: &[u8], seed: u64, set: &mut Counts, read: &mut Counts) {
-    let c = draw_one(line, seed, false, set);
-    let d = draw_one(line, seed, true, read);
+pub(crate) fn draw_both(
+    console: Console,
+    line: &[u8],
+    seed: u64,
+    set: &mut Counts,
+    read: &mut Counts,
+) {
+    let c = draw_one(console, line, seed, false, set);
+    let d = draw_one(console, line, seed, true, read);
     add_if(set, ORDER_MATTERS, differ(c, d));
     add_if(read, ORDER_MATTERS, differ(c, d));
 }

@@ -1,0 +1,11 @@
+use lib.Seq.{length-take-le}
+use Prim.Native.Nat.{◌-◌}
+use mathlib.Core.Path.{sym}
+use native.Mathlib.Omega.{arith}
+use lib.ListN.{length}
+use borrow.Author.Rules.{rules}
+use Rattle.cases.proofs.cards.prefixes.Goals as goal
+
+pub slice_bounds-load_whole-end : goal.slice_bounds-load_whole-end
+slice_bounds-load_whole-end c =
+    sym (length-take-le _ _ (omega arith))

@@ -1,0 +1,16 @@
+-- `cases::cards::prefixes` is safe and ends: what is left of the text falls. Assumes nothing.
+use lib.Seq.{length-take-le}
+use Prim.Native.Nat.{◌-◌}
+use mathlib.Core.Path.{sym}
+use native.Mathlib.Omega.{arith}
+use lib.ListN.{length}
+use borrow.Author.Rules.{rules}
+use Rattle.cases.proofs.cards.prefixes.Given as goal
+
+abbrev pub invariant-loop-n : goal.invariant-loop-n
+invariant-loop-n l =
+    Unit {0}
+
+abbrev pub decreases-loop-n : goal.decreases-loop-n
+decreases-loop-n l =
+    length l.text - l.n

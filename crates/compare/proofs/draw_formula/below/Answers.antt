@@ -1,0 +1,7 @@
+-- `compare::draw_formula::below` meets its contract. Assumes nothing.
+use Rattle.std.proofs.Common.{mod-lt, rules}
+use Rattle.compare.proofs.draw_formula.below.Goals as goal
+
+pub returns : goal.returns
+returns c =
+    mod-lt c.args.seed c.requires

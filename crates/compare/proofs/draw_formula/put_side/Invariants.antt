@@ -1,0 +1,11 @@
+-- `compare::draw_formula::put_side` is safe and ends. Assumes nothing.
+use Rattle.std.proofs.Common.{◌≡◌, ◌-◌, length, rules}
+use Rattle.compare.proofs.draw_formula.put_side.Given as goal
+
+abbrev pub invariant-loop-i : goal.invariant-loop-i
+invariant-loop-i l =
+    length l.text ≡ length l.initial.text
+
+abbrev pub decreases-loop-i : goal.decreases-loop-i
+decreases-loop-i l =
+    length l.patterns - l.i

@@ -1,0 +1,12 @@
+-- `compare::plain_beliefs::after` is safe and ends. Assumes nothing.
+use Rattle.std.proofs.Common.{◌-◌, ◌≤◌, rules}
+use Rattle.search.specs.Limits.{state_limit}
+use Rattle.compare.proofs.plain_beliefs.after.Given as goal
+
+abbrev pub invariant-loop-s : goal.invariant-loop-s
+invariant-loop-s l =
+    l.s ≤ state_limit
+
+abbrev pub decreases-loop-s : goal.decreases-loop-s
+decreases-loop-s l =
+    state_limit - l.s

@@ -1,0 +1,13 @@
+-- `compare::plain_patterns::number_of` is safe and ends. Assumes nothing.
+use Rattle.std.proofs.Common.{◌-◌, ◌^◌, ◌<◌, ◌≤◌, rules}
+use Rattle.compare.specs.Sizes.{bit_count}
+use Rattle.compare.proofs.plain_patterns.DigitsBelow.{digit_more, digits_below}
+use Rattle.compare.proofs.plain_patterns.number_of.Given as goal
+
+abbrev pub invariant-loop-k : goal.invariant-loop-k
+invariant-loop-k l =
+    (l.k ≤ bit_count) × (l.n < 2 ^ l.k)
+
+abbrev pub decreases-loop-k : goal.decreases-loop-k
+decreases-loop-k l =
+    bit_count - l.k

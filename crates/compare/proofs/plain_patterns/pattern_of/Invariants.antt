@@ -1,0 +1,12 @@
+-- `compare::plain_patterns::pattern_of` is safe and ends. Assumes nothing.
+use Rattle.std.proofs.Common.{◌-◌, ◌≤◌, rules}
+use Rattle.compare.specs.Sizes.{bit_count}
+use Rattle.compare.proofs.plain_patterns.pattern_of.Given as goal
+
+abbrev pub invariant-loop-k : goal.invariant-loop-k
+invariant-loop-k l =
+    l.k ≤ bit_count
+
+abbrev pub decreases-loop-k : goal.decreases-loop-k
+decreases-loop-k l =
+    bit_count - l.k

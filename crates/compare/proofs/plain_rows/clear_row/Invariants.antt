@@ -1,0 +1,11 @@
+-- `compare::plain_rows::clear_row` is safe and ends. Assumes nothing.
+use Rattle.std.proofs.Common.{◌-◌, ◌≤◌, rules}
+use Rattle.compare.proofs.plain_rows.clear_row.Given as goal
+
+abbrev pub invariant-loop-k : goal.invariant-loop-k
+invariant-loop-k l =
+    l.k ≤ l.k-end
+
+abbrev pub decreases-loop-k : goal.decreases-loop-k
+decreases-loop-k l =
+    l.k-end - l.k

@@ -1,0 +1,13 @@
+-- `compare::run_lines` is safe and ends: what is left of the input falls. Assumes nothing.
+use Rattle.std.proofs.Common.{◌-◌, length, arith, rules}
+use Rattle.basics.specs.Bytes.{not_line_end}
+use Rattle.basics.proofs.BytesLaws.{past_in}
+use Rattle.compare.proofs.run_lines.Given as goal
+
+abbrev pub invariant-loop-i : goal.invariant-loop-i
+invariant-loop-i l =
+    Unit {0}
+
+abbrev pub decreases-loop-i : goal.decreases-loop-i
+decreases-loop-i l =
+    length l.input - l.i
