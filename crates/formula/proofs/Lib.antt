@@ -5,10 +5,11 @@ pub mod ConstraintsLaws
 pub mod ConstraintsCounts
 -- letters
 pub mod LetterLaws
--- parts, and the operators among them
+-- parts, and the operators and the signals among them
 pub mod OperatorBytes
 pub mod PartsLaws
 pub mod TemporalCount
+pub mod UsedSignals
 -- the values of parts, judging by them, and parts in memory
 pub mod ValuesLaws
 pub mod FormulaValues

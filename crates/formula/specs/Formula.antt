@@ -1,6 +1,6 @@
 -- LTLf formulas over signals that are numbered by their bit in a letter.
 -- Assumes nothing.
-use Rattle.std.specs.Prelude.{ℕ, ◌+◌}
+use Rattle.std.specs.Prelude.{ℕ, ◌+◌, Bool, false, ◌||◌, eqb}
 
 -- `X` next, `N` weak next, `F` eventually, `G` always, `U` until, `R` release
 pub data Formula : Type 0 where
@@ -42,3 +42,19 @@ operators (F φ) = operators φ + 1
 operators (G φ) = operators φ + 1
 operators (U φ ψ) = operators φ + operators ψ + 1
 operators (R φ ψ) = operators φ + operators ψ + 1
+
+-- whether a signal is written in a formula
+unfoldable pub uses : Formula → ℕ → Bool
+uses (signal c) b = eqb c b
+uses True b = false
+uses False b = false
+uses (Not φ) b = uses φ b
+uses (And φ ψ) b = uses φ b || uses ψ b
+uses (Or φ ψ) b = uses φ b || uses ψ b
+uses (Implies φ ψ) b = uses φ b || uses ψ b
+uses (X φ) b = uses φ b
+uses (N φ) b = uses φ b
+uses (F φ) b = uses φ b
+uses (G φ) b = uses φ b
+uses (U φ ψ) b = uses φ b || uses ψ b
+uses (R φ ψ) b = uses φ b || uses ψ b

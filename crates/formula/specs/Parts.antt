@@ -2,7 +2,7 @@
 -- operands; code keeps it as one number (`Codes`), in which the byte that stands for the operator in a rule is the lowest.
 -- `parts_of` writes a formula's parts, and `formula_at` reads the formula of a part back.
 -- Assumes nothing.
-use Rattle.std.specs.Prelude.{ℕ, zero, suc, ◌+◌, ◌-◌, ◌≤◌, ◌<◌, pred, Bool, ◌||◌, cond, List, [], ◌∷◌, ◌++◌, map, eqb, length, get_or}
+use Rattle.std.specs.Prelude.{ℕ, zero, suc, ◌+◌, ◌-◌, ◌≤◌, ◌<◌, pred, Bool, false, ◌&&◌, ◌||◌, cond, List, [], ◌∷◌, ◌++◌, map, eqb, length, get_or}
 use Rattle.formula.specs.declared.formula.Op.{Op}
 use Rattle.formula.specs.declared.formula.Op.TheVariants as op
 use Rattle.basics.specs.Bits.{digit}
@@ -81,6 +81,15 @@ last_of ps = pred (length ps)
 -- the bytes of their operators
 abbrev pub kinds_of : List Part → List ℕ
 kinds_of ps = map (λ p. byte_of p.kind) ps
+
+-- whether an operator is `Signal`, in whose parts alone `left` is the number of a signal
+abbrev pub is_signal : Op → Bool
+is_signal k = eqb (byte_of k) 97
+
+-- whether one of these parts is the signal b
+unfoldable pub have_signal : List Part → ℕ → Bool
+have_signal [] b = false
+have_signal (p ∷ ps) b = (is_signal p.kind && eqb p.left b) || have_signal ps b
 
 -- ---- the formula of a part
 

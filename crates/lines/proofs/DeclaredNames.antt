@@ -4,12 +4,13 @@ use Prim.Native.Nat.{ℕ, zero, suc, ◌≤◌, ◌<◌}
 use native.Mathlib.Nat.{le_of_suc-le-suc}
 use native.Mathlib.Omega.{arith}
 use mathlib.Core.Path.{◌≡◌, refl, sym, subst, ap, ◌∙◌}
+use mathlib.Core.Logic.{inl, inr}
 use mathlib.Core.Bool.{Bool, true, false, cond}
 use mathlib.Core.List.Memᴰ
 use mathlib.Core.List.{List, [], ◌∷◌}
 use borrow.Author.Tests.{eq-eqb, ne_eqb, lt-ltb, le-ltb}
 use lib.Dec.{eqb}
-use lib.ListN.{length, set}
+use lib.ListN.{length, get_or, set}
 use Rattle.basics.specs.Limits.{index_limit}
 use Rattle.basics.specs.Member.{◌∈◌}
 use Rattle.syntax.specs.declared.lex.Token.{Token}
@@ -19,6 +20,7 @@ use Rattle.syntax.specs.Lex.{token_at, tokens}
 use Rattle.grammar.specs.Names.{Name, bits, index_of, names_in, leaf_value}
 use Rattle.syntax.proofs.Spelt.{tokens_end, tokens_more, falls}
 use Rattle.lines.specs.Effect.{Signals, all_declared}
+use Rattle.basics.proofs.Booleans.{test}
 use Rattle.basics.proofs.BytesLaws.{same_bytes_lem, same_refl}
 use Rattle.lines.proofs.SignalSpans.{length_names}
 use Rattle.lines.proofs.TreeCodes.{Values}
@@ -63,6 +65,33 @@ index_new name (x ∷ xs) (suc i) h n = go (same_bytes x name) refl (index_new n
     go : (b : Bool) → same_bytes x name ≡ b → index_of name (set xs i name) ≡ i → cond b 0 (suc (index_of name (set xs i name))) ≡ suc i
     go true e ih = absurd (n (Memᴰ.head (sym (same_bytes_lem x name e))))
     go false e ih = ap suc ih
+
+-- the entry at a name's number is the name
+pub index_at : (name : Name) {xs : List Name} → name ∈ xs → get_or xs (index_of name xs) [] ≡ name
+unfolding index_of
+index_at name (Memᴰ.head {x = x} e) = rw (← e, same_refl name)
+index_at name (Memᴰ.tail {x = x} {xs = xs} m) = go (same_bytes x name) refl (index_at name m)
+  where
+    go : (b : Bool) → same_bytes x name ≡ b → get_or xs (index_of name xs) [] ≡ name → get_or (x ∷ xs) (cond b 0 (suc (index_of name xs))) [] ≡ name
+    go true e ih = same_bytes_lem x name e
+    go false e ih = ih
+
+-- names with one number are the same
+pub one_name : (x y : Name) (xs : List Name) → x ∈ xs → index_of x xs ≡ index_of y xs → x ≡ y
+one_name x y xs m e =
+    let n : y ∈ xs = index_in_lem y xs (subst (λ i. i < length xs) e (in_index x m)) in
+    sym (index_at x m) ∙ ap (λ i. get_or xs i []) e ∙ index_at y n
+
+-- a name keeps its number where another takes a place that was free
+pub index_kept : (x new : Name) (xs : List Name) (i : ℕ) → get_or xs i [] ≡ [] → ¬ (x ≡ []) → ¬ (new ≡ x) → index_of x (set xs i new) ≡ index_of x xs
+unfolding index_of
+index_kept x new [] i free some other = refl
+index_kept x new (y ∷ xs) zero free some other =
+    rw (unlike new other, unlike y (λ e. some (sym e ∙ free)))
+  where
+    unlike : (z : Name) → ¬ (z ≡ x) → same_bytes z x ≡ false
+    unlike z n = elim (test (same_bytes z x)) [ inl e ↦ absurd (n (same_bytes_lem z x e)) | inr e ↦ e ]
+index_kept x new (y ∷ xs) (suc i) free some other = ap (λ n. cond (same_bytes y x) 0 (suc n)) (index_kept x new xs i free some other)
 
 pub index_below : (source spans : List ℕ) (name : Name) (i : ℕ) → i ≡ index_of name (names_in source spans) → (i ≡ bits → ⊥) → i < bits
 index_below source spans name i e n = omega (arith, index_of_le name (names_in source spans), length_names source spans)

@@ -8,6 +8,7 @@ pub mod LineFields
 -- names and signals
 pub mod DeclaredNames
 pub mod SignalSpans
+pub mod UsedNames
 -- from cells to the parts in memory
 pub mod MemoryLaws
 pub mod CellKinds

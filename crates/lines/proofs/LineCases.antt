@@ -41,18 +41,18 @@ fields (b ∷ s) h = go (eqb b 9) refl h (fields s)
     go false e h ih = rw (suc-add (run not_tab s) 1) (ap (λ l. b ∷ l) (ih (le_of_suc-le-suc h)))
 
 -- the fields of a written line
-declare_fields : (k : Kind) (name : List ℕ)
+pub declare_fields : (k : Kind) (name : List ℕ)
     → (has_tab (declare_line k name) ≡ true) × (word_of (first_field (declare_line k name)) ≡ Declare k) × (second_field (declare_line k name) ≡ name)
 unfolding tab_place run word_of same_bytes
 declare_fields Output name = (lt-ltb 3 (suc (suc (suc (suc (length name))))) (omega arith), refl, refl)
 declare_fields Observed name = (lt-ltb 3 (suc (suc (suc (suc (length name))))) (omega arith), refl, refl)
 declare_fields Hidden name = (lt-ltb 3 (suc (suc (suc (suc (length name))))) (omega arith), refl, refl)
 
-rule_fields : (text : List ℕ) → (has_tab (rule_line text) ≡ true) × (word_of (first_field (rule_line text)) ≡ Rule) × (second_field (rule_line text) ≡ text)
+pub rule_fields : (text : List ℕ) → (has_tab (rule_line text) ≡ true) × (word_of (first_field (rule_line text)) ≡ Rule) × (second_field (rule_line text) ≡ text)
 unfolding tab_place run word_of same_bytes
 rule_fields text = (lt-ltb 4 (suc (suc (suc (suc (suc (length text)))))) (omega arith), refl, refl)
 
-order_fields : (o : Order)
+pub order_fields : (o : Order)
     → (has_tab (order_line o) ≡ true) × (word_of (first_field (order_line o)) ≡ OrderWord) × (order_named (second_field (order_line o)) ≡ Fixed o)
 unfolding tab_place run word_of same_bytes order_named
 order_fields Set = (refl, refl, refl)

@@ -2,15 +2,17 @@
 use Prim.Native.Nat.{ℕ, zero, suc, ◌+◌, ◌-◌, ◌≤◌, ◌<◌}
 use native.Mathlib.Nat.{le_of_suc-le-suc}
 use native.Mathlib.Omega.{arith}
-use mathlib.Core.Path.{◌≡◌, refl, ◌∙◌}
+use mathlib.Core.Path.{◌≡◌, refl, ap, ◌∙◌}
+use mathlib.Core.Logic.{inl, inr}
 use mathlib.Core.Bool.{Bool, true, false, not}
 use mathlib.Core.List.{List, [], ◌∷◌}
-use borrow.Author.Tests.{leb-true}
+use borrow.Author.Tests.{leb-true, eqb-true}
 use lib.Dec.{eqb, leb}
 use lib.ListN.{length, take, drop, length-drop, drop_of_length-le}
 use lib.Seq.{drop-drop}
-use Rattle.basics.specs.Bytes.{lower, word_byte, not_line_end, run, past, between}
-use Rattle.basics.proofs.Booleans.{and_left, and_right}
+use Rattle.basics.specs.Bytes.{lower, word_byte, not_tab, not_line_end, run, past, between}
+use Rattle.basics.specs.Pieces.{Unparted}
+use Rattle.basics.proofs.Booleans.{test, clash, and_left, and_right, or_intro_left}
 use Rattle.lines.specs.Limits.{name_limit}
 use Rattle.lines.specs.Lines.{ended, unended, line_start, lines, is_name}
 
@@ -58,6 +60,28 @@ module _ (source : List ℕ) (at end : ℕ) (e : end ≡ past not_line_end sourc
   pub lines_unended : at < length source → end ≡ length source → lines (drop at source) ≡ unended (drop at source) ∷ []
   lines_unended h q =
       split_unended (drop at source) (omega (arith, length-drop at source)) (omega (arith, length-drop at source, run_is))
+
+-- a name has no tab
+word_tabless : (b : ℕ) → word_byte b ≡ true → not_tab b ≡ true
+unfolding word_byte lower
+word_tabless b w = elim (test (eqb b 9)) [ inl e ↦ clash w (ap word_byte (eqb-true b 9 e)) | inr e ↦ rw e refl ]
+
+words_tabless : (s : List ℕ) → run word_byte s ≡ length s → Unparted not_tab s
+unfolding run
+words_tabless [] e = tt
+words_tabless (b ∷ s) e = go (word_byte b) refl e (words_tabless s)
+  where
+    go : (t : Bool) → word_byte b ≡ t → elim t [ true ↦ suc (run word_byte s) | false ↦ zero ] ≡ suc (length s)
+        → (run word_byte s ≡ length s → Unparted not_tab s) → Unparted not_tab (b ∷ s)
+    go true w e ih = (word_tabless b w, ih (omega arith))
+    go false w e ih = absurd (omega arith)
+
+pub name_tabless : (name : List ℕ) → is_name name ≡ true → Unparted not_tab name
+unfolding is_name word_byte
+name_tabless [] e = tt
+name_tabless (b ∷ s) e =
+    let l = and_left (lower b) _ e in
+    (word_tabless b (or_intro_left _ l), words_tabless s (eqb-true _ _ (and_left (eqb (run word_byte s) (length s)) _ (and_right (lower b) _ e))))
 
 -- a name is short
 pub name_short : (name : List ℕ) → is_name name ≡ true → length name ≤ name_limit

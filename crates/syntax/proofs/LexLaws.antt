@@ -129,6 +129,13 @@ ends text at h =
     s : (at ≤ skip text at) × (skip text at ≤ length text)
     s = past_in is_space text at h
 
+pub token_some : (text : List ℕ) (at : ℕ) → at ≤ length text → ((token_at text at).kind ≡ end_kind → ⊥) → (token_at text at).from < (token_at text at).next
+unfolding token_at word_byte
+token_some text at h =
+    from_cases (λ t. (t.kind ≡ end_kind → ⊥) → t.from < t.next) text (skip text at) (λ q n. absurd (n refl))
+    (λ q l k n. let m = past_more word_byte text (skip text at) q (rw l) in
+    omega (arith, m, past_in word_byte text (skip text at + 1) (omega arith))) (λ q n. omega arith) (λ q k n. omega arith)
+
 -- the same of a token that was looked at
 module _ (text : List ℕ) (at : ℕ) (h : at ≤ length text) (tok : Token) (it : tok ≡ token_at text at) where
   pub tok_high : tok.next ≤ length text

@@ -1,6 +1,7 @@
 -- The tokens of a text from a position on. Assumes nothing.
 use mathlib.Core.Path.{◌≡◌, refl, sym, ap, ◌∙◌}
 use mathlib.Core.Bool.{Bool, true, false}
+use mathlib.Core.List.Memᴰ
 use mathlib.Core.List.{List, [], ◌∷◌}
 use Prim.Native.Nat.{ℕ, zero, suc, ◌-◌, ◌≤◌, ◌<◌}
 use native.Mathlib.Omega.{arith}
@@ -8,10 +9,11 @@ use borrow.Author.Tests.{eq-eqb, ne_eqb, eqb-true, eqb-false}
 use lib.ListN.{length}
 use lib.Dec.{eqb}
 use Rattle.syntax.specs.declared.lex.Token.{Token}
+use Rattle.basics.specs.Member.{◌∈◌}
 use Rattle.basics.proofs.Booleans.{clash}
 use Rattle.syntax.specs.Kinds.{end_kind}
 use Rattle.syntax.specs.Lex.{token_at, more, tokens_f, tokens}
-use Rattle.syntax.proofs.LexLaws.{ends}
+use Rattle.syntax.proofs.LexLaws.{ends, token_some}
 
 more_cong : (b : Bool) (t : Token) (f g : Unit {0} → List Token) → (b ≡ false → f tt ≡ g tt) → more b t f ≡ more b t g
 unfolding more
@@ -54,6 +56,19 @@ module _ (text : List ℕ) where
       (λ e. let f = falls at h (eqb-false _ _ e) in
       let u = (ends text at h).high in
       same k m (token_at text at).next u (omega arith) (omega arith))
+
+  -- no token of a text is empty
+  pub tokens_some : (k at : ℕ) → at ≤ length text → (t : Token) → t ∈ tokens_f k text at → (t.from < t.next) × (t.next ≤ length text)
+  unfolding tokens_f more
+  tokens_some zero at h t m = absurd (Memᴰ.not-nil m)
+  tokens_some (suc k) at h t m = go (eqb (token_at text at).kind end_kind) refl m (tokens_some k (token_at text at).next (ends text at h).high t)
+    where
+      go : (b : Bool) → eqb (token_at text at).kind end_kind ≡ b → t ∈ more b (token_at text at) (λ _. tokens_f k text (token_at text at).next)
+          → (t ∈ tokens_f k text (token_at text at).next → (t.from < t.next) × (t.next ≤ length text))
+          → (t.from < t.next) × (t.next ≤ length text)
+      go true e m ih = absurd (Memᴰ.not-nil m)
+      go false e (Memᴰ.head i) ih = rw i (token_some text at h (eqb-false _ _ e), (ends text at h).high)
+      go false e (Memᴰ.tail m) ih = ih m
 
   module _ (at : ℕ) (h : at ≤ length text) where
     pub tokens_end : (token_at text at).kind ≡ end_kind → tokens text at ≡ []

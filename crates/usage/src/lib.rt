@@ -1,0 +1,7 @@
+// Which of the declared signals no rule uses: a second pass over a problem's lines, with the parts that were read of its rules. Every function
+// here is proved, and the crate assumes nothing. Each `requires` asks what reading a problem gives.
+#![tactic(auto)]
+
+mod using;
+
+pub use using::{first_unused, put_unused};

@@ -1,0 +1,110 @@
+// The declared signals that are in no part of a formula, line by line.
+ghost use Rattle.std.specs.Prelude.{◌≡◌, ◌&&◌, ◌+◌, ◌≤◌, eqb, length, [], ◌∷◌, ◌++◌};
+ghost use Rattle.std.proofs.lemmas.List.Edits.{sets};
+ghost use Rattle.basics.specs.Lists.{written};
+ghost use Rattle.basics.specs.Pieces.{field_at};
+ghost use Rattle.formula.specs.Codes.{part_of, parts_in};
+ghost use Rattle.formula.specs.Parts.{is_signal, have_signal};
+ghost use Rattle.grammar.specs.Names.{Spans, names_in};
+ghost use Rattle.lines.specs.Lines.{lines};
+ghost use Rattle.usage.specs.Used.{names_text};
+ghost use Rattle.usage.specs.Declarations.{declares_unused, unused_from, first_line, first_of};
+
+use basics::{Class, LINE_END, behind, field, piece, put_byte, put_bytes};
+use grammar::lookup;
+use lines::{Word, word_of};
+
+// The lowest byte of a signal's number.
+const SIGNAL: u32 = 97;
+
+// Whether the number of a part is that of signal b: an operator has the index of a part where a signal has its bit.
+fn is_signal(code: u32, b: usize) -> bool
+    ensures { result ≡ (is_signal (part_of code).kind && eqb (part_of code).left b) }
+{
+    (code % 256 == SIGNAL) & ((code / 256 % 256) as usize == b)
+}
+
+// Whether signal b is among the parts.
+fn is_used(parts: &[u32], b: usize) -> bool
+    ensures { result ≡ have_signal (parts_in parts.now) b }
+{
+    let mut i = 0;
+    while i < parts.len() {
+        if is_signal(parts[i], b) {
+            return true;
+        }
+        i += 1;
+    }
+    false
+}
+
+// Whether a line declares a signal that is in none of the parts.
+fn declares_unused(source: &[u8], spans: &[usize], parts: &[u32], line: &[u8]) -> bool
+    requires { Spans source.now spans.now }
+    ensures { result ≡ declares_unused (have_signal (parts_in parts.now)) (names_in source.now spans.now)
+        line.now }
+{
+    match word_of(field(line, 0)) {
+        Word::Declare(_) => !is_used(parts, lookup(source, spans, field(line, 1))),
+        Word::Rule => false,
+        Word::Order => false,
+        Word::Unknown => false,
+    }
+}
+
+// The present line, if it counts and none was found before; else what was found.
+fn first_of(found: usize, line: usize, counts: bool) -> usize
+    ensures { result ≡ first_of found line counts }
+{
+    if counts & (found == 0) { line } else { found }
+}
+
+// The line of the first declared signal that is in none of the parts, 0 where there is none.
+pub fn first_unused(source: &[u8], spans: &[usize], parts: &[u32]) -> usize
+    requires { Spans source.now spans.now }
+    ensures { result ≡ first_line (unused_from (have_signal (parts_in parts.now)) (names_in source.now spans.now) 1
+        (lines source.now)) }
+{
+    let mut found = 0;
+    let mut at = 0;
+    let mut line = 1;
+    while at < source.len() {
+        let counts = declares_unused(source, spans, parts, piece(source, at, Class::Line));
+        found = first_of(found, line, counts);
+        at = behind(source, at, Class::Line);
+        line += 1;
+    }
+    found
+}
+
+// Puts the name that a line declares, with a line's end, and answers the place behind it.
+fn put_name(text: &mut [u8], at: usize, line: &[u8]) -> usize
+    requires { at + length (field_at 1 line.now ++ (10 ∷ [])) ≤ length text.old }
+    ensures value { result ≡ at + length (field_at 1 line.now ++ (10 ∷ [])) }
+    ensures text_after { text.new ≡ sets text.old at (field_at 1 line.now ++ (10 ∷ [])) }
+{
+    let end = put_bytes(text, at, field(line, 1));
+    put_byte(text, end, LINE_END)
+}
+
+// Puts the names of the declared signals that are in none of the parts at the front of a text, in declared order, each with a line's end, and
+// answers their length. Each is shorter than its line, so a text as long as the source has room.
+pub fn put_unused(source: &[u8], spans: &[usize], parts: &[u32], text: &mut [u8]) -> usize
+    requires spans { Spans source.now spans.now }
+    requires source_in_bounds { length source.now ≤ length text.old }
+    ensures value { result ≡ length (names_text (unused_from (have_signal (parts_in parts.now)) (names_in source.now spans.now)
+        1 (lines source.now))) }
+    ensures text_after { text.new ≡ written (names_text (unused_from (have_signal (parts_in parts.now))
+        (names_in source.now spans.now) 1 (lines source.now))) text.old }
+{
+    let mut end = 0;
+    let mut at = 0;
+    while at < source.len() {
+        let line = piece(source, at, Class::Line);
+        if declares_unused(source, spans, parts, line) {
+            end = put_name(text, end, line);
+        }
+        at = behind(source, at, Class::Line);
+    }
+    end
+}
