@@ -1,7 +1,4 @@
-use Prim.Native.Nat.{◌-◌}
 use native.Mathlib.Omega.{arith}
-use lib.ListN.{length}
-use borrow.Author.Rules.{rules}
 use Rattle.basics.specs.Bytes.{not_line_end}
 use Rattle.basics.proofs.BytesLaws.{past_in}
 use Rattle.cases.proofs.run_lines.Goals as goal

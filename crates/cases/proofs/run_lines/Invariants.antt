@@ -1,10 +1,6 @@
 -- `cases::run_lines` is safe and ends: what is left of the input falls. Assumes nothing.
 use Prim.Native.Nat.{◌-◌}
-use native.Mathlib.Omega.{arith}
 use lib.ListN.{length}
-use borrow.Author.Rules.{rules}
-use Rattle.basics.specs.Bytes.{not_line_end}
-use Rattle.basics.proofs.BytesLaws.{past_in}
 use Rattle.cases.proofs.run_lines.Given as goal
 
 abbrev pub invariant-loop-i : goal.invariant-loop-i

@@ -1,5 +1,5 @@
 -- `compare::run` is safe and ends. Assumes nothing.
-use Rattle.std.proofs.Common.{◌-◌, ◌≤◌, rules}
+use Rattle.std.proofs.Common.{◌-◌, ◌≤◌}
 use Rattle.compare.proofs.run.Given as goal
 
 abbrev pub invariant-loop-k : goal.invariant-loop-k

@@ -1,4 +1,4 @@
-use Rattle.std.proofs.Common.{◌-◌, length, arith, rules}
+use Rattle.std.proofs.Common.{arith}
 use Rattle.basics.specs.Bytes.{not_line_end}
 use Rattle.basics.proofs.BytesLaws.{past_in}
 use Rattle.compare.proofs.run_lines.Goals as goal

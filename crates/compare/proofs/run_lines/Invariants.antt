@@ -1,7 +1,5 @@
 -- `compare::run_lines` is safe and ends: what is left of the input falls. Assumes nothing.
-use Rattle.std.proofs.Common.{◌-◌, length, arith, rules}
-use Rattle.basics.specs.Bytes.{not_line_end}
-use Rattle.basics.proofs.BytesLaws.{past_in}
+use Rattle.std.proofs.Common.{◌-◌, length}
 use Rattle.compare.proofs.run_lines.Given as goal
 
 abbrev pub invariant-loop-i : goal.invariant-loop-i

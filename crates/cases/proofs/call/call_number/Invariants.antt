@@ -1,6 +1,5 @@
 -- `cases::call::call_number` is safe and ends. Assumes nothing.
 use Prim.Native.Nat.{◌≤◌, ◌-◌}
-use borrow.Author.Rules.{rules}
 use Rattle.cases.proofs.call.call_number.Given as goal
 
 abbrev pub invariant-loop-k : goal.invariant-loop-k

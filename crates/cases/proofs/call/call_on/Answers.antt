@@ -2,7 +2,6 @@
 use lib.Seq.{length-take-le}
 use mathlib.Core.Path.{sym}
 use native.Mathlib.Omega.{arith}
-use borrow.Author.Rules.{rules}
 use Rattle.cases.proofs.call.call_on.Goals as goal
 
 pub slice_bounds-call_with-end : goal.slice_bounds-call_with-end

@@ -2,7 +2,6 @@
 use lib.Seq.{length-take-le}
 use mathlib.Core.Path.{sym}
 use native.Mathlib.Omega.{arith}
-use borrow.Author.Rules.{rules}
 use Rattle.cases.proofs.call.solve.Goals as goal
 
 pub slice_bounds-solve_in-end : goal.slice_bounds-solve_in-end

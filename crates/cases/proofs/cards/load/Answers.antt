@@ -2,7 +2,6 @@
 use lib.Seq.{length-take-le}
 use mathlib.Core.Path.{sym}
 use native.Mathlib.Omega.{arith}
-use borrow.Author.Rules.{rules}
 use Rattle.cases.proofs.cards.load.Goals as goal
 
 pub slice_bounds-load_in-end : goal.slice_bounds-load_in-end

@@ -1,9 +1,6 @@
 use lib.Seq.{length-take-le}
-use Prim.Native.Nat.{◌-◌}
 use mathlib.Core.Path.{sym}
 use native.Mathlib.Omega.{arith}
-use lib.ListN.{length}
-use borrow.Author.Rules.{rules}
 use Rattle.cases.proofs.cards.prefixes.Goals as goal
 
 pub slice_bounds-load_whole-end : goal.slice_bounds-load_whole-end

@@ -1,10 +1,6 @@
 -- `cases::cards::prefixes` is safe and ends: what is left of the text falls. Assumes nothing.
-use lib.Seq.{length-take-le}
 use Prim.Native.Nat.{◌-◌}
-use mathlib.Core.Path.{sym}
-use native.Mathlib.Omega.{arith}
 use lib.ListN.{length}
-use borrow.Author.Rules.{rules}
 use Rattle.cases.proofs.cards.prefixes.Given as goal
 
 abbrev pub invariant-loop-n : goal.invariant-loop-n

@@ -1,10 +1,7 @@
 -- `cases::cards::put_ladder` is safe and ends: what is left of the table falls. Assumes nothing.
-use Prim.Native.Nat.{ℕ, ◌-◌, ◌/◌, ◌≤◌, ◌<◌}
-use native.Mathlib.Omega.{arith}
+use Prim.Native.Nat.{◌-◌}
 use mathlib.Core.Path.{◌≡◌}
 use lib.ListN.{length}
-use borrow.Author.Rules.{rules}
-use borrow.Author.Tests.{ltb-true}
 use Rattle.cases.proofs.cards.put_ladder.Given as goal
 
 abbrev pub invariant-loop-i : goal.invariant-loop-i

@@ -1,6 +1,5 @@
 -- `cases::line::number` meets its contract: a number in digits is below 65,536. Assumes nothing.
 use mathlib.Core.Path.{sym, ◌∙◌}
-use borrow.Author.Rules.{rules}
 use Rattle.basics.proofs.NumbersLaws.{number_below_lem}
 use Rattle.cases.proofs.line.number.Goals as goal
 

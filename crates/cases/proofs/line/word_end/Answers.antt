@@ -1,6 +1,5 @@
 -- `cases::line::word_end` meets its contract: a run of bytes ends within the list. Assumes nothing.
 use native.Mathlib.Omega.{arith}
-use borrow.Author.Rules.{rules}
 use Rattle.basics.specs.Bytes.{word_byte}
 use Rattle.basics.proofs.BytesLaws.{past_in}
 use Rattle.cases.proofs.line.word_end.Goals as goal

@@ -1,7 +1,6 @@
 -- `cases::memory::look_at` is safe and ends: what is left of the memory falls. Assumes nothing.
 use Prim.Native.Nat.{◌-◌}
 use lib.ListN.{length}
-use borrow.Author.Rules.{rules}
 use Rattle.cases.proofs.memory.look_at.Given as goal
 
 abbrev pub invariant-loop-i : goal.invariant-loop-i

@@ -1,6 +1,5 @@
 -- `cases::parts::look_at_parts` is safe and ends. Assumes nothing.
 use Prim.Native.Nat.{◌≤◌, ◌-◌}
-use borrow.Author.Rules.{rules}
 use Rattle.cases.proofs.parts.look_at_parts.Given as goal
 
 abbrev pub invariant-loop-i : goal.invariant-loop-i

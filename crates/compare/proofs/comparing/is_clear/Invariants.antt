@@ -1,5 +1,5 @@
 -- `compare::comparing::is_clear` is safe and ends. Assumes nothing.
-use Rattle.std.proofs.Common.{◌-◌, ◌≤◌, length, rules}
+use Rattle.std.proofs.Common.{◌-◌, ◌≤◌, length}
 use Rattle.compare.proofs.comparing.is_clear.Given as goal
 
 abbrev pub invariant-loop-i : goal.invariant-loop-i

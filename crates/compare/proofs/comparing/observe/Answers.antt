@@ -1,4 +1,4 @@
-use Rattle.std.proofs.Common.{◌≡◌, ◌-◌, ◌≤◌, length, ap, ◌∙◌, ⊎_elim, arith, rules}
+use Rattle.std.proofs.Common.{length, ap, ◌∙◌, arith}
 use Rattle.compare.proofs.comparing.observe.Goals as goal
 use Rattle.compare.proofs.comparing.observe.Goals.{else-same, then-same}
 

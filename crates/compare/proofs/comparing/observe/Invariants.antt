@@ -1,5 +1,5 @@
 -- `compare::comparing::observe` is safe and ends. Assumes nothing.
-use Rattle.std.proofs.Common.{◌≡◌, ◌-◌, ◌≤◌, length, ap, ◌∙◌, ⊎_elim, arith, rules}
+use Rattle.std.proofs.Common.{◌≡◌, ◌-◌, ◌≤◌, length}
 use Rattle.compare.proofs.comparing.observe.Given as goal
 
 abbrev pub invariant-loop-i : goal.invariant-loop-i

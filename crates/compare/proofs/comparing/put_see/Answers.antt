@@ -1,5 +1,5 @@
 -- `compare::comparing::put_see` is safe and ends. Assumes nothing.
-use Rattle.std.proofs.Common.{arith, length-set, rules}
+use Rattle.std.proofs.Common.{arith, length-set}
 use Rattle.compare.proofs.comparing.put_see.Goals as goal
 
 pub bounds-text-i-2 : goal.bounds-text-i-2

@@ -1,5 +1,5 @@
 -- `compare::comparing::same_cells` is safe and ends. Assumes nothing.
-use Rattle.std.proofs.Common.{◌-◌, ◌≤◌, rules}
+use Rattle.std.proofs.Common.{◌-◌, ◌≤◌}
 use Rattle.play.specs.Cells.{table_size}
 use Rattle.compare.proofs.comparing.same_cells.Given as goal
 

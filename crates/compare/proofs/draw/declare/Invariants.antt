@@ -1,5 +1,5 @@
 -- `compare::draw::declare` is safe and ends. Assumes nothing.
-use Rattle.std.proofs.Common.{◌≡◌, ◌-◌, length, rules}
+use Rattle.std.proofs.Common.{◌≡◌, ◌-◌, length}
 use Rattle.compare.proofs.draw.declare.Given as goal
 
 abbrev pub invariant-loop-i : goal.invariant-loop-i

@@ -1,4 +1,4 @@
-use Rattle.std.proofs.Common.{ℕ, ◌+◌, ◌*◌, ◌<◌, ◌∙◌, rules}
+use Rattle.std.proofs.Common.{◌∙◌}
 use Rattle.compare.proofs.draw_formula.+put_tree_put_two.Goals as goal
 
 pub put_two-shape_of-text : goal.put_two-shape_of-text

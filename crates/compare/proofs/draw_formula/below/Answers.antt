@@ -1,5 +1,5 @@
 -- `compare::draw_formula::below` meets its contract. Assumes nothing.
-use Rattle.std.proofs.Common.{mod-lt, rules}
+use Rattle.std.proofs.Common.{mod-lt}
 use Rattle.compare.proofs.draw_formula.below.Goals as goal
 
 pub returns : goal.returns

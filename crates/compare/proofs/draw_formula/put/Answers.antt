@@ -1,4 +1,4 @@
-use Rattle.std.proofs.Common.{◌≡◌, ◌<◌, length, arith, rules, ltb-true}
+use Rattle.std.proofs.Common.{◌<◌, length, arith}
 use Rattle.compare.proofs.draw_formula.put.Goals as goal
 
 pub overflow_add-at : goal.overflow_add-at

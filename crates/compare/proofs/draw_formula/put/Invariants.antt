@@ -1,5 +1,5 @@
 -- `compare::draw_formula::put` is safe and ends. Assumes nothing.
-use Rattle.std.proofs.Common.{◌≡◌, ◌<◌, length, arith, rules, ltb-true}
+use Rattle.std.proofs.Common.{◌≡◌, length}
 use Rattle.compare.proofs.draw_formula.put.Given as goal
 
 abbrev pub invariant-loop-w : goal.invariant-loop-w

@@ -1,5 +1,5 @@
 -- `compare::draw_formula::put_side` is safe and ends. Assumes nothing.
-use Rattle.std.proofs.Common.{◌≡◌, ◌-◌, length, rules}
+use Rattle.std.proofs.Common.{◌≡◌, ◌-◌, length}
 use Rattle.compare.proofs.draw_formula.put_side.Given as goal
 
 abbrev pub invariant-loop-i : goal.invariant-loop-i

@@ -1,5 +1,5 @@
 -- `compare::line::argument` meets its contract: a number in digits is below 65,536. Assumes nothing.
-use Rattle.std.proofs.Common.{sym, ◌∙◌, rules}
+use Rattle.std.proofs.Common.{sym, ◌∙◌}
 use Rattle.basics.proofs.NumbersLaws.{number_below_lem}
 use Rattle.compare.proofs.line.argument.Goals as goal
 

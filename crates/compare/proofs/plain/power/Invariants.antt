@@ -1,5 +1,5 @@
 -- `compare::plain::power` is safe and ends. Assumes nothing.
-use Rattle.std.proofs.Common.{◌-◌, ◌≤◌, rules}
+use Rattle.std.proofs.Common.{◌-◌, ◌≤◌}
 use Rattle.compare.proofs.plain.power.Given as goal
 
 abbrev pub invariant-loop : goal.invariant-loop

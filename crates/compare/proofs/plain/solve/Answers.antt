@@ -1,5 +1,5 @@
 -- `compare::plain::solve` is safe and ends. Assumes nothing.
-use Rattle.std.proofs.Common.{sym, arith, rules}
+use Rattle.std.proofs.Common.{sym, arith}
 use Rattle.rules.proofs.JudgeLaws.{taken, taken_length, few_parts}
 use Rattle.compare.proofs.plain.solve.Goals as goal
 

@@ -1,5 +1,5 @@
 -- `compare::plain_beliefs::add_successors` is safe and ends. Assumes nothing.
-use Rattle.std.proofs.Common.{◌-◌, ◌≤◌, rules}
+use Rattle.std.proofs.Common.{◌-◌, ◌≤◌}
 use Rattle.compare.proofs.plain_beliefs.add_successors.Given as goal
 
 abbrev pub invariant-loop-h : goal.invariant-loop-h

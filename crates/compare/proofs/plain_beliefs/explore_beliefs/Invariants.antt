@@ -1,5 +1,5 @@
 -- `compare::plain_beliefs::explore_beliefs` is safe and ends. Assumes nothing.
-use Rattle.std.proofs.Common.{◌-◌, ◌≤◌, rules}
+use Rattle.std.proofs.Common.{◌-◌, ◌≤◌}
 use Rattle.play.specs.Limits.{belief_limit}
 use Rattle.compare.proofs.plain_beliefs.explore_beliefs.Given as goal
 

@@ -1,5 +1,4 @@
-use Rattle.std.proofs.Common.{◌-◌, ◌≤◌, ⊎_elim, arith, rules}
-use Rattle.play.specs.Limits.{belief_limit, pair_limit}
+use Rattle.std.proofs.Common.{arith}
 use Rattle.compare.proofs.plain_beliefs.follow_pairs.Goals as goal
 use Rattle.compare.proofs.plain_beliefs.follow_pairs.Goals.{else-is_pair, then-is_pair+else-j-eq-BELIEF_LIMIT}
 

@@ -1,5 +1,5 @@
 -- `compare::plain_beliefs::follow_pairs` is safe and ends. Assumes nothing.
-use Rattle.std.proofs.Common.{◌-◌, ◌≤◌, ⊎_elim, arith, rules}
+use Rattle.std.proofs.Common.{◌-◌, ◌≤◌}
 use Rattle.play.specs.Limits.{belief_limit, pair_limit}
 use Rattle.compare.proofs.plain_beliefs.follow_pairs.Given as goal
 

@@ -1,5 +1,5 @@
 -- `compare::plain_patterns::digit` is safe and ends. Assumes nothing.
-use Rattle.std.proofs.Common.{◌-◌, ◌≤◌, rules}
+use Rattle.std.proofs.Common.{◌-◌, ◌≤◌}
 use Rattle.compare.proofs.plain_patterns.digit.Given as goal
 
 abbrev pub invariant-loop : goal.invariant-loop

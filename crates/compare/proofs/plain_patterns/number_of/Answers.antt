@@ -1,4 +1,4 @@
-use Rattle.std.proofs.Common.{◌-◌, ◌^◌, ◌<◌, ◌≤◌, rules}
+use Rattle.std.proofs.Common.{rules}
 use Rattle.compare.specs.Sizes.{bit_count}
 use Rattle.compare.proofs.plain_patterns.DigitsBelow.{digit_more, digits_below}
 use Rattle.compare.proofs.plain_patterns.number_of.Goals as goal

@@ -1,7 +1,6 @@
 -- `compare::plain_patterns::number_of` is safe and ends. Assumes nothing.
-use Rattle.std.proofs.Common.{◌-◌, ◌^◌, ◌<◌, ◌≤◌, rules}
+use Rattle.std.proofs.Common.{◌-◌, ◌^◌, ◌<◌, ◌≤◌}
 use Rattle.compare.specs.Sizes.{bit_count}
-use Rattle.compare.proofs.plain_patterns.DigitsBelow.{digit_more, digits_below}
 use Rattle.compare.proofs.plain_patterns.number_of.Given as goal
 
 abbrev pub invariant-loop-k : goal.invariant-loop-k

@@ -1,5 +1,5 @@
 -- `compare::plain_patterns::pattern_before` is safe and ends. Assumes nothing.
-use Rattle.std.proofs.Common.{◌-◌, ◌≤◌, length, rules}
+use Rattle.std.proofs.Common.{◌-◌, ◌≤◌, length}
 use Rattle.compare.proofs.plain_patterns.pattern_before.Given as goal
 
 abbrev pub invariant-loop-i : goal.invariant-loop-i

@@ -1,5 +1,5 @@
 -- `compare::plain_patterns::pattern_of` is safe and ends. Assumes nothing.
-use Rattle.std.proofs.Common.{◌-◌, ◌≤◌, rules}
+use Rattle.std.proofs.Common.{◌-◌, ◌≤◌}
 use Rattle.compare.specs.Sizes.{bit_count}
 use Rattle.compare.proofs.plain_patterns.pattern_of.Given as goal
 

@@ -1,5 +1,5 @@
 -- `compare::plain_ranks::leads_below` is safe and ends. Assumes nothing.
-use Rattle.std.proofs.Common.{◌-◌, ◌≤◌, rules}
+use Rattle.std.proofs.Common.{◌-◌, ◌≤◌}
 use Rattle.compare.proofs.plain_ranks.leads_below.Given as goal
 
 abbrev pub invariant-loop-p : goal.invariant-loop-p

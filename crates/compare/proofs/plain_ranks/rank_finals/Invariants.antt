@@ -1,5 +1,5 @@
 -- `compare::plain_ranks::rank_finals` is safe and ends. Assumes nothing.
-use Rattle.std.proofs.Common.{◌-◌, ◌≤◌, rules}
+use Rattle.std.proofs.Common.{◌-◌, ◌≤◌}
 use Rattle.compare.proofs.plain_ranks.rank_finals.Given as goal
 
 abbrev pub invariant-loop-b : goal.invariant-loop-b

@@ -1,5 +1,5 @@
 -- `compare::plain_ranks::smallest_choice` is safe and ends. Assumes nothing.
-use Rattle.std.proofs.Common.{◌-◌, ◌≤◌, rules}
+use Rattle.std.proofs.Common.{◌-◌, ◌≤◌}
 use Rattle.compare.proofs.plain_ranks.smallest_choice.Given as goal
 
 abbrev pub invariant-loop-choice : goal.invariant-loop-choice

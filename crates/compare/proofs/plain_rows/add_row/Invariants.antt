@@ -1,5 +1,5 @@
 -- `compare::plain_rows::add_row` is safe and ends. Assumes nothing.
-use Rattle.std.proofs.Common.{◌-◌, ◌≤◌, rules}
+use Rattle.std.proofs.Common.{◌-◌, ◌≤◌}
 use Rattle.compare.proofs.plain_rows.add_row.Given as goal
 
 abbrev pub invariant-loop-i : goal.invariant-loop-i

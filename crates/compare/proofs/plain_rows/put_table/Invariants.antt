@@ -1,5 +1,5 @@
 -- `compare::plain_rows::put_table` is safe and ends. Assumes nothing.
-use Rattle.std.proofs.Common.{◌-◌, ◌≤◌, rules}
+use Rattle.std.proofs.Common.{◌-◌, ◌≤◌}
 use Rattle.play.specs.Limits.{belief_limit}
 use Rattle.compare.proofs.plain_rows.put_table.Given as goal
 

@@ -1,5 +1,5 @@
 -- `compare::plain_sets::same` is safe and ends. Assumes nothing.
-use Rattle.std.proofs.Common.{◌-◌, ◌≤◌, rules}
+use Rattle.std.proofs.Common.{◌-◌, ◌≤◌}
 use Rattle.compare.specs.Sizes.{pattern_count}
 use Rattle.compare.proofs.plain_sets.same.Given as goal
 

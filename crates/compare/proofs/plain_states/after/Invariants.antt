@@ -1,5 +1,5 @@
 -- `compare::plain_states::after` is safe and ends. Assumes nothing.
-use Rattle.std.proofs.Common.{◌-◌, ◌≤◌, rules}
+use Rattle.std.proofs.Common.{◌-◌, ◌≤◌}
 use Rattle.compare.proofs.plain_states.after.Given as goal
 
 abbrev pub invariant-loop-p : goal.invariant-loop-p

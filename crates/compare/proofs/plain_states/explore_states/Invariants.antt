@@ -1,5 +1,5 @@
 -- `compare::plain_states::explore_states` is safe and ends. Assumes nothing.
-use Rattle.std.proofs.Common.{◌-◌, ◌≤◌, rules}
+use Rattle.std.proofs.Common.{◌-◌, ◌≤◌}
 use Rattle.search.specs.Limits.{state_limit}
 use Rattle.compare.proofs.plain_states.explore_states.Given as goal
 

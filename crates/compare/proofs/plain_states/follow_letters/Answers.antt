@@ -1,6 +1,4 @@
-use Rattle.std.proofs.Common.{◌-◌, ◌≤◌, ⊎_elim, arith, rules}
-use Rattle.search.specs.Limits.{state_limit}
-use Rattle.compare.specs.Sizes.{letter_count}
+use Rattle.std.proofs.Common.{arith}
 use Rattle.compare.proofs.plain_states.follow_letters.Goals as goal
 use Rattle.compare.proofs.plain_states.follow_letters.Goals.{else-is_letter, then-is_letter+else-j-eq-STATE_LIMIT}
 

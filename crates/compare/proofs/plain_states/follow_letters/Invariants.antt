@@ -1,5 +1,5 @@
 -- `compare::plain_states::follow_letters` is safe and ends. Assumes nothing.
-use Rattle.std.proofs.Common.{◌-◌, ◌≤◌, ⊎_elim, arith, rules}
+use Rattle.std.proofs.Common.{◌-◌, ◌≤◌}
 use Rattle.search.specs.Limits.{state_limit}
 use Rattle.compare.specs.Sizes.{letter_count}
 use Rattle.compare.proofs.plain_states.follow_letters.Given as goal

@@ -1,5 +1,5 @@
 -- `compare::plain_states::start` is safe and ends. Assumes nothing.
-use Rattle.std.proofs.Common.{◌-◌, ◌≤◌, rules}
+use Rattle.std.proofs.Common.{◌-◌, ◌≤◌}
 use Rattle.compare.proofs.plain_states.start.Given as goal
 
 abbrev pub invariant-loop-p : goal.invariant-loop-p

@@ -1,5 +1,5 @@
 -- `compare::summary::draw_one` is safe and ends. Assumes nothing.
-use Rattle.std.proofs.Common.{sym, arith, length-take-le, rules}
+use Rattle.std.proofs.Common.{sym, arith, length-take-le}
 use Rattle.compare.proofs.summary.draw_one.Goals as goal
 
 pub slice_bounds-count-end : goal.slice_bounds-count-end

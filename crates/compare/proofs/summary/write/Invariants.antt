@@ -1,5 +1,5 @@
 -- `compare::summary::write` is safe and ends. Assumes nothing.
-use Rattle.std.proofs.Common.{◌-◌, ◌≤◌, rules}
+use Rattle.std.proofs.Common.{◌-◌, ◌≤◌}
 use Rattle.compare.proofs.summary.write.Given as goal
 
 abbrev pub invariant-loop-k : goal.invariant-loop-k

@@ -3,7 +3,6 @@
 use native.Mathlib.Omega.{arith}
 use mathlib.Core.Path.{sym, ◌∙◌}
 use lib.Seq.{length-take-le}
-use borrow.Author.Rules.{rules}
 use Rattle.control.proofs.DialogueLaws.{digits_fit, digits_within, same_digits, other_digits}
 use Rattle.control.proofs.dialogue.observation_in.Goals as goal
 

@@ -2,7 +2,6 @@
 -- Assumes nothing.
 use native.Mathlib.Omega.{arith}
 use lib.Dec.{lit<}
-use borrow.Author.Rules.{rules}
 use Rattle.basics.specs.Bytes.{bytes_of}
 use Rattle.control.proofs.DialogueLaws.{same_answer, two_room, two_written}
 use Rattle.control.proofs.dialogue.put_answer.Goals as goal

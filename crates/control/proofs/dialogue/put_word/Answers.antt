@@ -1,6 +1,5 @@
 -- `control::dialogue::put_word` meets its contract: the word, the number and the end (places w, n) are its three parts.
 -- Assumes nothing.
-use borrow.Author.Rules.{rules}
 use Rattle.control.proofs.DialogueLaws.{word_room_lem, number_room, end_room, word_put}
 use Rattle.control.proofs.dialogue.put_word.Goals as goal
 

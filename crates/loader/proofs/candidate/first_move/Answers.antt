@@ -15,7 +15,7 @@ piece-requires c =
 
 pub returns-then-not-says_stop : goal.returns-then-not-says_stop
 returns-then-not-says_stop c =
-    let t = row_goes c.args.text.now c.loop-row.at c.loop-row.row c.loop-row.invariant.1 _ c.piece.ensures _ c.says_stop.ensures ∙ c.if-not-says_stop.true-raw in
+    let t = row_goes c.args.text.now c.loop-row.at c.loop-row.row c.loop-row.invariant.1 _ c.piece.ensures _ c.says_stop.ensures ∙ (rw c.if-not-says_stop.true) in
     let whole = move_here c.args.text.now c.loop-row.at c.loop-row.row c.loop-row.invariant.1 c.args.rows c.loop-row.invariant.2 c.loop-row-test.true t in
     record { upper_bound = whole.0; text_value = whole.1 }
 
@@ -25,7 +25,7 @@ behind-at-requires-in-loop-row c =
 
 pub loop-row-preserved : goal.loop-row-preserved
 loop-row-preserved c =
-    let f = row_goes c.args.text.now c.loop-row.at c.loop-row.row c.loop-row.invariant.1 _ c.piece.ensures _ c.says_stop.ensures ∙ c.if-not-says_stop.false-raw in (
+    let f = row_goes c.args.text.now c.loop-row.at c.loop-row.row c.loop-row.invariant.1 _ c.piece.ensures _ c.says_stop.ensures ∙ (rw c.if-not-says_stop.false) in (
       omega arith,
       row_next c.args.text.now c.loop-row.at c.loop-row.row c.loop-row.invariant.1 _ (c.behind-at-in-loop-row.ensures.upper_bound, c.behind-at-in-loop-row.ensures.text_value),
       first_more (goes_on c.args.text.now) c.loop-row.row c.loop-row.invariant.2 f,

@@ -16,11 +16,11 @@ overflow_add-result c =
 
 pub returns-then-not-is_ranked : goal.returns-then-not-is_ranked
 returns-then-not-is_ranked c =
-    row_found c.args.cells.now c.args.shape c.loop-row.row c.loop-row.invariant.1 _ c.is_ranked.ensures c.loop-row-test.true c.if-not-is_ranked.true-raw
+    row_found c.args.cells.now c.args.shape c.loop-row.row c.loop-row.invariant.1 _ c.is_ranked.ensures c.loop-row-test.true (rw c.if-not-is_ranked.true)
 
 pub loop-row-preserved : goal.loop-row-preserved
 loop-row-preserved c =
-    (omega (arith, c.loop-row-test.true), right_more c.args.cells.now c.args.shape c.loop-row.row c.loop-row.invariant.1 _ c.is_ranked.ensures c.if-not-is_ranked.false-raw)
+    (omega (arith, c.loop-row-test.true), right_more c.args.cells.now c.args.shape c.loop-row.row c.loop-row.invariant.1 _ c.is_ranked.ensures (rw c.if-not-is_ranked.false))
 
 pub returns : goal.returns
 returns c =

@@ -7,7 +7,7 @@ use Rattle.stepping.proofs.position.step_from.Goals as goal
 
 pub returns-then-not-is_holding : goal.returns-then-not-is_holding
 returns-then-not-is_holding c =
-    step_told _ _ _ _ _ (step_nowhere _ _ _ _ _ _ c.is_holding.ensures c.if-not-is_holding.true-raw c.refuse.ensures)
+    step_told _ _ _ _ _ (step_nowhere _ _ _ _ _ _ c.is_holding.ensures (rw c.if-not-is_holding.true) c.refuse.ensures)
 
 pub first_cell-first-requires : goal.first_cell-first-requires
 first_cell-first-requires c =

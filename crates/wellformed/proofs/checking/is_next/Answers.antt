@@ -15,9 +15,9 @@ first_cell-requires c =
 pub returns-then-not-is_first : goal.returns-then-not-is_first
 returns-then-not-is_first c =
     first_fails _ _ _ _ (next_in c.args.table.now c.args.shape c.args.next c.if-row-shape.false _ c.first_cell.ensures)
-    c.is_first.ensures c.if-not-is_first.true-raw
+    c.is_first.ensures (rw c.if-not-is_first.true)
 
 pub returns : goal.returns
 returns c =
     then_second _ _ _ _ (next_in c.args.table.now c.args.shape c.args.next c.if-row-shape.false _ c.first_cell.ensures)
-    c.is_first.ensures c.if-not-is_first.false-raw _ c.rank_fits.ensures
+    c.is_first.ensures (rw c.if-not-is_first.false) _ c.rank_fits.ensures

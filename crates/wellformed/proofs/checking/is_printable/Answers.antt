@@ -8,7 +8,7 @@ use Rattle.wellformed.proofs.checking.is_printable.Goals as goal
 
 pub returns-then-not-is_sized : goal.returns-then-not-is_sized
 returns-then-not-is_sized c =
-    sizes_fail c.args.table.now c.args.shape c.args.worst _ c.is_sized.ensures c.if-not-is_sized.true-raw
+    sizes_fail c.args.table.now c.args.shape c.args.worst _ c.is_sized.ensures (rw c.if-not-is_sized.true)
 
 pub rank_cell-requires : goal.rank_cell-requires
 rank_cell-requires c =
@@ -17,7 +17,7 @@ rank_cell-requires c =
 
 pub returns-then-rank_cell-worst : goal.returns-then-rank_cell-worst
 returns-then-rank_cell-worst c =
-    worst_fails c.args.table.now c.args.shape c.args.worst _ c.is_sized.ensures c.if-not-is_sized.false-raw _ c.rank_cell.ensures c.if-rank_cell-worst.true
+    worst_fails c.args.table.now c.args.shape c.args.worst _ c.is_sized.ensures (rw c.if-not-is_sized.false) _ c.rank_cell.ensures c.if-rank_cell-worst.true
 
 pub are_rows-requires : goal.are_rows-requires
 are_rows-requires c =
@@ -26,5 +26,5 @@ are_rows-requires c =
 
 pub returns : goal.returns
 returns c =
-    rows_left c.args.table.now c.args.shape c.args.worst _ c.is_sized.ensures c.if-not-is_sized.false-raw _ c.rank_cell.ensures
+    rows_left c.args.table.now c.args.shape c.args.worst _ c.is_sized.ensures (rw c.if-not-is_sized.false) _ c.rank_cell.ensures
     c.if-rank_cell-worst.false _ c.are_rows.ensures

@@ -9,7 +9,7 @@ use Rattle.wellformed.proofs.checking.is_ranked.Goals as goal
 
 pub returns-then-not-rank_fits : goal.returns-then-not-rank_fits
 returns-then-not-rank_fits c =
-    first_fails _ _ _ _ (ranked_is c.args.table.now c.args.shape c.args.row) c.rank_fits.ensures c.if-not-rank_fits.true-raw
+    first_fails _ _ _ _ (ranked_is c.args.table.now c.args.shape c.args.row) c.rank_fits.ensures (rw c.if-not-rank_fits.true)
 
 pub loop-s-init : goal.loop-s-init
 loop-s-init c =
@@ -22,14 +22,14 @@ is_lower-requires c =
 pub returns-then-not-is_lower : goal.returns-then-not-is_lower
 returns-then-not-is_lower c =
     each_fails _ _ _ _ _ (ranked_is c.args.table.now c.args.shape c.args.row) c.rank_fits.ensures
-    c.if-not-rank_fits.false-raw _ c.next_count-n.ensures
-    c.loop-s.s c.loop-s-test.true _ c.is_lower.ensures c.if-not-is_lower.true-raw
+    (rw c.if-not-rank_fits.false) _ c.next_count-n.ensures
+    c.loop-s.s c.loop-s-test.true _ c.is_lower.ensures (rw c.if-not-is_lower.true)
 
 pub loop-s-preserved : goal.loop-s-preserved
 loop-s-preserved c =
-    (c.loop-s.invariant.0, omega arith, each_more (is_lower c.args.table.now c.args.shape c.args.row) c.loop-s.s _ c.is_lower.ensures c.if-not-is_lower.false-raw c.loop-s.invariant.2)
+    (c.loop-s.invariant.0, omega arith, each_more (is_lower c.args.table.now c.args.shape c.args.row) c.loop-s.s _ c.is_lower.ensures (rw c.if-not-is_lower.false) c.loop-s.invariant.2)
 
 pub returns : goal.returns
 returns c =
     each_passes _ _ _ _ _ (ranked_is c.args.table.now c.args.shape c.args.row) c.rank_fits.ensures
-    c.if-not-rank_fits.false-raw _ c.next_count-n.ensures c.loop-s.s c.loop-s.invariant.1 c.loop-s-test.false c.loop-s.invariant.2
+    (rw c.if-not-rank_fits.false) _ c.next_count-n.ensures c.loop-s.s c.loop-s.invariant.1 c.loop-s-test.false c.loop-s.invariant.2

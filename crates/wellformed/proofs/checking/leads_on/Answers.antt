@@ -14,7 +14,7 @@ first_cell-requires c =
 pub returns-then-not-is_first : goal.returns-then-not-is_first
 returns-then-not-is_first c =
     first_fails _ _ _ _ (leads_is c.args.table.now c.args.shape c.args.row _ c.first_cell.ensures) c.is_first.ensures
-    c.if-not-is_first.true-raw
+    (rw c.if-not-is_first.true)
 
 pub loop-s-init : goal.loop-s-init
 loop-s-init c =
@@ -23,14 +23,14 @@ loop-s-init c =
 pub returns-then-not-is_pair : goal.returns-then-not-is_pair
 returns-then-not-is_pair c =
     each_fails _ _ _ _ _ (leads_is c.args.table.now c.args.shape c.args.row _ c.first_cell.ensures) c.is_first.ensures
-    c.if-not-is_first.false-raw _ c.next_count-n.ensures
-    c.loop-s.s c.loop-s-test.true _ c.is_pair.ensures c.if-not-is_pair.true-raw
+    (rw c.if-not-is_first.false) _ c.next_count-n.ensures
+    c.loop-s.s c.loop-s-test.true _ c.is_pair.ensures (rw c.if-not-is_pair.true)
 
 pub loop-s-preserved : goal.loop-s-preserved
 loop-s-preserved c =
-    (c.loop-s.invariant.0, omega arith, each_more (is_pair c.args.table.now c.args.shape c.args.row) c.loop-s.s _ c.is_pair.ensures c.if-not-is_pair.false-raw c.loop-s.invariant.2)
+    (c.loop-s.invariant.0, omega arith, each_more (is_pair c.args.table.now c.args.shape c.args.row) c.loop-s.s _ c.is_pair.ensures (rw c.if-not-is_pair.false) c.loop-s.invariant.2)
 
 pub returns : goal.returns
 returns c =
     each_passes _ _ _ _ _ (leads_is c.args.table.now c.args.shape c.args.row _ c.first_cell.ensures) c.is_first.ensures
-    c.if-not-is_first.false-raw _ c.next_count-n.ensures c.loop-s.s c.loop-s.invariant.1 c.loop-s-test.false c.loop-s.invariant.2
+    (rw c.if-not-is_first.false) _ c.next_count-n.ensures c.loop-s.s c.loop-s.invariant.1 c.loop-s-test.false c.loop-s.invariant.2
