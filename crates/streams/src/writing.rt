@@ -1,7 +1,8 @@
 // Writing texts whole, and telling failures.
+ghost use Rattle.std.specs.Io.{WritesAtMost};
+
 use std::alloc::{AllocError, Global};
-use std::io;
-use std::io::{Print, Stderr, Stdout, Write};
+use std::io::{Error, ErrorKind, Print, Stderr, Stdout, Write};
 
 // Where a program writes: its answers and what it tells. The allocator holds the text of a failure.
 #[derive(Clone, Copy)]
@@ -28,14 +29,14 @@ fn words_of(text: &str) -> &str {
 }
 
 // Writes why a call of the system failed.
-fn say_reason(console: Console, error: io::Error) -> Result<(), AllocError> {
+fn say_reason(console: Console, error: Error) -> Result<(), AllocError> {
     let text = format!(in console.alloc; "{error}")?;
     let _ = console.errors.write_all(words_of(text.as_str()).as_bytes());
     Ok(())
 }
 
 // Tells that a call of the system failed: at what, and why.
-pub fn fail(console: Console, program: &[u8], what: &[u8], error: io::Error) {
+pub fn fail(console: Console, program: &[u8], what: &[u8], error: Error) {
     start_line(console, program, what);
     let _ = say_reason(console, error);
     let _ = console.errors.write_all(b"\n");
@@ -48,23 +49,51 @@ pub fn tell(console: Console, program: &[u8], what: &[u8], why: &[u8]) {
     let _ = console.errors.write_all(b"\n");
 }
 
-// Tells where writing failed, and answers whether it did not.
-fn told(console: Console, program: &[u8], written: io::Result<()>) -> bool {
-    if let Err(error) = written {
+// One write, tried again where a signal interrupts it, as a read is.
+fn write_some<W: Write>(output: &mut W, text: &[u8]) -> std::io::Result<usize>
+    ensures { WritesAtMost result text.now }
+{
+    for _ in 0..u64::MAX {
+        match output.write(text) {
+            Ok(n) => return Ok(n),
+            Err(error) => {
+                if error.kind() != ErrorKind::Interrupted {
+                    return Err(error);
+                }
+            }
+        }
+    }
+    Err(Error::from(ErrorKind::Interrupted))
+}
+
+// Writes a text, and answers whether all of it was taken. A write that takes no byte counts as failed.
+fn write_whole<W: Write>(output: &mut W, text: &[u8]) -> std::io::Result<()> {
+    let mut done = 0;
+    while done < text.len() {
+        let put = write_some(output, &text[done..])?;
+        if put == 0 {
+            return Err(Error::from(ErrorKind::WriteZero));
+        }
+        done += put;
+    }
+    Ok(())
+}
+
+// Writes a text to standard output, and answers whether all of it was taken. A failure is told; a part of the text may have been written.
+pub fn say(console: Console, program: &[u8], text: &[u8]) -> bool {
+    let mut output = console.output;
+    if let Err(error) = write_whole(&mut output, text) {
         fail(console, program, b"standard output", error);
         return false;
     }
     true
 }
 
-// Writes a text to standard output, and answers whether all of it was taken. A failure is told; a part of the text may have been written.
-pub fn say(console: Console, program: &[u8], text: &[u8]) -> bool {
-    told(console, program, console.output.write_all(text))
-}
-
 // Writes a number in base ten, as `say` writes a text.
 pub fn say_number(console: Console, program: &[u8], n: u64) -> bool {
-    told(console, program, console.output.print(n))
+    let mut digits = [0u8; 20];
+    let k = io::decimal(n, &mut digits);
+    say(console, program, &digits[..k])
 }
 
 // Hands on what standard output still holds behind the last text.

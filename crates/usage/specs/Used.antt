@@ -1,5 +1,5 @@
--- Which declared signals no rule uses (REFERENCE.md, Unused signals), by the bytes of a problem's lines alone.
--- `rules` shows that the tests of `Declarations` find exactly these.
+-- Which declared signals no rule uses, by the bytes of a problem's lines alone.
+-- The tests of `Declarations` are meant to find exactly these; the theorem that they do is still to come.
 -- Assumes nothing.
 use Rattle.std.specs.Prelude.{ℕ, suc, ◌+◌, ◌<◌, ◌≡◌, length}
 use mathlib.Core.List.{List, [], ◌∷◌, ◌++◌, flat_map}
