@@ -114,17 +114,17 @@ module _ {K : Type 0} (same : K → K → Bool) (f : K → ℕ → K) (count : K
     grown_length xs s = let t = grown_tail xs s in omega (arith, ap length t.1 ∙ length-append xs t.0)
 
     -- one more row, written at the front of a part of k entries
-    module _ (xs zs : List K) (i k : ℕ) (s : K) (rows new : List ℕ) (h : i < length xs) (at-s : get_or xs i none ≡ s)
-        (is-zs : zs ≡ grown_over same f (below (count s)) xs s) (is_new : new ≡ written (row zs s) (take k (drop (i * width) rows)))
+    module _ (xs zs : List K) (i k : ℕ) (s : K) (rows new : List ℕ) (h : i < length xs) (at_s : get_or xs i none ≡ s)
+        (is_zs : zs ≡ grown_over same f (below (count s)) xs s) (is_new : new ≡ written (row zs s) (take k (drop (i * width) rows)))
         (few : count s ≤ k) (narrow : k ≤ width) (room : i * width + k ≤ length rows) (r : Rows xs i rows) where
       tail : (ys : List K) × (zs ≡ xs ++ ys)
-      tail = let t = grown_tail xs s in (t.0, is-zs ∙ t.1)
+      tail = let t = grown_tail xs s in (t.0, is_zs ∙ t.1)
 
       entry : (j : ℕ) → j < length xs → get_or zs j none ≡ get_or xs j none
       entry j l = ap (λ t. get_or t j none) tail.1 ∙ get_or-append xs tail.0 none j l
 
       entry_s : (j : ℕ) → j ≡ i → get_or zs j none ≡ s
-      entry_s j e = entry j (omega arith) ∙ ap (λ n. get_or xs n none) e ∙ at-s
+      entry_s j e = entry j (omega arith) ∙ ap (λ n. get_or xs n none) e ∙ at_s
 
       part_long : length (take k (drop (i * width) rows)) ≡ k
       part_long = length-take-le k (drop (i * width) rows) (omega (arith, length-drop (i * width) rows))
@@ -171,7 +171,7 @@ module _ {K : Type 0} (same : K → K → Bool) (f : K → ℕ → K) (count : K
 
           there : (j b : ℕ) → b < count (get_or zs j none) → (j ≡ i) ⊎ (j < i) → is_in same (f (get_or zs j none) b) zs ≡ true
           there j b m (inl e) =
-              ap₂ (λ t u. is_in same (f t b) u) (entry_s j e) is-zs ∙ grown_there xs s b (subst (λ t. b < count t) (entry_s j e) m)
+              ap₂ (λ t u. is_in same (f t b) u) (entry_s j e) is_zs ∙ grown_there xs s b (subst (λ t. b < count t) (entry_s j e) m)
           there j b m (inr l) =
               ap₂ (λ t u. is_in same (f t b) u) (entry j (omega arith)) tail.1
               ∙ (index_kept same (f (get_or xs j none) b) xs tail.0 (r.there j b l (old j b l m))).1

@@ -99,15 +99,15 @@ module _ {A : Type 0} where
       ]
 
   -- .. and a list of different entries is one
-  pub distinct-tabulate : (n : ℕ) (f : ℕ → A) → ((i j : ℕ) → i < n → j < n → f i ≡ f j → i ≡ j) → Distinct (tabulate n f)
-  distinct-tabulate zero f one = distinct_nil
-  distinct-tabulate (suc n) f one =
+  pub distinct_tabulate : (n : ℕ) (f : ℕ → A) → ((i j : ℕ) → i < n → j < n → f i ≡ f j → i ≡ j) → Distinct (tabulate n f)
+  distinct_tabulate zero f one = distinct_nil
+  distinct_tabulate (suc n) f one =
       distinct_cons
       (λ m.
       let (i, h, e) = (in_tabulate n (λ k. f (suc k)) (f 0)).0 m in
       let z : 0 ≡ suc i = one 0 (suc i) (omega arith) (suc-le-suc h) (sym e) in
       absurd (omega arith))
-      (distinct-tabulate n (λ k. f (suc k)) (λ i j h l p. let z = one (suc i) (suc j) (suc-le-suc h) (suc-le-suc l) p in omega arith))
+      (distinct_tabulate n (λ k. f (suc k)) (λ i j h l p. let z = one (suc i) (suc j) (suc-le-suc h) (suc-le-suc l) p in omega arith))
 
   -- ---- a list without repeats is no longer than one that holds all its entries
 

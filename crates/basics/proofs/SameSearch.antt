@@ -24,9 +24,9 @@ module _ {A : Type 0} (P : A → Type 0) where
   each_get_d (x ∷ xs) zero d e p = e.0
   each_get_d (x ∷ xs) (suc i) d e p = each_get_d xs i d e.1 p
 
-  pub each-tabulate : (n : ℕ) (g : ℕ → A) → ((i : ℕ) → i < n → P (g i)) → Each P (tabulate n g)
-  each-tabulate zero g f = tt
-  each-tabulate (suc n) g f = (f 0 (suc-le-suc zero-le), each-tabulate n (λ i. g (suc i)) (λ i h. f (suc i) (suc-le-suc h)))
+  pub each_tabulate : (n : ℕ) (g : ℕ → A) → ((i : ℕ) → i < n → P (g i)) → Each P (tabulate n g)
+  each_tabulate zero g f = tt
+  each_tabulate (suc n) g f = (f 0 (suc-le-suc zero-le), each_tabulate n (λ i. g (suc i)) (λ i h. f (suc i) (suc-le-suc h)))
 
 abbrev pub EachListed : {A : Type 0} → (A → Type 0) → Listing A → Type 0
 EachListed P (closed xs) = Each P xs
@@ -42,23 +42,23 @@ map_get_d f [] i d = refl
 map_get_d f (x ∷ xs) zero d = refl
 map_get_d f (x ∷ xs) (suc i) d = map_get_d f xs i d
 
-module _ {A B : Type 0} (sameA : A → A → Bool) (sameB : B → B → Bool) (named : A → B) (P : A → Type 0)
-    (one : (x y : A) → P x → P y → sameB (named x) (named y) ≡ sameA x y) where
-  is_in_image : (x : A) (xs : List A) → P x → Each P xs → is_in sameB (named x) (map named xs) ≡ is_in sameA x xs
+module _ {A B : Type 0} (same_a : A → A → Bool) (same_b : B → B → Bool) (named : A → B) (P : A → Type 0)
+    (one : (x y : A) → P x → P y → same_b (named x) (named y) ≡ same_a x y) where
+  is_in_image : (x : A) (xs : List A) → P x → Each P xs → is_in same_b (named x) (map named xs) ≡ is_in same_a x xs
   unfolding is_in
   is_in_image x [] p e = refl
   is_in_image x (y ∷ ys) p e = ap₂ ◌||◌ (one x y p e.0) (is_in_image x ys p e.1)
 
-  pub index_image : (x : A) (xs : List A) → P x → Each P xs → index_in sameB (named x) (map named xs) ≡ index_in sameA x xs
+  pub index_image : (x : A) (xs : List A) → P x → Each P xs → index_in same_b (named x) (map named xs) ≡ index_in same_a x xs
   unfolding index_in
   index_image x [] p e = refl
   index_image x (y ∷ ys) p e = ap₂ (λ b n. cond b 0 (suc n)) (one x y p e.0) (index_image x ys p e.1)
 
   add_new_image : (xs : List A) (x : A) → P x → Each P xs
-      → (add_new sameB (map named xs) (named x) ≡ map named (add_new sameA xs x)) × Each P (add_new sameA xs x)
+      → (add_new same_b (map named xs) (named x) ≡ map named (add_new same_a xs x)) × Each P (add_new same_a xs x)
   unfolding add_new
   add_new_image xs x p e =
-      let (q, r) = at (is_in sameA x xs) in
+      let (q, r) = at (is_in same_a x xs) in
       (ap (λ b. cond b (map named xs) (map named xs ++ (named x ∷ []))) (is_in_image x xs p e) ∙ q, r)
     where
       at : (b : Bool) → (cond b (map named xs) (map named xs ++ (named x ∷ [])) ≡ map named (cond b xs (xs ++ (x ∷ []))))
@@ -67,38 +67,38 @@ module _ {A B : Type 0} (sameA : A → A → Bool) (sameB : B → B → Bool) (n
       at false = (sym (map-append named xs (x ∷ [])), each_snoc P xs x e p)
 
   add_all_image : (ys xs : List A) → Each P ys → Each P xs
-      → (add_all sameB (map named xs) (map named ys) ≡ map named (add_all sameA xs ys)) × Each P (add_all sameA xs ys)
+      → (add_all same_b (map named xs) (map named ys) ≡ map named (add_all same_a xs ys)) × Each P (add_all same_a xs ys)
   unfolding add_all
   add_all_image [] xs f e = (refl, e)
   add_all_image (y ∷ ys) xs f e =
       let (q, r) = add_new_image xs y f.0 e in
-      let (q', r') = add_all_image ys (add_new sameA xs y) f.1 r in
-      (ap (λ l. add_all sameB l (map named ys)) q ∙ q', r')
+      let (q', r') = add_all_image ys (add_new same_a xs y) f.1 r in
+      (ap (λ l. add_all same_b l (map named ys)) q ∙ q', r')
 
-  module _ (stepsA : A → List A) (stepsB : B → List B) (first : A) (p-first : P first) (stays : (x : A) → P x → Each P (stepsA x))
-      (agree : (x : A) → P x → stepsB (named x) ≡ map named (stepsA x)) (limit : ℕ) where
+  module _ (steps_a : A → List A) (steps_b : B → List B) (first : A) (p_first : P first) (stays : (x : A) → P x → Each P (steps_a x))
+      (agree : (x : A) → P x → steps_b (named x) ≡ map named (steps_a x)) (limit : ℕ) where
     abbrev more : List A → ℕ → List A
-    more seen i = add_all sameA seen (stepsA (get_or seen i first))
+    more seen i = add_all same_a seen (steps_a (get_or seen i first))
 
     more_image : (seen : List A) (i : ℕ) → Each P seen
-        → (add_all sameB (map named seen) (stepsB (get_or (map named seen) i (named first))) ≡ map named (more seen i)) × Each P (more seen i)
+        → (add_all same_b (map named seen) (steps_b (get_or (map named seen) i (named first))) ≡ map named (more seen i)) × Each P (more seen i)
     more_image seen i e =
         let x : A = get_or seen i first in
-        let p : P x = each_get_d P seen i first e p-first in
-        let (q, r) = add_all_image (stepsA x) seen (stays x p) e in
-        (ap (add_all sameB (map named seen)) (ap stepsB (map_get_d named seen i first) ∙ agree x p) ∙ q, r)
+        let p : P x = each_get_d P seen i first e p_first in
+        let (q, r) = add_all_image (steps_a x) seen (stays x p) e in
+        (ap (add_all same_b (map named seen)) (ap steps_b (map_get_d named seen i first) ∙ agree x p) ∙ q, r)
 
     explore_image : (fuel : ℕ) (seen : List A) (i : ℕ) → Each P seen
-        → (explore sameB stepsB (named first) limit fuel (map named seen) i ≡ map_listing named (explore sameA stepsA first limit fuel seen i))
-        × EachListed P (explore sameA stepsA first limit fuel seen i)
+        → (explore same_b steps_b (named first) limit fuel (map named seen) i ≡ map_listing named (explore same_a steps_a first limit fuel seen i))
+        × EachListed P (explore same_a steps_a first limit fuel seen i)
     unfolding explore
     explore_image zero seen i e = (refl, tt)
     explore_image (suc fuel) seen i e =
         let (q, r) = more_image seen i e in
         let (q', r') = explore_image fuel (more seen i) (suc i) r in
-        let (q'', r'') = at (ltb limit (length seen)) (eqb i (length seen)) (explore sameA stepsA first limit fuel (more seen i) (suc i)) r' in (
+        let (q'', r'') = at (ltb limit (length seen)) (eqb i (length seen)) (explore same_a steps_a first limit fuel (more seen i) (suc i)) r' in (
           ap₂ (λ n l. cond (ltb limit n) over (cond (eqb i n) (closed (map named seen)) l)) (length-map seen named)
-              (ap (λ l. explore sameB stepsB (named first) limit fuel l (suc i)) q ∙ q') ∙ q'',
+              (ap (λ l. explore same_b steps_b (named first) limit fuel l (suc i)) q ∙ q') ∙ q'',
           r'',
         )
       where
@@ -109,10 +109,10 @@ module _ {A B : Type 0} (sameA : A → A → Bool) (sameB : B → B → Bool) (n
         at false true rest r = (refl, e)
         at false false rest r = (refl, r)
 
-    pub reachable_image : (reachable sameB stepsB (named first) limit ≡ map_listing named (reachable sameA stepsA first limit))
-        × EachListed P (reachable sameA stepsA first limit)
+    pub reachable_image : (reachable same_b steps_b (named first) limit ≡ map_listing named (reachable same_a steps_a first limit))
+        × EachListed P (reachable same_a steps_a first limit)
     unfolding reachable
-    reachable_image = explore_image (suc limit) (first ∷ []) 0 (p-first, tt)
+    reachable_image = explore_image (suc limit) (first ∷ []) 0 (p_first, tt)
 
 -- lists of what is listed
 pub flat_image : {A B C : Type 0} (named : A → B) (P : A → Type 0) (g : A → List C) (h : B → List C) → ((x : A) → P x → g x ≡ h (named x))

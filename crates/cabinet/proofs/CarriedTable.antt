@@ -39,7 +39,7 @@ use Rattle.stepping.specs.Position.{start_of, step_of, told_answer, Standing, He
 use Rattle.stepping.specs.Stopping.{AllPossible, StopsWithin}
 use Rattle.cabinet.specs.Print.{printed_by, bytes_by, told_printed, IsPrinted}
 use Rattle.cabinet.specs.Running.{step_all, answer_to, Runs}
-use Rattle.stepping.proofs.StopsInTime.{start_holds, step_holds, stops_from as any-stops-from, stops_started}
+use Rattle.stepping.proofs.StopsInTime.{start_holds, step_holds, stops_from as any_stops_from, stops_started}
 use Rattle.cabinet.proofs.RunningLaws.{row_goes}
 use Rattle.cabinet.proofs.SolvedTable.{some, running, can_print, solves}
 
@@ -106,7 +106,7 @@ module _ (s t : List ℕ) (shape : Shape) (worst : ℕ) (e : loaded_by (length t
   module _ (observation : ℕ → ℕ) (possible : AllPossible shape observation) where
     pub stops_from : (p : Position) → p.row < shape.rows → Held shape.order (table_after s t) p
         → StopsWithin (table_after s t) shape observation p (rank_cell shape.order (table_after s t) p.row)
-    stops_from p h k = any-stops-from (table_after s t) shape standing observation possible p (standing p.row h, k)
+    stops_from p h k = any_stops_from (table_after s t) shape standing observation possible p (standing p.row h, k)
 
     pub loaded_stops : (old : Position)
         → (c : ℕ) × (told_answer (start_of (table_after s t) shape old).answer ≡ values (c ∷ []))

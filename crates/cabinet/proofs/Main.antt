@@ -16,7 +16,7 @@ use Rattle.game.specs.Solution.{game_of}
 use Rattle.game.specs.declared.solving.Solved.TheVariants as solved
 use Rattle.game.specs.SolvedAs.{told_solved, table_after, Short, SolvedAs}
 use Rattle.loader.specs.declared.loading.Loaded.TheVariants.{Table}
-use Rattle.loader.specs.LoadedAs.{loaded_by, cells_by, table_after as loadedTable, told_shape}
+use Rattle.loader.specs.LoadedAs.{loaded_by, cells_by, table_after as loaded_table, told_shape}
 use Rattle.stepping.specs.declared.position.Position.{Position}
 use Rattle.cabinet.specs.declared.printing.Printed.TheVariants.{Text}
 use Rattle.printer.specs.Limits.{text_size}
@@ -102,13 +102,13 @@ accepted = CarriedTable.accepted_iff
 
 -- printing what was loaded gives the text again
 pub print_loaded : (s t : List ℕ) (shape : Shape) (worst : ℕ) → loaded_by (length t) s ≡ Table shape worst → (room : ℕ) → text_size ≤ room
-    → (printed_by (loadedTable s t) shape worst room ≡ Text (length s)) × (bytes_by (loadedTable s t) shape worst room ≡ s)
+    → (printed_by (loaded_table s t) shape worst room ≡ Text (length s)) × (bytes_by (loaded_table s t) shape worst room ≡ s)
 print_loaded = CarriedTable.print_loaded
 
 -- a cabinet that runs what was loaded never meets number 13: started at any old position and stepped with any observations, it stands on a row,
 -- so that the next step is 14, 15 or a move (`stepping`)
 pub loaded_holds : (s t : List ℕ) (shape : Shape) (worst : ℕ) → loaded_by (length t) s ≡ Table shape worst → (old : Position) (h : List ℕ)
-    → Holds (loadedTable s t) shape (step_all (loadedTable s t) shape (start_of (loadedTable s t) shape old) h).position
+    → Holds (loaded_table s t) shape (step_all (loaded_table s t) shape (start_of (loaded_table s t) shape old) h).position
 loaded_holds = CarriedTable.loaded_holds
 
 -- loading what was printed gives the used rows again, and their shape: a table whose rows all stop does not show how many signals are observed,
@@ -131,13 +131,13 @@ module _ (s t : List ℕ) (shape : Shape) (worst : ℕ) (loads : loaded_by (leng
     (observation : ℕ → ℕ) (possible : AllPossible shape observation) where
   -- started at any old position it is answered; it is refused nothing before it stops, and stops within the worst case that the text tells
   pub loaded_stops : (old : Position)
-      → (c : ℕ) × (told_answer (start_of (loadedTable s t) shape old).answer ≡ values (c ∷ []))
-      × StopsWithin (loadedTable s t) shape observation (start_of (loadedTable s t) shape old).position worst
+      → (c : ℕ) × (told_answer (start_of (loaded_table s t) shape old).answer ≡ values (c ∷ []))
+      × StopsWithin (loaded_table s t) shape observation (start_of (loaded_table s t) shape old).position worst
   loaded_stops = CarriedTable.loaded_stops s t shape worst loads observation possible
 
   -- so it does from each row, within the row's rank
-  pub stops_from : (p : Position) → p.row < shape.rows → Held shape.order (loadedTable s t) p
-      → StopsWithin (loadedTable s t) shape observation p (rank_cell shape.order (loadedTable s t) p.row)
+  pub stops_from : (p : Position) → p.row < shape.rows → Held shape.order (loaded_table s t) p
+      → StopsWithin (loaded_table s t) shape observation p (rank_cell shape.order (loaded_table s t) p.row)
   stops_from = CarriedTable.stops_from s t shape worst loads observation possible
 
 -- ---- DEMAND 3 carried to the desk
@@ -169,5 +169,5 @@ module _ (work room : ℕ) (source : List ℕ) (shape : Shape) (r : ℕ) (table 
     carried = CarriedTable.carried work room source shape r table due p denotes t enough
 
     pub carried_running : (old : Position) (play : Play (game_of p))
-        → Runs (game_of p) strategy r (answer_to (loadedTable (table_text table shape r) t) shape old) play
+        → Runs (game_of p) strategy r (answer_to (loaded_table (table_text table shape r) t) shape old) play
     carried_running = CarriedTable.carried_running work room source shape r table due p denotes t enough

@@ -197,7 +197,7 @@ module _ (G : Game) (shape : Shape) (t : List ℕ) (few_choices : G.choices ≤ 
 
   pub runs : (r : ℕ) → Optimal G σ r → (old : Position) (play : Play G) → Runs G σ r (answer_to t shape old) play
   runs r best old play =
-      let (m, (e, g), true-trace) = best.wins play in
+      let (m, (e, g), true_trace) = best.wins play in
       let (a, first) = best.is_strategy.opens in
       let (j, l, at, same) = from_start old play m g in
       let last = sym (stop_taken o n t j l) ∙ row_stops o T j (sym same ∙ e) in
@@ -217,5 +217,5 @@ module _ (G : Game) (shape : Shape) (t : List ℕ) (few_choices : G.choices ≤ 
             ap (λ (d : Moved). d.answer) (steps_more t shape (seen play m) (start_of t shape old) s)
             ∙ stays j l (after old play m) at last s;
         within = best.worst.at_most play m (e, g);
-        holds = true-trace;
+        holds = true_trace;
       }

@@ -43,7 +43,7 @@ pub same_answer : {a b : Answer} → a ≡ b → (left : ℕ) (x : List ℕ) (en
 same_answer e left x end y p = subst (λ (a : Answer). Written (answer_text a left) x end y) (sym e) p
 
 -- a line of a word and two numbers
-module _ (word : List ℕ) (short : length word ≤ 100) (c left : ℕ) (c-small : c < 65536) (left-small : left < 65536)
+module _ (word : List ℕ) (short : length word ≤ 100) (c left : ℕ) (c_small : c < 65536) (left_small : left < 65536)
     (x : List ℕ) (room : text_size ≤ length x) where
   pub two_room : length (line word (decimal c ∷ decimal left ∷ [])) ≤ length x
   two_room = omega (arith, words_fit word c left short (omega arith) (omega arith))

@@ -107,5 +107,5 @@ module _ (ps : List Part) (c : Counts) (few : c.outputs + c.observed + c.hidden 
       → (m : ℕ) (successors : List ℕ)
       → successors ≡ padded m (successors_of (operators_of ps) (back ps) (letters_of c) (states_of ps (letters_of c) state_limit))
       → Tables (automaton_of ps xs) choices observations hiddens letter_from sets successors
-  explored_tables n sets sets-are m successors successors-are =
-      record { first = refl; follows = explored_follows m successors successors-are; accepting = explored_accepts n sets sets-are }
+  explored_tables n sets sets_are m successors successors_are =
+      record { first = refl; follows = explored_follows m successors successors_are; accepting = explored_accepts n sets sets_are }

@@ -68,22 +68,22 @@ module _ (source : List ℕ) (work table : ℕ) where
       pub too_many_beliefs_lem : (told_by work table source ≡ refused 10 0) ↔ ((¬ ManyStates p) × ManyBeliefs p)
       too_many_beliefs_lem = SolvedAsCases.too_many_beliefs_lem source work table enough room p denotes
 
-      module _ (few_states : ¬ ManyStates p) (few-beliefs : ¬ ManyBeliefs p) where
+      module _ (few_states : ¬ ManyStates p) (few_beliefs : ¬ ManyBeliefs p) where
         -- 11: no strategy of the problem's order wins
         pub unrealizable : (told_by work table source ≡ refused 11 0) ↔ ((σ : Strategy p.order) → IsStrategy (game_of p) σ → ¬ Wins (game_of p) σ)
-        unrealizable = SolvedAsCases.unrealizable source work table enough room p denotes few_states few-beliefs
+        unrealizable = SolvedAsCases.unrealizable source work table enough room p denotes few_states few_beliefs
 
         -- otherwise the table that the reference lays down is written, and told with its row count, observed signals, order and worst case ..
         pub otherwise : (¬ (told_by work table source ≡ refused 11 0))
             → (n : ℕ) × (r : ℕ) × (told_by work table source ≡ values (n ∷ p.signals.observed ∷ order_number p.order ∷ r ∷ []))
             × Controller p n r (cells_by work table source)
-        otherwise = SolvedAsCases.otherwise source work table enough room p denotes few_states few-beliefs
+        otherwise = SolvedAsCases.otherwise source work table enough room p denotes few_states few_beliefs
 
         -- .. and there is only one
         pub controller : (n r : ℕ) (t : List ℕ)
             → ((told_by work table source ≡ values (n ∷ p.signals.observed ∷ order_number p.order ∷ r ∷ [])) × (cells_by work table source ≡ t))
             ↔ Controller p n r t
-        controller = SolvedAsCases.controller source work table enough room p denotes few_states few-beliefs
+        controller = SolvedAsCases.controller source work table enough room p denotes few_states few_beliefs
 
 -- ---- WHAT WAS ANSWERED BEFORE, while beliefs behind a final one counted too: `earlier_told` and `earlier_cells`, which differ from `told_by` and
 -- `cells_by` in the beliefs that are counted and in nothing else

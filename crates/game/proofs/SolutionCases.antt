@@ -78,15 +78,15 @@ module _ (p : Problem) (few : Few p.signals) where
 
       solving_verdict : (v : Verdict) → answer ≡ v → Right belief_limit p.order G v → Solving p (verdict v)
       solving_verdict (solved n r cells) e s =
-          let moves-in = move_counted A same_set same_set_says G.choices G.observations belief_limit all is in
+          let moves_in = move_counted A same_set same_set_says G.choices G.observations belief_limit all is in
           let start_in = start_counted A same_set same_set_says G.choices G.observations belief_limit all is in
           let (t, q) =
           answer_table p.order A same_set same_set_says G.choices G.observations (pow_pos p.signals.observed) few_choices few_observations
-          all moves-in start_in (SameBelief p) (FinalBelief p) (beliefs_tell p xs listed) n r cells e in
+          all moves_in start_in (SameBelief p) (FinalBelief p) (beliefs_tell p xs listed) n r cells e in
           table small n r cells (record { is_table = t; rank = q; solves = s })
           (λ m q t c.
           one_answer p.order A same_set same_set_says G.choices G.observations (pow_pos p.signals.observed) few_choices few_observations
-          all moves-in start_in (SameBelief p) (FinalBelief p) (beliefs_tell p xs listed) n r cells e m q t c.is_table c.rank)
+          all moves_in start_in (SameBelief p) (FinalBelief p) (beliefs_tell p xs listed) n r cells e m q t c.is_table c.rank)
       solving_verdict unrealizable e u = none small u
 
     solving_beliefs : (l : Listing Belief) → counted ≡ l → Solving p (solution_of p.order A same_set G.choices G.observations l)

@@ -110,9 +110,9 @@ module _ (source : List ℕ) (work room : ℕ) where
       when_solved s (beliefs f m) n r t e q = told_apart e
       when_solved s (none small u) n r t e q = told_apart e
       when_solved s (table small m k u c one) n r t e q =
-          let is-n : m ≡ n = cc in
-          let is-r : k ≡ r = cc in
-          rw (← is-n, ← is-r, ← q) c
+          let is_n : m ≡ n = cc in
+          let is_r : k ≡ r = cc in
+          rw (← is_n, ← is_r, ← q) c
 
       pub too_many_states_lem : (answer ≡ refused 9 0) ↔ ManyStates p
       too_many_states_lem = (
@@ -126,18 +126,18 @@ module _ (source : List ℕ) (work room : ℕ) where
         λ m. ((answered_iff source work room _ _).1 (due.too_many_beliefs_lem long_enough p denotes m.0 m.1)).0,
       )
 
-      module _ (few_states : ¬ ManyStates p) (few-beliefs : ¬ ManyBeliefs p) where
+      module _ (few_states : ¬ ManyStates p) (few_beliefs : ¬ ManyBeliefs p) where
         pub unrealizable : (answer ≡ refused 11 0) ↔ ((σ : Strategy p.order) → IsStrategy (game_of p) σ → ¬ Wins (game_of p) σ)
         unrealizable = (
           λ e. when_unrealizable (solution p) view (sym is_told ∙ e),
-          λ u. ((answered_iff source work room _ _).1 (due.unrealizable long_enough p denotes (few_states, few-beliefs) u)).0,
+          λ u. ((answered_iff source work room _ _).1 (due.unrealizable long_enough p denotes (few_states, few_beliefs) u)).0,
         )
 
         pub controller : (n r : ℕ) (t : List ℕ)
             → ((answer ≡ values (n ∷ p.signals.observed ∷ order_number p.order ∷ r ∷ [])) × (cells ≡ t)) ↔ Controller p n r t
         controller n r t = (
           λ e. when_solved (solution p) view n r t (sym is_told ∙ e.0) (sym are_cells ∙ e.1),
-          λ c. (answered_iff source work room _ _).1 (due.table long_enough p denotes (few_states, few-beliefs) n r t c),
+          λ c. (answered_iff source work room _ _).1 (due.table long_enough p denotes (few_states, few_beliefs) n r t c),
         )
 
         pub otherwise : (¬ (answer ≡ refused 11 0))
@@ -147,7 +147,7 @@ module _ (source : List ℕ) (work room : ℕ) where
             at : (s : Solution) → Solving p s → solution p ≡ s
                 → (n : ℕ) × (r : ℕ) × (answer ≡ values (n ∷ p.signals.observed ∷ order_number p.order ∷ r ∷ [])) × Controller p n r cells
             at s (states m) e = absurd (few_states m)
-            at s (beliefs g m) e = absurd (few-beliefs m)
+            at s (beliefs g m) e = absurd (few_beliefs m)
             at s (none small u) e = absurd (f (unrealizable.1 u))
             at s (table small n r t c one) e = (n, r, is_told ∙ ap told e, subst (Controller p n r) (sym (are_cells ∙ ap cells_of e)) c)
 
@@ -165,11 +165,11 @@ due_table work room source n observed r o t d = at (values (n ∷ observed ∷ o
     at a t (due.too_many_beliefs_lem f p d s m) e = told_apart e
     at a t (due.unrealizable f p d small u) e = told_apart e
     at a t (due.table f p d small m q cells c) e =
-        let is-n : m ≡ n = cc in
-        let is-r : q ≡ r = cc in
+        let is_n : m ≡ n = cc in
+        let is_r : q ≡ r = cc in
         let is-observed : observed ≡ p.signals.observed = cc in
-        let is-o = one_order o p.order cc in
-        (p, d, is-observed, is-o, rw (← is-n, ← is-r) c)
+        let is_o = one_order o p.order cc in
+        (p, d, is-observed, is_o, rw (← is_n, ← is_r) c)
 
 -- what a table is good for
 pub plays : (p : Problem) (n r : ℕ) (t : List ℕ) → Controller p n r t
@@ -181,7 +181,7 @@ pub plays : (p : Problem) (n r : ℕ) (t : List ℕ) → Controller p n r t
 plays p n r t c =
     let o = c.solves.optimal in (
       o.is_strategy,
-      λ play. let (m, st, true-trace) = o.wins play in (m, o.worst.at_most play m st, st, true-trace),
+      λ play. let (m, st, true_trace) = o.wins play in (m, o.worst.at_most play m st, st, true_trace),
       o.worst.reached,
       o.least,
     )

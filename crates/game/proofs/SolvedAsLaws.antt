@@ -122,9 +122,9 @@ due_cells work room source a cells (too_many_beliefs_lem f p d s m) = refl
 due_cells work room source a cells (unrealizable f p d small u) = refl
 due_cells work room source a cells (table f p d small n r t c) =
     λ m observed q o e.
-    let is-n : n ≡ m = cc in
-    let is-o = one_order p.order o cc in
-    rw (← is-n, ← is-o) c.is_table.long
+    let is_n : n ≡ m = cc in
+    let is_o = one_order p.order o cc in
+    rw (← is_n, ← is_o) c.is_table.long
 
 -- ---- an answer is known by its numbers and values
 

@@ -18,7 +18,7 @@ use Rattle.play.specs.Limits.{belief_limit}
 use Rattle.play.specs.Cells.{row_size, table_size}
 use Rattle.play.specs.Game.{Unrealizable}
 use Rattle.play.specs.IsTable.{RankIs, IsTable}
-use Rattle.play.specs.Answer.{cells_of as verdictCells, Solves}
+use Rattle.play.specs.Answer.{cells_of as verdict_cells, Solves}
 use Rattle.game.specs.declared.solving.Solved.{Solved}
 use Rattle.game.specs.declared.solving.Solved.TheVariants.{Table, Refused}
 use Rattle.game.specs.Solution.{game_of, Solution, too_many_states, too_many_beliefs, verdict, solution}
@@ -60,7 +60,7 @@ told_by work table source = told_solved (solved_by work table source)
 
 -- the cells of a solution's rows
 abbrev pub cells_of : Solution → List ℕ
-cells_of (verdict v) = verdictCells v
+cells_of (verdict v) = verdict_cells v
 cells_of too_many_beliefs = []
 cells_of too_many_states = []
 

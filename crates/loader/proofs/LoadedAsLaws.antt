@@ -72,11 +72,11 @@ few_cells Set rows h = omega arith
 few_cells Read rows h = omega arith
 
 -- the candidate of a text, as it is found
-module _ (s : List ℕ) {shape : Shape} (is-shape : shape ≡ shape_in s) where
+module _ (s : List ℕ) {shape : Shape} (is_shape : shape ≡ shape_in s) where
   shaped : (worst : ℕ) → worst ≡ worst_in shape.rows s → Shaped (cells_in shape s) shape worst
-  shaped worst is-worst =
-      subst (Shaped (cells_in shape s) shape) (sym is-worst)
-      (subst (λ h. Shaped (cells_in h s) h (worst_in h.rows s)) (sym is-shape) (candidate_shaped s))
+  shaped worst is_worst =
+      subst (Shaped (cells_in shape s) shape) (sym is_worst)
+      (subst (λ h. Shaped (cells_in h s) h (worst_in h.rows s)) (sym is_shape) (candidate_shaped s))
 
   -- what the writing of its cells asks
   pub cells_ask : (shape.observed ≤ kind_limit) × ((shape.rows ≤ belief_limit) × (shape.rows * row_size shape.order ≤ table_size))
@@ -105,41 +105,41 @@ module _ (s : List ℕ) {shape : Shape} (is-shape : shape ≡ shape_in s) where
     cells_long = taken_length (cells_in shape s) memory cells size size_is are_cells
 
     -- so many of them are copied, and these are the cells that are to be written
-    module _ (place : ℕ) {n : ℕ} (is-count : n ≡ cond (eqb place 0) size 0) where
+    module _ (place : ℕ) {n : ℕ} (is_count : n ≡ cond (eqb place 0) size 0) where
       pub count_le : n ≤ size
       count_le =
-          subst (λ k. k ≤ size) (sym is-count)
+          subst (λ k. k ≤ size) (sym is_count)
           (cond_elim (λ k. k ≤ size) (eqb place 0) size 0 (λ e. le_refl _) (λ e. omega arith))
 
       copied : take n cells ≡ cells_at place (cells_in shape s)
-      copied = ap (λ k. take k cells) is-count ∙ at place
+      copied = ap (λ k. take k cells) is_count ∙ at place
         where
           at : (k : ℕ) → take (cond (eqb k 0) size 0) cells ≡ cells_at k (cells_in shape s)
           at zero = cells_taken
           at (suc k) = rw (ne_eqb (suc k) 0 (λ e. omega arith)) refl
 
-    module _ {worst : ℕ} (is-worst : worst ≡ worst_in shape.rows s) where
+    module _ {worst : ℕ} (is_worst : worst ≡ worst_in shape.rows s) where
       -- what the search for the first fault asks
       pub fault_asks : Shaped (take size cells) shape worst
-      fault_asks = subst (λ t. Shaped t shape worst) (sym cells_taken) (shaped worst is-worst)
+      fault_asks = subst (λ t. Shaped t shape worst) (sym cells_taken) (shaped worst is_worst)
 
       module _ (table : List ℕ) (room : table_size ≤ length table) {place : ℕ}
-          (is-place : place ≡ first_fault (difference 1 s (table_text (take size cells) shape worst)) (take size cells) shape worst) where
+          (is_place : place ≡ first_fault (difference 1 s (table_text (take size cells) shape worst)) (take size cells) shape worst) where
         place_is : fault_in s ≡ place
         unfolding fault_in print_in
         place_is =
             sym
-            (is-place ∙ ap (λ t. first_fault (difference 1 s (table_text t shape worst)) t shape worst) cells_taken
-            ∙ ap (λ w. first_fault (difference 1 s (table_text (cells_in shape s) shape w)) (cells_in shape s) shape w) is-worst
-            ∙ ap (λ (h : Shape). let w = worst_in h.rows s in first_fault (difference 1 s (table_text (cells_in h s) h w)) (cells_in h s) h w) is-shape)
+            (is_place ∙ ap (λ t. first_fault (difference 1 s (table_text t shape worst)) t shape worst) cells_taken
+            ∙ ap (λ w. first_fault (difference 1 s (table_text (cells_in shape s) shape w)) (cells_in shape s) shape w) is_worst
+            ∙ ap (λ (h : Shape). let w = worst_in h.rows s in first_fault (difference 1 s (table_text (cells_in h s) h w)) (cells_in h s) h w) is_shape)
 
         pub load_done : {n : ℕ} → n ≡ cond (eqb place 0) size 0 → (r : Loaded) → r ≡ loaded_at place shape worst
             → (after : List ℕ) → after ≡ written (take n cells) table → Loads s table r after
         unfolding loaded_by cells_by
-        load_done is-count r q after e =
+        load_done is_count r q after e =
             let enough = le-ltb (length table) table_size room in
             let answer : loaded_by (length table) s ≡ loaded_at place (shape_in s) (worst_in (shape_in s).rows s) = rw (enough, place_is) refl in
             let due : cells_by (length table) s ≡ cells_at place (cells_in (shape_in s) s) = rw (enough, place_is) refl in
             loads s table r after
-            (q ∙ ap (loaded_at place shape) is-worst ∙ ap (λ (h : Shape). loaded_at place h (worst_in h.rows s)) is-shape ∙ sym answer)
-            (e ∙ ap (λ c. written c table) (copied place is-count ∙ ap (λ (h : Shape). cells_at place (cells_in h s)) is-shape ∙ sym due))
+            (q ∙ ap (loaded_at place shape) is_worst ∙ ap (λ (h : Shape). loaded_at place h (worst_in h.rows s)) is_shape ∙ sym answer)
+            (e ∙ ap (λ c. written c table) (copied place is_count ∙ ap (λ (h : Shape). cells_at place (cells_in h s)) is_shape ∙ sym due))

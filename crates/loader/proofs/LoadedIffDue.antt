@@ -18,7 +18,7 @@ use Rattle.basics.proofs.ListsLaws.{written_rest}
 use Rattle.basics.proofs.OrderLaws.{one_order}
 use Rattle.lines.specs.declared.refusal.Refusal.TheVariants.{BadText}
 use Rattle.lines.specs.Refusal.{Told, values, refused}
-use Rattle.lines.proofs.RefusalLaws.{told_apart, one_place as told-place}
+use Rattle.lines.proofs.RefusalLaws.{told_apart, one_place as told_place}
 use Rattle.play.specs.Cells.{row_size, stop_cell, table_size, first_cell}
 use Rattle.tables.specs.declared.shape.Shape.{Shape}
 use Rattle.loader.specs.declared.loading.Loaded.{Loaded}
@@ -245,7 +245,7 @@ module _ (s : List ℕ) where
             where
               go : (d : ℕ) → fault_in s ≡ d → told_loaded (answer s (fault_in s)) ≡ refused 17 place → FaultAt s place
               go zero z q = told_apart (sym (rw z at q))
-              go (suc m) z q = subst (FaultAt s) (told-place (rw z at q)) (fault_due (suc m) z)
+              go (suc m) z q = subst (FaultAt s) (told_place (rw z at q)) (fault_due (suc m) z)
 
 -- there is only one table
 pub one_table : (s : List ℕ) (a b : Shape) (v w : ℕ) (c d : List ℕ) → TableOf s a v c → TableOf s b w d → (a ≡ b) × (v ≡ w) × (c ≡ d)
@@ -269,9 +269,9 @@ own_cells room s a cells (short_memory h) = refl
 own_cells room s a cells (bad_text h place f) = refl
 own_cells room s a c (table h shape worst cells is) =
     λ n observed r o e.
-    let is-n : shape.rows ≡ n = cc in
-    let is-o = one_order shape.order o cc in
-    rw (← is-n, ← is-o) is.exact
+    let is_n : shape.rows ≡ n = cc in
+    let is_o = one_order shape.order o cc in
+    rw (← is_n, ← is_o) is.exact
 
 module _ (s t : List ℕ) where
   abbrev room : ℕ

@@ -26,7 +26,7 @@ pub record Stored (codes : List ℕ) : Type 0 where
 unfoldable pub numbers_of : List Part → List ℕ
 numbers_of ps = tabulate (length ps) (number_of ps)
 
--- ---- the values of all parts, for a block of letters: entry i * blockSize + x is part i's at letter x
+-- ---- the values of all parts, for a block of letters: entry i * block_size + x is part i's at letter x
 
 -- letters that are evaluated together
 abbrev pub block_size : ℕ

@@ -2,7 +2,7 @@
 ghost use Rattle.std.specs.Prelude.{◌≡◌, ◌++◌, ◌≤◌, length, drop};
 ghost use Rattle.formula.specs.Codes.{parts_in};
 ghost use Rattle.basics.specs.Limits.{index_limit};
-ghost use Rattle.obligations.specs.Obligation.{operators_of, spots as spotsOf};
+ghost use Rattle.obligations.specs.Obligation.{operators_of, spots as spots_of};
 ghost use Rattle.obligations.specs.Values.{numbers_of};
 
 use formula::is_temporal_at;
@@ -13,7 +13,7 @@ pub fn number_parts(parts: &[u32], numbers: &mut [u8], spots: &mut [u8])
     requires numbers_len_bound { length numbers.old ≤ index_limit }
     requires parts_in_bounds_2 { operators_of (parts_in parts.now) ≤ length spots.old }
     ensures numbers_after { numbers.new ≡ numbers_of (parts_in parts.now) ++ drop (length parts.now) numbers.old }
-    ensures spots_after { spots.new ≡ spotsOf (parts_in parts.now) ++ drop (operators_of (parts_in parts.now)) spots.old }
+    ensures spots_after { spots.new ≡ spots_of (parts_in parts.now) ++ drop (operators_of (parts_in parts.now)) spots.old }
 {
     let mut k: usize = 0;
     let mut i: usize = 0;

@@ -99,7 +99,7 @@ module _ (o : Order) (G : Game) (some_observation : 0 < G.observations) (some_hi
       (descends o A G.choices G.observations n) r ranked start_rank_lem in
       let few = rank_lt_rows (ordered o G) A same says some_observation all closed_all start_in n small (best_answer o A G.choices G.observations n)
       (descends o A G.choices G.observations n) r ranked start_rank_lem ks e in
-      let ranked-rows = rows_ranked (ordered o G) A same says some_observation all closed_all start_in n small (best_answer o A G.choices G.observations n)
+      let ranked_rows = rows_ranked (ordered o G) A same says some_observation all closed_all start_in n small (best_answer o A G.choices G.observations n)
       (descends o A G.choices G.observations n) r ranked start_rank_lem ks e in
       let fewer = rows_le (ordered o G) A same says some_observation all closed_all start_in n small (best_answer o A G.choices G.observations n)
       (descends o A G.choices G.observations n) r ranked start_rank_lem ks e in
@@ -117,7 +117,7 @@ module _ (o : Order) (G : Game) (some_observation : 0 < G.observations) (some_hi
             subst (λ l. Laid o G.choices G.observations (length (list_of l))
             (flat_map (row_of o A same G.choices G.observations n (list_of l)) (list_of l))) (sym e)
             (table_laid o A same says G.choices G.observations n some_observation few_choices few_observations ks e
-            (λ k m. let (_, q, b, a) = ranked-rows k m in (q, omega (arith, few), a)) (omega (arith, fewer)));
+            (λ k m. let (_, q, b, a) = ranked_rows k m in (q, omega (arith, few), a)) (omega (arith, fewer)));
       }
 
   pub verdict_right : Right limit o G (verdict_of o A same G.choices G.observations n)

@@ -66,9 +66,9 @@ module _ (o : Order) (A : Arena) (same : A.K → A.K → Bool) (says : (a b : A.
   pub answer_table : (m q : ℕ) (cells : List ℕ) → verdict_of o A same choices observations n ≡ solved m q cells
       → IsTable o choices observations Same Final m cells × RankIs o choices observations Final [] q
   answer_table m q cells e =
-      let (ranked, is_m, is-q, is-cells) = solved_is m q cells e in
+      let (ranked, is_m, is_q, is_cells) = solved_is m q cells e in
       let (ks, l) = listed ranked in
-      rw (is_m, is-q, is-cells) (
+      rw (is_m, is_q, is_cells) (
         table_is o A same says choices observations n some_observation few_choices few_observations ks l ranked Same Final tells,
         start_rank_is o A same says choices observations n some_observation few_choices few_observations ks l ranked Same Final tells,
       )
@@ -78,9 +78,9 @@ module _ (o : Order) (A : Arena) (same : A.K → A.K → Bool) (says : (a b : A.
       → (k s : ℕ) (t : List ℕ) → IsTable o choices observations Same Final k t → RankIs o choices observations Final [] s
       → (k ≡ m) × (s ≡ q) × (t ≡ cells)
   one_answer m q cells e k s t T R =
-      let (ranked, is_m, is-q, is-cells) = solved_is m q cells e in
+      let (ranked, is_m, is_q, is_cells) = solved_is m q cells e in
       let (ks, l) = listed ranked in
-      let (same-k, same-t) =
+      let (same_k, same_t) =
       only_table o A same says choices observations n some_observation few_choices few_observations ks l ranked Same Final tells k t T in
       let same_s = only_rank o A same says choices observations n some_observation few_choices few_observations ks l ranked Same Final tells s R in
-      (same-k ∙ sym is_m, same_s ∙ sym is-q, same-t ∙ sym is-cells)
+      (same_k ∙ sym is_m, same_s ∙ sym is_q, same_t ∙ sym is_cells)

@@ -13,7 +13,7 @@ use Rattle.basics.specs.Lists.{tabulate}
 use Rattle.basics.specs.Reach.{Reached, reached_first, reached_step, AtLeast}
 use Rattle.basics.proofs.Booleans.{test, clash}
 use Rattle.basics.proofs.ListsLaws.{length_tabulate}
-use Rattle.basics.proofs.MemberLaws.{in_tabulate, distinct_index, distinct-tabulate}
+use Rattle.basics.proofs.MemberLaws.{in_tabulate, distinct_index, distinct_tabulate}
 use Rattle.play.specs.Rank.{Arena}
 use Rattle.play.specs.History.{History, Possible, onward, ProperPrefix, Unstopped, know, AtLeastBeliefs}
 use Rattle.play.specs.Answer.{moves}
@@ -108,7 +108,7 @@ module _ (A : Arena) (same : A.K → A.K → Bool) (choices observations : ℕ) 
               some = tabulate n f;
               count = length_tabulate n f;
               distinct =
-                  distinct-tabulate n f (λ i j ib jb e.
+                  distinct_tabulate n f (λ i j ib jb e.
                   l.different i j ib jb ((tells.sames (l.history i) (l.history j) (v i ib).0 (v j jb).0).1 e));
               sound = λ x m.
                   let (i, b, e) = (in_tabulate n f x).0 m in

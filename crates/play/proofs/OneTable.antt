@@ -130,16 +130,16 @@ module _ (o : Order) (choices observations : ℕ) (Same : History → History �
           let j' = next_cell o u i s in
           let (jb, p) = (T.goes i a.left f).next s sb in
           let (jb', p') = (U.goes i a.right also_unstopped).next s sb in
-          let x-can = next_possible T i s a.left f sb in
-          let y-can = next_possible U i s a.right also_unstopped sb in
-          let j-can = row_possible T j jb in
+          let x_can = next_possible T i s a.left f sb in
+          let y_can = next_possible U i s a.right also_unstopped sb in
+          let j_can = row_possible T j jb in
           let j'-can = row_possible U j' jb' in
-          let k-can = row_possible U j b.right in
-          let yx : Same (next U i s) (next T i s) = C.symmetric (next T i s) (next U i s) x-can y-can (same_step s sb) in
-          let xj : Same (next T i s) (T.history j) = C.symmetric (T.history j) (next T i s) j-can x-can p in
-          let yj : Same (next U i s) (T.history j) = C.transitive (next U i s) (next T i s) (T.history j) y-can x-can j-can yx xj in
-          let yk : Same (next U i s) (U.history j) = C.transitive (next U i s) (T.history j) (U.history j) y-can j-can k-can yj b.same in
-          U.one_row j' j jb' b.right (C.transitive (U.history j') (next U i s) (U.history j) j'-can y-can k-can p' yk)
+          let k_can = row_possible U j b.right in
+          let yx : Same (next U i s) (next T i s) = C.symmetric (next T i s) (next U i s) x_can y_can (same_step s sb) in
+          let xj : Same (next T i s) (T.history j) = C.symmetric (T.history j) (next T i s) j_can x_can p in
+          let yj : Same (next U i s) (T.history j) = C.transitive (next U i s) (next T i s) (T.history j) y_can x_can j_can yx xj in
+          let yk : Same (next U i s) (U.history j) = C.transitive (next U i s) (T.history j) (U.history j) y_can j_can k_can yj b.same in
+          U.one_row j' j jb' b.right (C.transitive (U.history j') (next U i s) (U.history j) j'-can y_can k_can p' yk)
 
   module _ {n m : ℕ} {t u : List ℕ} (T : Table n t) (U : Table m u) (k : ℕ) (a : (i : ℕ) → i < k → Shared T U i) where
     -- what leads to row k in one table leads to no row before it in the other
@@ -231,22 +231,22 @@ module _ (o : Order) (choices observations : ℕ) (Same : History → History �
                 ]
           ]
 
-      same-choice_cell : (s : ℕ) → s < side_limit → choice_cell o t i s ≡ choice_cell o u i s
-      same-choice_cell s l =
+      same_choice_cell : (s : ℕ) → s < side_limit → choice_cell o t i s ≡ choice_cell o u i s
+      same_choice_cell s l =
           elim (blank_or_used s l) [
             | inl (x, y) ↦ blank_choice o t u i s same_first x y
             | inr (f, sb) ↦ same_choice T U i shared f s sb
           ]
 
-      same-next_cell : (s : ℕ) → s < side_limit → next_cell o t i s ≡ next_cell o u i s
-      same-next_cell s l =
+      same_next_cell : (s : ℕ) → s < side_limit → next_cell o t i s ≡ next_cell o u i s
+      same_next_cell s l =
           elim (blank_or_used s l) [
             | inl (x, y) ↦ blank_next o t i s x ∙ sym (blank_next o u i s y)
             | inr (f, sb) ↦ sym (same_next T U i shared f s sb (shared_rows n (le_refl n) (next_cell o t i s) ((T.goes i b f).next s sb).0))
           ]
 
-      same-rank_cell : rank_cell o t i ≡ rank_cell o u i
-      same-rank_cell =
+      same_rank_cell : rank_cell o t i ≡ rank_cell o u i
+      same_rank_cell =
           one_rank o choices observations Same Final C (T.history i) (U.history i) (rank_cell o t i) (rank_cell o u i)
           (row_possible T i b) (row_possible U i shared.right) shared.same (T.rank i b) (U.rank i shared.right)
 
@@ -258,5 +258,5 @@ module _ (o : Order) (choices observations : ℕ) (Same : History → History �
       let e : n ≡ m = omega arith in (
         e,
         same_cells o n t u T.long (U.long ∙ ap (λ (k : ℕ). k * row_size o) (sym e))
-            (same_first T U some) (same-choice_cell T U some) (same-next_cell T U some) (same-rank_cell T U some),
+            (same_first T U some) (same_choice_cell T U some) (same_next_cell T U some) (same_rank_cell T U some),
       )

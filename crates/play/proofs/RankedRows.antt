@@ -67,7 +67,7 @@ module _ (A : Arena) (same : A.K → A.K → Bool) (says : (a b : A.K) → Says 
 
 -- positions that are met, and ranked below n; `Met` is kept by moves from positions that are not final
 module _ {choices observations : ℕ} (O : StepOrder choices observations) (A : Arena) (Met : A.K → Type 0)
-    (Met-next : (k : A.K) → Met k → A.final k ≡ false → (c : ℕ) → c < choices → (s : ℕ) → s < observations → Met (A.move k c s))
+    (met_next : (k : A.K) → Met k → A.final k ≡ false → (c : ℕ) → c < choices → (s : ℕ) → s < observations → Met (A.move k c s))
     (n : ℕ) (answer : A.K → ℕ → ℕ) (down : Descends O A answer n) where
   abbrev pub MetRanked : A.K → Type 0
   MetRanked k = Met k × (q : ℕ) × (q < n) × HasRank O A k q
@@ -80,7 +80,7 @@ module _ {choices observations : ℕ} (O : StepOrder choices observations) (A : 
       let (al, right) = down k q b a in
       let (q', h, a') = rank_of O A q (A.move k (answer k s) s) (right s sb) in
       let cb = O.below (answer k) al s sb in
-      (cb, (Met-next k m f (answer k s) cb s sb, q', omega arith, a'))
+      (cb, (met_next k m f (answer k s) cb s sb, q', omega arith, a'))
 
 module _ {choices observations : ℕ} (O : StepOrder choices observations) (A : Arena) (same : A.K → A.K → Bool) (says : (a b : A.K) → Says (same a b) (a ≡ b))
     (some_observation : 0 < observations) (all : List A.K) (closed_all : Closed O A some_observation all) (start_in : A.start ∈ all)

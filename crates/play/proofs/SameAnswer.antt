@@ -13,7 +13,7 @@ use Rattle.basics.specs.Reach.{Listing, closed, over, index_in, reachable}
 use Rattle.basics.proofs.Booleans.{test}
 use Rattle.basics.proofs.BoundedLaws.{all_ext, any_ext, first_ext, first_passes, first_least}
 use Rattle.basics.proofs.ListsLaws.{map_table, tabulate_ext}
-use Rattle.basics.proofs.SameSearch.{Each, each-tabulate, EachListed, map_listing, index_image, flat_image, reachable_image}
+use Rattle.basics.proofs.SameSearch.{Each, each_tabulate, EachListed, map_listing, index_image, flat_image, reachable_image}
 use Rattle.basics.specs.declared.order.Order.{Order}
 use Rattle.basics.specs.declared.order.Order.TheVariants.{Set, Read}
 use Rattle.play.specs.Rank.{Arena, can, within, rank_below, rank_from, leads_within, next_rank, best_answer}
@@ -27,7 +27,7 @@ use Rattle.play.proofs.RankedRows.{MetRanked, ranked_answer}
 use Rattle.play.proofs.CellsLaws.{choice_ext}
 
 -- the positions of A that are met have names in B, one to one; the start, where to stop, and moves from where one does not stop go by them
-pub record Renaming (A B : Arena) (sameA : A.K → A.K → Bool) (sameB : B.K → B.K → Bool) (choices observations : ℕ)
+pub record Renaming (A B : Arena) (same_a : A.K → A.K → Bool) (same_b : B.K → B.K → Bool) (choices observations : ℕ)
     (named : A.K → B.K) (Met : A.K → Type 0) : Type 0 where
   pub met_start : Met A.start
   pub met_next : (k : A.K) → Met k → A.final k ≡ false → (c : ℕ) → c < choices → (s : ℕ) → s < observations → Met (A.move k c s)
@@ -35,7 +35,7 @@ pub record Renaming (A B : Arena) (sameA : A.K → A.K → Bool) (sameB : B.K �
   pub named_final : (k : A.K) → Met k → B.final (named k) ≡ A.final k
   pub named_move : (k : A.K) → Met k → A.final k ≡ false → (c : ℕ) → c < choices → (s : ℕ) → s < observations
       → B.move (named k) c s ≡ named (A.move k c s)
-  pub one : (j k : A.K) → Met j → Met k → sameB (named j) (named k) ≡ sameA j k
+  pub one : (j k : A.K) → Met j → Met k → same_b (named j) (named k) ≡ same_a j k
 
 -- a test of the controller's that looks at choices and observations that can occur alone; those of all orders of a step do (`can_ext`)
 abbrev pub Respects : (choices observations : ℕ) → ((ℕ → ℕ → Bool) → Bool) → Type 0
@@ -50,8 +50,8 @@ each_listed : {K : Type 0} (P : K → Type 0) (l : Listing K) → EachListed P l
 each_listed P (closed xs) e = e
 each_listed P over e = tt
 
-module _ {A B : Arena} {sameA : A.K → A.K → Bool} {sameB : B.K → B.K → Bool} {choices observations : ℕ} {named : A.K → B.K} {Met : A.K → Type 0}
-    (R : Renaming A B sameA sameB choices observations named Met) where
+module _ {A B : Arena} {same_a : A.K → A.K → Bool} {same_b : B.K → B.K → Bool} {choices observations : ℕ} {named : A.K → B.K} {Met : A.K → Type 0}
+    (R : Renaming A B same_a same_b choices observations named Met) where
   -- ---- ranks
 
   module _ (can : (ℕ → ℕ → Bool) → Bool) (respects : Respects choices observations can) where
@@ -97,39 +97,39 @@ module _ {A B : Arena} {sameA : A.K → A.K → Bool} {sameB : B.K → B.K → B
 
   -- ---- rows, by any answers that are choices and the same under either name, on the positions that they lead to
 
-  module _ (answerA : A.K → ℕ → ℕ) (answerB : B.K → ℕ → ℕ) (Followed : A.K → Type 0) (first : Followed A.start)
+  module _ (answer_a : A.K → ℕ → ℕ) (answer_b : B.K → ℕ → ℕ) (Followed : A.K → Type 0) (first : Followed A.start)
       (met : (k : A.K) → Followed k → Met k)
       (next : (k : A.K) → Followed k → A.final k ≡ false → (s : ℕ) → s < observations
-      → (answerA k s < choices) × Followed (A.move k (answerA k s) s))
-      (alike : (k : A.K) → Followed k → A.final k ≡ false → (s : ℕ) → s < observations → answerA k s ≡ answerB (named k) s) where
+      → (answer_a k s < choices) × Followed (A.move k (answer_a k s) s))
+      (alike : (k : A.K) → Followed k → A.final k ≡ false → (s : ℕ) → s < observations → answer_a k s ≡ answer_b (named k) s) where
     move_image : (k : A.K) → Followed k → A.final k ≡ false → (s : ℕ) → s < observations
-        → B.move (named k) (answerB (named k) s) s ≡ named (A.move k (answerA k s) s)
+        → B.move (named k) (answer_b (named k) s) s ≡ named (A.move k (answer_a k s) s)
     move_image k p f s sb =
-        ap (λ c. B.move (named k) c s) (sym (alike k p f s sb)) ∙ R.named_move k (met k p) f (answerA k s) (next k p f s sb).0 s sb
+        ap (λ c. B.move (named k) c s) (sym (alike k p f s sb)) ∙ R.named_move k (met k p) f (answer_a k s) (next k p f s sb).0 s sb
 
-    followers_image : (k : A.K) → Followed k → followers_by B answerB observations (named k) ≡ map named (followers_by A answerA observations k)
+    followers_image : (k : A.K) → Followed k → followers_by B answer_b observations (named k) ≡ map named (followers_by A answer_a observations k)
     followers_image k p =
         elim (test (A.final k)) [
           | inl t ↦ rw (t, followers_by, R.named_final k (met k p) ∙ t)
           | inr f ↦
               rw (f, followers_by, R.named_final k (met k p) ∙ f)
-              (tabulate_ext observations _ _ (λ s sb. move_image k p f s sb) ∙ sym (map_table named observations (λ s. A.move k (answerA k s) s)))
+              (tabulate_ext observations _ _ (λ s sb. move_image k p f s sb) ∙ sym (map_table named observations (λ s. A.move k (answer_a k s) s)))
         ]
 
-    followers_each : (k : A.K) → Followed k → Each Followed (followers_by A answerA observations k)
+    followers_each : (k : A.K) → Followed k → Each Followed (followers_by A answer_a observations k)
     followers_each k p =
         elim (test (A.final k)) [
           | inl t ↦ rw (t, followers_by) tt
-          | inr f ↦ rw (f, followers_by) (each-tabulate Followed observations _ (λ s sb. (next k p f s sb).1))
+          | inr f ↦ rw (f, followers_by) (each_tabulate Followed observations _ (λ s sb. (next k p f s sb).1))
         ]
 
-    pub rows_image : (n : ℕ) → (rows_by B sameB answerB observations n ≡ map named (rows_by A sameA answerA observations n))
-        × Each Followed (rows_by A sameA answerA observations n)
+    pub rows_image : (n : ℕ) → (rows_by B same_b answer_b observations n ≡ map named (rows_by A same_a answer_a observations n))
+        × Each Followed (rows_by A same_a answer_a observations n)
     rows_image n =
-        let (e, each) = reachable_image sameA sameB named Followed (λ j k p q. R.one j k (met j p) (met k q))
-        (followers_by A answerA observations) (followers_by B answerB observations) A.start first followers_each followers_image n in
-        let l = reachable sameA (followers_by A answerA observations) A.start n in (
-          ap (λ k. list_of (reachable sameB (followers_by B answerB observations) k n)) (sym R.named_start) ∙ ap list_of e ∙ listed_image named l,
+        let (e, each) = reachable_image same_a same_b named Followed (λ j k p q. R.one j k (met j p) (met k q))
+        (followers_by A answer_a observations) (followers_by B answer_b observations) A.start first followers_each followers_image n in
+        let l = reachable same_a (followers_by A answer_a observations) A.start n in (
+          ap (λ k. list_of (reachable same_b (followers_by B answer_b observations) k n)) (sym R.named_start) ∙ ap list_of e ∙ listed_image named l,
           each_listed Followed l each,
         )
 
@@ -137,7 +137,7 @@ module _ {A B : Arena} {sameA : A.K → A.K → Bool} {sameB : B.K → B.K → B
 
   module _ (o : Order) (some_observation : 0 < observations) (n : ℕ) where
     abbrev r : ℕ
-    r = start_rank o A sameA choices observations n
+    r = start_rank o A same_a choices observations n
 
     abbrev answer : A.K → ℕ → ℕ
     answer = best_answer o A choices observations n
@@ -154,14 +154,14 @@ module _ {A B : Arena} {sameA : A.K → A.K → Bool} {sameB : B.K → B.K → B
       start_ranked =
           (R.met_start, r, ranked, (first_passes (λ q. In (O o) A q A.start) n ranked, first_least (λ q. In (O o) A q A.start) n))
 
-      table_rows : (rows o B sameB choices observations n ≡ map named (rows o A sameA choices observations n))
-          × Each Ranked (rows o A sameA choices observations n)
+      table_rows : (rows o B same_b choices observations n ≡ map named (rows o A same_a choices observations n))
+          × Each Ranked (rows o A same_a choices observations n)
       table_rows =
           rows_image answer (best_answer o B choices observations n) Ranked start_ranked (λ k p. p.0) next_ranked
           (λ k p f s sb. answer_image o n k p.0 f s sb) n
 
       unranked_image : (l : List A.K) → Each Ranked l → (k : A.K) → Ranked k
-          → unranked o A sameA choices observations n l k ≡ unranked o B sameB choices observations n (map named l) (named k)
+          → unranked o A same_a choices observations n l k ≡ unranked o B same_b choices observations n (map named l) (named k)
       unranked_image l each k p =
           elim (test (A.final k)) [
             | inl t ↦ rw (t, unranked, R.named_final k p.0 ∙ t)
@@ -169,34 +169,34 @@ module _ {A B : Arena} {sameA : A.K → A.K → Bool} {sameB : B.K → B.K → B
                 rw (f, unranked, R.named_final k p.0 ∙ f)
                 (choice_ext o observations _ _ _ _ some_observation (λ s sb. answer_image o n k p.0 f s sb) (λ s sb.
                 let (cb, q) = next_ranked k p f s sb in
-                sym (index_image sameA sameB named Ranked (λ i j u v. R.one i j u.0 v.0) (A.move k (answer k s) s) l q each)
-                ∙ ap (λ j. index_in sameB j (map named l)) (sym (R.named_move k p.0 f (answer k s) cb s sb)
+                sym (index_image same_a same_b named Ranked (λ i j u v. R.one i j u.0 v.0) (A.move k (answer k s) s) l q each)
+                ∙ ap (λ j. index_in same_b j (map named l)) (sym (R.named_move k p.0 f (answer k s) cb s sb)
                 ∙ ap (λ c. B.move (named k) c s) (answer_image o n k p.0 f s sb))))
           ]
 
       row_image : (l : List A.K) → Each Ranked l → (k : A.K) → Ranked k
-          → row_of o A sameA choices observations n l k ≡ row_of o B sameB choices observations n (map named l) (named k)
+          → row_of o A same_a choices observations n l k ≡ row_of o B same_b choices observations n (map named l) (named k)
       row_image l each k p = ap₂ (with_rank o) (from_image o n k p.0) (unranked_image l each k p)
 
-      pub cells_image : table_cells o A sameA choices observations n ≡ table_cells o B sameB choices observations n
+      pub cells_image : table_cells o A same_a choices observations n ≡ table_cells o B same_b choices observations n
       cells_image =
-          let l : List A.K = rows o A sameA choices observations n in
-          flat_image named Ranked (row_of o A sameA choices observations n l) (row_of o B sameB choices observations n (map named l))
+          let l : List A.K = rows o A same_a choices observations n in
+          flat_image named Ranked (row_of o A same_a choices observations n l) (row_of o B same_b choices observations n (map named l))
           (row_image l table_rows.1) l table_rows.1
-          ∙ ap (λ m. flat_map (row_of o B sameB choices observations n m) m) (sym table_rows.0)
+          ∙ ap (λ m. flat_map (row_of o B same_b choices observations n m) m) (sym table_rows.0)
 
     -- the verdict is the same
-    pub verdict_image : verdict_of o A sameA choices observations n ≡ verdict_of o B sameB choices observations n
+    pub verdict_image : verdict_of o A same_a choices observations n ≡ verdict_of o B same_b choices observations n
     verdict_image =
         at (ltb r n) refl ∙ ap pick (from_image o n A.start R.met_start ∙ ap (rank_from o B choices observations n) R.named_start)
       where
         pick : ℕ → Verdict
-        pick q = cond (ltb q n) (solved (length (rows o B sameB choices observations n)) q (table_cells o B sameB choices observations n)) unrealizable
+        pick q = cond (ltb q n) (solved (length (rows o B same_b choices observations n)) q (table_cells o B same_b choices observations n)) unrealizable
 
         at : (b : Bool) → ltb r n ≡ b
-            → cond (ltb r n) (solved (length (rows o A sameA choices observations n)) r (table_cells o A sameA choices observations n)) unrealizable ≡ pick r
+            → cond (ltb r n) (solved (length (rows o A same_a choices observations n)) r (table_cells o A same_a choices observations n)) unrealizable ≡ pick r
         at true e =
             let low = ltb-true r n e in
-            let count = sym (length-map (rows o A sameA choices observations n) named) ∙ ap length (sym (table_rows low).0) in
+            let count = sym (length-map (rows o A same_a choices observations n) named) ∙ ap length (sym (table_rows low).0) in
             rw e (ap₂ (λ l t. solved l r t) count (cells_image low))
         at false e = rw e

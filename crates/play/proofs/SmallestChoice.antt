@@ -83,8 +83,8 @@ module _ (A : Arena) (choices observations : ℕ) where
       let q = first_that some n in
       let c = first_that (leads q k s) choices in
       let r_some = all_at observations (λ s. any choices (leads r k s)) (goes_on_lem (order_of Read choices observations) A k r a) s sb in
-      let (qb, q-some) = first_of some n r (omega arith) r_some in
-      let (d, db, t) = any_at choices (leads q k s) q-some in
+      let (qb, q_some) = first_of some n r (omega arith) r_some in
+      let (d, db, t) = any_at choices (leads q k s) q_some in
       let (cb, w) = first_of (leads q k s) choices d db t in
       let low : (d p : ℕ) → d < choices → p < q → leads p k s d ≡ false =
       λ d p db pb. any_not choices (leads p k s) (first_least some n p pb) d db in (

@@ -25,7 +25,7 @@ module _ (A : Arena) (same : A.K → A.K → Bool) (choices observations : ℕ) 
 
 -- a table with its row count and worst case, or "unrealizable"
 pub data Verdict : Type 0 where
-  solved : (row_count worstCase : ℕ) (cells : List ℕ) → Verdict
+  solved : (row_count worst_case : ℕ) (cells : List ℕ) → Verdict
   unrealizable : Verdict
 
 module _ (o : Order) (A : Arena) (same : A.K → A.K → Bool) (choices observations : ℕ) where

@@ -208,7 +208,7 @@ module _ {source p₀ : List ℕ} {at line : ℕ} {s : Sizes} {spans p : List �
         states_going φ i t q =
             let kept = g.kept in
             let f : Option Formula = joined_lines g.draft.lines in
-            let joined-now : joined_lines (g.draft.lines ++ (rule φ ∷ [])) ≡ some (joined f φ) = joined_more g.draft.lines φ in
+            let joined_now : joined_lines (g.draft.lines ++ (rule φ ∷ [])) ≡ some (joined f φ) = joined_more g.draft.lines φ in
             let small = stating line (between source at end) (signals_in source s spans) s.parts s.operators s.order φ i in
             let sizes : more_parts (size φ) (operators φ) s ≡ t = same_sizes _ t (sym (ap (λ f. reading_after f s) i) ∙ sym d.reading ∙ q) in
             let here : spans' ≡ spans = d.spans_left ∙ ap (λ f. spans_after f s (at + tab_place (between source at end) + 1) end spans) i in
@@ -220,12 +220,12 @@ module _ {source p₀ : List ℕ} {at line : ℕ} {s : Sizes} {spans p : List �
               numbered = omega (arith, g.numbered, line_in);
               rest = rw (add-one line) (goes_on_lem (states φ) i);
               signals = g.signals;
-              parts = ap size_in joined-now ∙ sym (size_joined f φ) ∙ ap (λ n. n + size φ + joint n) g.parts;
-              operators = ap operators_in joined-now ∙ sym (operators_joined f φ) ∙ ap (λ n. n + operators φ) g.operators;
+              parts = ap size_in joined_now ∙ sym (size_joined f φ) ∙ ap (λ n. n + size φ + joint n) g.parts;
+              operators = ap operators_in joined_now ∙ sym (operators_joined f φ) ∙ ap (λ n. n + operators φ) g.operators;
               order = g.order;
               stored = ap (λ n. stored_from (added_parts φ n) n p) (sym g.parts)
                   ∙ ap (stored_from (added_parts φ (size_in f)) (size_in f)) g.stored
-                  ∙ stored_joined f φ p₀ ∙ ap (λ x. stored_from (written x) 0 p₀) (sym joined-now);
+                  ∙ stored_joined f φ p₀ ∙ ap (λ x. stored_from (written x) 0 p₀) (sym joined_now);
               kept = record {
                 spans_in = kept.spans_in;
                 outputs_few = kept.outputs_few;
@@ -289,9 +289,9 @@ module _ {source p₀ : List ℕ} {at line : ℕ} {s : Sizes} {spans p : List �
     pub some_formula : (s.parts ≡ 0 → ⊥) → (t : Sizes) → t ≡ fix_order (order_in s) s → (Accepted t ≡ reading_of whole) × PartsRead whole p₀ p
     unfolding written
     some_formula z t i =
-        let some-line : ¬ (g.draft.lines ≡ []) = λ e. z (sym g.parts ∙ ap (λ ls. size_in (joined_lines ls)) e) in
-        let (φ, e) = joined_some g.draft.lines some-line in
-        rw (finished, finish_some g.draft.signals g.draft.order g.draft.lines some-line, i)
+        let some_line : ¬ (g.draft.lines ≡ []) = λ e. z (sym g.parts ∙ ap (λ ls. size_in (joined_lines ls)) e) in
+        let (φ, e) = joined_some g.draft.lines some_line in
+        rw (finished, finish_some g.draft.signals g.draft.order g.draft.lines some_line, i)
         (rw (g.signals, g.order, e, sym (ap size_in e) ∙ g.parts, sym (ap operators_in e) ∙ g.operators)
         (refl, g.stored ∙ ap (λ f. stored_from (written f) 0 p₀) e))
 

@@ -83,8 +83,8 @@ module _ (c : Counts) (few : (c.outputs ≤ kind_limit) × (c.observed ≤ kind_
 
   first_bad : {π : Trace} {step : ℕ} → FirstBad c π step → (n : ℕ) → bad_step c (suc n) π ≡ some (n + step)
   unfolding bad_step
-  first_bad (first {a = a} none-such) n =
-      elim (test (is_letter c a)) [ inl e ↦ absurd (none-such ((letter_iff c few a).0 e)) | inr e ↦ rw (e, add-one n) ]
+  first_bad (first {a = a} none_such) n =
+      elim (test (is_letter c a)) [ inl e ↦ absurd (none_such ((letter_iff c few a).0 e)) | inr e ↦ rw (e, add-one n) ]
   first_bad (later {a = a} {i = i} l f) n =
       let z : suc n + i ≡ n + suc i = omega arith in
       rw ((letter_iff c few a).1 l) (first_bad f (suc n) ∙ ap some z)

@@ -120,8 +120,8 @@ reads_small s (ordered o first) =
 
 make_within : {d : Draft} {ls : List SourceLine} {p : Problem} → Small d → Make d ls p → Within p × Held (problem_parts p)
 unfolding CodedIn parts_of
-make_within s (done {d = d} some-line) =
-    let (φ, e) = joined_some d.lines some-line in
+make_within s (done {d = d} some_line) =
+    let (φ, e) = joined_some d.lines some_line in
     let small : size φ ≤ part_limit = subst (λ f. size_in f ≤ part_limit) e s.parts in
     let few : operators φ ≤ operator_limit = subst (λ f. operators_in f ≤ operator_limit) e s.operators in
     let held : Held (parts_of φ) = subst CodedIn e s.coded 0 (omega arith) in

@@ -33,7 +33,7 @@ map_numbers f g l n e h =
     map_table f n (λ i. i) ∙ tabulate_ext n f (λ i. g (get_or l i 0)) h ∙ ap (λ k. tabulate k (λ i. g (get_or l i 0))) e
     ∙ sym (ap (map g) (sym (table_take (length l) l (le_refl (length l)) ∙ take-length l)) ∙ map_table g (length l) (λ i. get_or l i 0))
 
-module _ (ps : List Part) (letters : List ℕ) (d n : ℕ) (maps firsts : List ℕ) (is-d : d ≡ operators_of ps) (is-n : n ≡ length letters)
+module _ (ps : List Part) (letters : List ℕ) (d n : ℕ) (maps firsts : List ℕ) (is-d : d ≡ operators_of ps) (is_n : n ≡ length letters)
     (m : MapsOf ps letters d n maps firsts) where
   abbrev by_map : ℕ → ℕ → ℕ
   by_map = map_in maps firsts d
@@ -51,7 +51,7 @@ module _ (ps : List Part) (letters : List ℕ) (d n : ℕ) (maps firsts : List �
 
   steps_same : (s : PatternSet) → next_sets d by_map (below n) s ≡ next_sets d (back ps) letters s
   unfolding next_sets
-  steps_same s = map_numbers (next d by_map s) (next d (back ps) s) letters n is-n (next_same s)
+  steps_same s = map_numbers (next d by_map s) (next d (back ps) s) letters n is_n (next_same s)
 
   states_same : (limit : ℕ) → reachable_sets d by_map (below n) limit ≡ states_of ps letters limit
   unfolding reachable_sets states_of
@@ -61,7 +61,7 @@ module _ (ps : List Part) (letters : List ℕ) (d n : ℕ) (maps firsts : List �
 
   row_same : (xs : List PatternSet) (s : PatternSet) → row_of d by_map (below n) xs s ≡ row_of d (back ps) letters xs s
   unfolding row_over
-  row_same xs s = map_numbers _ _ letters n is-n (λ a h. ap (λ t. index_in same_set t xs) (next_same s a h))
+  row_same xs s = map_numbers _ _ letters n is_n (λ a h. ap (λ t. index_in same_set t xs) (next_same s a h))
 
   successors_same : (l : Listing PatternSet) → successors_of d by_map (below n) l ≡ successors_of d (back ps) letters l
   successors_same (closed xs) = ap (λ (f : PatternSet → List ℕ). flat_map (λ s. padded letter_limit (f s)) xs) (λ i s. row_same xs s i)

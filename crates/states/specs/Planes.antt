@@ -26,7 +26,7 @@ pub record Sized (codes : List ℕ) (s : Sizes) : Type 0 where
   pub hidden_few : s.hidden ≤ kind_limit
   pub signals_few : s.outputs + s.observed + s.hidden ≤ signal_limit
 
--- ---- the words of letters: entry a * slotSize + k of a plane is bit k of the patterns that letter a carries back
+-- ---- the words of letters: entry a * slot_size + k of a plane is bit k of the patterns that letter a carries back
 
 -- where the words of letter a begin in plane w
 abbrev pub slot_at : ℕ → ℕ → ℕ

@@ -3,7 +3,7 @@ ghost use Rattle.std.specs.Prelude.{◌≡◌, ◌++◌, ◌<◌, ◌≤◌, ◌
 ghost use Rattle.formula.specs.Codes.{parts_in};
 ghost use Rattle.basics.specs.Limits.{index_limit};
 ghost use Rattle.search.specs.Limits.{letter_limit};
-ghost use Rattle.obligations.specs.Obligation.{operators_of, spots as spotsOf};
+ghost use Rattle.obligations.specs.Obligation.{operators_of, spots as spots_of};
 ghost use Rattle.obligations.specs.Values.{Stored, numbers_of, block_size, values_to};
 ghost use Rattle.states.specs.Limits.{slot_size, plane_size, plane_count};
 ghost use Rattle.states.specs.Planes.{carried_lane, plane, planes_to};
@@ -19,7 +19,7 @@ fn carried_lane(parts: &[u32], spots: &[u8], d: usize, v: &[u64], x: usize, k: u
     requires parts_nonzero { 0 < length parts.now }
     requires parts_len_bound { length parts.now ≤ index_limit }
     requires d_value { d ≡ operators_of (parts_in parts.now) }
-    requires spots_value { take d spots.now ≡ spotsOf (parts_in parts.now) }
+    requires spots_value { take d spots.now ≡ spots_of (parts_in parts.now) }
     requires v_len { length v.now ≡ index_limit * block_size }
     requires x_lt_block_size { x < block_size }
     ensures { result ≡ carried_lane (parts_in parts.now) spots.now d v.now x k }
@@ -51,7 +51,7 @@ fn put_block(
     requires stored { Stored parts.now }
     requires d_value { d ≡ operators_of (parts_in parts.now) }
     requires numbers_value { take (length parts.now) numbers.now ≡ numbers_of (parts_in parts.now) }
-    requires spots_value { take d spots.now ≡ spotsOf (parts_in parts.now) }
+    requires spots_value { take d spots.now ≡ spots_of (parts_in parts.now) }
     requires letters_len { length letters.now ≡ block_size }
     requires v_len { length v.old ≡ index_limit * block_size }
     requires words_len { length words.old ≡ block_size * slot_size }
@@ -80,7 +80,7 @@ fn put_plane(
     requires stored { Stored parts.now }
     requires d_value { d ≡ operators_of (parts_in parts.now) }
     requires numbers_value { take (length parts.now) numbers.now ≡ numbers_of (parts_in parts.now) }
-    requires spots_value { take d spots.now ≡ spotsOf (parts_in parts.now) }
+    requires spots_value { take d spots.now ≡ spots_of (parts_in parts.now) }
     requires letters_len { length letters.now ≡ letter_limit }
     requires block_size_bound { blocks * block_size ≤ letter_limit }
     requires words_len { length words.old ≡ plane_size }

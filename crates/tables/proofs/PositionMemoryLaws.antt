@@ -102,10 +102,10 @@ module _ (n choices observations : ℕ) (moves finals ranks : List ℕ) (P : Pos
       let leads : ℕ → ℕ → Bool = λ r c. leads_within Read A choices observations r k c s in
       let is : next_rank Read A choices observations n k s ≡ least_below f choices n =
       first_ext n _ _ (λ r b. any_ext choices _ _ (λ c cb. within_read Read e r b c s cb sb)) in
-      let can-go : any choices (leads q) ≡ true =
+      let can_go : any choices (leads q) ≡ true =
       all_at observations (λ t. any choices (λ c. leads_within Read A choices observations q k c t))
       (goes_on_lem (order_of Read choices observations) A k q a) s sb in
-      let some : next_rank Read A choices observations n k s < n = (first_of (λ r. any choices (leads r)) n q (omega arith) can-go).0 in
+      let some : next_rank Read A choices observations n k s < n = (first_of (λ r. any choices (leads r)) n q (omega arith) can_go).0 in
       let some' : least_below f choices n < n = omega arith in
       first_within f choices n some'
       ∙ first_ext choices _ _ (λ c cb. sym (within_read Read e (least_below f choices n) some' c s cb sb))

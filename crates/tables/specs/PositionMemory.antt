@@ -1,4 +1,4 @@
--- Positions, ranks and rows in memory. Positions are numbers below n. Entry i * pairLimit + s * choices + c of `moves` is where choice c and
+-- Positions, ranks and rows in memory. Positions are numbers below n. Entry i * pair_limit + s * choices + c of `moves` is where choice c and
 -- observation s lead from position i; entry i of `finals` is 1 where position i is final.
 -- Assumes nothing.
 use Rattle.std.specs.Prelude.{ℕ, suc, ◌+◌, ◌*◌, ◌≤◌, ◌<◌, ◌≡◌, Bool, cond, List, eqb, leb, ltb, length, get_or, set}

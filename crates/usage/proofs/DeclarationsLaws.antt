@@ -47,11 +47,11 @@ module _ (source : List ℕ) (at : ℕ) (h : at < length source) where
       go false e =
           let past_end : length source ≤ end = ltb-false _ _ e in
           let inside = past_in not_line_end source at (omega arith) in
-          let is-end : end ≡ length source = omega (arith, past_end, inside) in
+          let is_end : end ≡ length source = omega (arith, past_end, inside) in
           let none : [] ≡ lines (behind not_line_end here) = sym (lines_none source end past_end) ∙ ap lines (behind_end not_line_end source at past_end) in (
             unended here,
-            lines_unended source at end refl h is-end ∙ ap (λ ls. unended here ∷ ls) none,
-            sym (take-length here) ∙ ap (λ n. take n here) (length-drop at source ∙ ap (λ n. n - at) (sym is-end)) ∙ piece_is not_line_end source at,
+            lines_unended source at end refl h is_end ∙ ap (λ ls. unended here ∷ ls) none,
+            sym (take-length here) ∙ ap (λ n. take n here) (length-drop at source ∙ ap (λ n. n - at) (sym is_end)) ∙ piece_is not_line_end source at,
           )
 
   abbrev named : List ℕ

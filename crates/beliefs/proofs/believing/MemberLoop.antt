@@ -104,7 +104,7 @@ unfolding after_members
 after_next successors members q pairs hiddens c = refl
 
 module _ (successors members : List ℕ) (n count pairs hiddens q : ℕ) (few : n ≤ state_limit) (right : Successors successors n pairs hiddens)
-    (g : Members n members count) (q-lt : q < pairs) where
+    (g : Members n members count) (q_lt : q < pairs) where
   -- letters of all pairs lead to states
   pub members_lead : Leads successors pairs hiddens members count
   members_lead = record { small = λ i a h l. omega (arith, right.inside (get_or members i 0) a (g.small i h) l) }
@@ -118,7 +118,7 @@ module _ (successors members : List ℕ) (n count pairs hiddens q : ℕ) (few : 
   after_bits (suc c) h =
       subst (λ l. Bits l (reaches (suc c))) (sym (after_next successors members q pairs hiddens c))
       (bits_same _ (bits_hidden (after_bits c (omega arith)) successors (get_or members c 0) q pairs hiddens
-      (λ k l. omega (arith, state_bits, members_lead.small c (q + k * pairs) h (letter_lt q pairs k hiddens q-lt l))))
+      (λ k l. omega (arith, state_bits, members_lead.small c (q + k * pairs) h (letter_lt q pairs k hiddens q_lt l))))
       (λ p l. or_comm (reaches c p) (leads_to successors q pairs hiddens (get_or members c 0) p)
       ∙ sym (any_suc c (λ i. leads_to successors q pairs hiddens (get_or members i 0) p))))
 
@@ -132,7 +132,7 @@ module _ (successors members : List ℕ) (n count pairs hiddens q : ℕ) (few : 
         let (k, kb, e) = any_at hiddens _ y in
         absurd (omega (
           arith,
-          right.inside (get_or members i 0) (q + k * pairs) (g.small i l) (letter_lt q pairs k hiddens q-lt kb),
+          right.inside (get_or members i 0) (q + k * pairs) (g.small i l) (letter_lt q pairs k hiddens q_lt kb),
           eqb-true (successor_in successors (get_or members i 0) (q + k * pairs)) p e,
         ))
   ]

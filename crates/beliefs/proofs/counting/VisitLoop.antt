@@ -175,7 +175,7 @@ module _ (sets successors : List ℕ) (n pairs hiddens : ℕ) where
     pub turn_ran : k ≤ i → n ≤ state_limit → pairs ≤ pair_limit → length mem ≡ (belief_limit + 1) * belief_size → length moves ≡ belief_limit * pair_limit
         → (finals : List ℕ) → Marked sets n mem i finals
         → (Found k ≡ explored_of counted) × RanBeliefs sets successors n pairs hiddens counted moves finals
-    turn_ran none_left few few-pairs room space finals g = (
+    turn_ran none_left few few_pairs room space finals g = (
       turn_answer t none_left,
       subst (λ l. RanBeliefs sets successors n pairs hiddens l moves finals) (sym (turn_closed t none_left))
           (rows.1, marked_all sets n mem k i finals g none_left t.few),
@@ -184,5 +184,5 @@ module _ (sets successors : List ℕ) (n pairs hiddens : ℕ) where
         rows : RanRows mem moves (closed (beliefs_in n mem k))
         rows =
             subst (RanRows mem moves) (turn_closed t none_left)
-            (turn_left t none_left (belief_packing n few) (omega arith) (λ b. le_trans (pairs_le sets n pairs b) few-pairs)
+            (turn_left t none_left (belief_packing n few) (omega arith) (λ b. le_trans (pairs_le sets n pairs b) few_pairs)
             (omega (arith, t.few, room)) (omega (arith, t.few, space)))

@@ -25,7 +25,7 @@ use Rattle.play.specs.Limits.{belief_limit, pair_limit}
 use Rattle.play.specs.Rank.{Arena}
 use Rattle.play.specs.Belief.{Belief}
 use Rattle.play.specs.Table.{list_of}
-use Rattle.play.specs.Answer.{moves, positions, verdict_of, cells_of as verdictCells}
+use Rattle.play.specs.Answer.{moves, positions, verdict_of, cells_of as verdict_cells}
 use Rattle.tables.specs.Outcome.{outcome_of}
 use Rattle.game.specs.Solution.{Solution, too_many_beliefs, verdict, solution_of}
 use Rattle.game.specs.SolvedAs.{solved_with, solved_of, cells_of}
@@ -76,7 +76,7 @@ module _ (sets successors : List ℕ) (n choices observations hiddens : ℕ) (w 
 
 -- ---- the verdict from them is that from the beliefs
 
-module _ (sets successors : List ℕ) (n choices observations hiddens : ℕ) (few-pairs : choices * observations ≤ pair_limit)
+module _ (sets successors : List ℕ) (n choices observations hiddens : ℕ) (few_pairs : choices * observations ≤ pair_limit)
     (limit : ℕ) (bs : List Belief) (tried : counted_beliefs sets successors n (choices * observations) hiddens limit ≡ closed bs) where
   abbrev A : Arena
   A = beliefs_in sets successors n choices observations hiddens
@@ -115,7 +115,7 @@ module _ (sets successors : List ℕ) (n choices observations hiddens : ℕ) (fe
         → get_or rows (i * pair_limit + s * choices + c) 0 ≡ number (A.move (at i) c s)
     move_at i c s h f cb sb =
         ap₂ (λ t k. get_or t k 0) rows_are (add_assoc (i * pair_limit) (s * choices) c)
-        ∙ beliefs_entry sets successors n pairs hiddens limit bs tried few-pairs size i (s * choices + c) A.start h f
+        ∙ beliefs_entry sets successors n pairs hiddens limit bs tried few_pairs size i (s * choices + c) A.start h f
         (pair_lt choices observations c s cb sb)
         ∙ ap number (sym (pair_move sets successors n choices observations hiddens (at i) c s))
 
@@ -154,7 +154,7 @@ module _ (o : Order) (sets successors : List ℕ) (n choices observations hidden
       → (rows : List ℕ) → rows ≡ padded (belief_limit * pair_limit) (moves_of sets successors n (choices * observations) hiddens counts)
       → (finals room : List ℕ) → finals ≡ written (finals_of sets n (list_of counts)) room
       → (x : Outcome) (table table' : List ℕ) → x ≡ outcome_of (verdict_of o (arena_in choices rows finals) eqb choices observations k)
-      → table' ≡ written (verdictCells (verdict_of o (arena_in choices rows finals) eqb choices observations k)) table
+      → table' ≡ written (verdict_cells (verdict_of o (arena_in choices rows finals) eqb choices observations k)) table
       → Answered o observed solution (solved_with o observed x) table table'
   unfolding memory_solution
   solved_verdict w k got rows rows_are finals room marked x table table' e f =

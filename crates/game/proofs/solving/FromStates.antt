@@ -93,8 +93,8 @@ module _ (codes : List ℕ) (s : Sizes) where
           few_letters = subst (λ m. m ≤ letter_limit) (letter_count_lem c) (letters_few c sized.signals_few);
         })
 
-  module _ (sized : Sized codes s) (a b : ℕ) (sets successors : List ℕ) (sets-are : sets ≡ padded a (sets_of l))
-      (successors-are : successors ≡ padded b (successors_of s.operators (back ps) (letters_of c) l)) (n : ℕ) (got : Found n ≡ explored_of l) where
+  module _ (sized : Sized codes s) (a b : ℕ) (sets successors : List ℕ) (sets_are : sets ≡ padded a (sets_of l))
+      (successors_are : successors ≡ padded b (successors_of s.operators (back ps) (letters_of c) l)) (n : ℕ) (got : Found n ≡ explored_of l) where
     abbrev found : (xs : List PatternSet) × (l ≡ closed xs) × (length xs ≡ n)
     found = counted_some l n got
 
@@ -102,7 +102,7 @@ module _ (codes : List ℕ) (s : Sizes) where
     xs = found.0
 
     successors_of_lem : successors ≡ padded b (successors_of (operators_of ps) (back ps) (letters_of c) l)
-    successors_of_lem = successors-are ∙ ap (λ d. padded b (successors_of d (back ps) (letters_of c) l)) sized.operators_are
+    successors_of_lem = successors_are ∙ ap (λ d. padded b (successors_of d (back ps) (letters_of c) l)) sized.operators_are
 
     pub states_successors : Successors successors n (choices * observations) hiddens
     states_successors =
@@ -127,7 +127,7 @@ module _ (codes : List ℕ) (s : Sizes) where
         ∙ ap₂ (λ x y. memory_solution o sets successors (length xs) x y hiddens) (choices_are sized) (observations_are sized)
         ∙ ap (memory_solution o sets successors (length xs) (2 ^ s.outputs) (2 ^ s.observed)) (hiddens_are sized)
         ∙ memory_same (automaton_of ps xs) (2 ^ s.outputs) (2 ^ s.observed) (2 ^ s.hidden) letter_from sets successors
-        (explored_tables ps c sized.signals_few xs found.1 a sets sets-are b successors successors_of_lem) o (pow_pos s.outputs) (pow_pos s.observed)
+        (explored_tables ps c sized.signals_few xs found.1 a sets sets_are b successors successors_of_lem) o (pow_pos s.outputs) (pow_pos s.observed)
         ∙ ap (solution_from o ps c) (sym found.1)
 
     pub solved_some : (o : Order) → o ≡ order_in s → (r : Solved) (table table' : List ℕ)

@@ -12,13 +12,13 @@ use Rattle.tables.specs.declared.shape.Shape.{Shape}
 use Rattle.loader.specs.Candidate.{row_in}
 use Rattle.loader.proofs.CandidateLaws.{row_length}
 
-module _ (shape : Shape) (line cells₀ : List ℕ) (row size : ℕ) (is-size : size ≡ row_size shape.order)
+module _ (shape : Shape) (line cells₀ : List ℕ) (row size : ℕ) (is_size : size ≡ row_size shape.order)
     (room : row * row_size shape.order + row_size shape.order ≤ length cells₀) where
   abbrev cells : List ℕ
   cells = row_in shape line
 
   ends : row * size + length cells ≤ length cells₀
-  ends = rw (is-size, row_length shape line) room
+  ends = rw (is_size, row_length shape line) room
 
   pub cell_place : (i : ℕ) → i < size → row * size + i < length cells₀
   cell_place i h = omega (arith, ends, row_length shape line)
@@ -33,5 +33,5 @@ module _ (shape : Shape) (line cells₀ : List ℕ) (row size : ℕ) (is-size : 
 
     pub cells_all : i ≡ size → w ≡ sets cells₀ (row * row_size shape.order) cells
     cells_all e =
-        (paste_all cells₀ (row * size) cells i ends (e ∙ is-size ∙ sym (row_length shape line)) w so_far).1
-        ∙ ap (λ k. sets cells₀ (row * k) cells) is-size
+        (paste_all cells₀ (row * size) cells i ends (e ∙ is_size ∙ sym (row_length shape line)) w so_far).1
+        ∙ ap (λ k. sets cells₀ (row * k) cells) is_size

@@ -22,22 +22,22 @@ pub not_both : (i m n : ℕ) → ltb i m && ltb i n ≡ false → i < m → i < 
 not_both i m n e h k = clash (and_true (lt-ltb i m h) (lt-ltb i n k)) e
 
 module _ (a b : List ℕ) (n i : ℕ) where
-  module _ (in-a : i < length a) (in_b : i < length b) where
+  module _ (in_a : i < length a) (in_b : i < length b) where
     pub differs_here : (get_or a i 0 ≡ get_or b i 0 → ⊥) → n ≡ difference n (drop i a) (drop i b)
     unfolding difference
-    differs_here ne = rw (drop-cons a i 0 in-a, drop-cons b i 0 in_b, ne_eqb _ _ ne) refl
+    differs_here ne = rw (drop-cons a i 0 in_a, drop-cons b i 0 in_b, ne_eqb _ _ ne) refl
 
     module _ (same : get_or a i 0 ≡ get_or b i 0) where
       pub line_more : get_or a i 0 ≡ 10 → difference n (drop i a) (drop i b) ≡ difference (n + 1) (drop (i + 1) a) (drop (i + 1) b)
       unfolding difference
-      line_more e = rw (drop-cons a i 0 in-a, drop-cons b i 0 in_b, eq-eqb _ _ same, eq-eqb _ _ e, add-one n, add-one i) refl
+      line_more e = rw (drop-cons a i 0 in_a, drop-cons b i 0 in_b, eq-eqb _ _ same, eq-eqb _ _ e, add-one n, add-one i) refl
 
       pub line_same : (get_or a i 0 ≡ 10 → ⊥) → difference n (drop i a) (drop i b) ≡ difference n (drop (i + 1) a) (drop (i + 1) b)
       unfolding difference
-      line_same ne = rw (drop-cons a i 0 in-a, drop-cons b i 0 in_b, eq-eqb _ _ same, ne_eqb _ _ ne, add-one i) refl
+      line_same ne = rw (drop-cons a i 0 in_a, drop-cons b i 0 in_b, eq-eqb _ _ same, ne_eqb _ _ ne, add-one i) refl
 
   -- one of them ends, or both
-  module _ (in-a : i ≤ length a) (in_b : i ≤ length b) (ends : i < length a → i < length b → ⊥) where
+  module _ (in_a : i ≤ length a) (in_b : i ≤ length b) (ends : i < length a → i < length b → ⊥) where
     pub both_end : length a ≡ length b → 0 ≡ difference n (drop i a) (drop i b)
     unfolding difference
     both_end e =

@@ -111,9 +111,9 @@ module _ (d : ℕ) (maps firsts mem₀ : List ℕ) (i n : ℕ) where
           × ((i < m) × ((m ≤ state_limit) × ((length mem ≡ (state_limit + 1) * set_size) × (present ≡ bits_in d mem i)))))))
       put_set_asked =
           let g = z.1 in
-          let is-map = subst (IsMap d maps) own (g.right.kept a within) in
+          let is_map = subst (IsMap d maps) own (g.right.kept a within) in
           let bits = g.bits ∙ ap (λ s. spread (set_bytes s)) (sym z.2.1) in
-          (g.small, (g.size, (omega (arith, within, g.few), (is-map, (z.2.0, (z.0.1, (z.0.2 ∙ g.room, bits)))))))
+          (g.small, (g.size, (omega (arith, within, g.few), (is_map, (z.2.0, (z.0.1, (z.0.2 ∙ g.room, bits)))))))
 
       -- its set is written behind the others, and found at place t
       module _ (new : List ℕ) (t : ℕ) (written : new ≡ with_next d (map_at maps d) mem i (a ∷ []) m)

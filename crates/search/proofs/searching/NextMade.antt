@@ -22,12 +22,12 @@ abbrev pub entries : List ℕ → ℕ → List ℕ
 entries maps a = take (a * map_size + map_size - a * map_size) (drop (a * map_size) maps)
 
 module _ (d : ℕ) (few : d ≤ operator_limit) (maps : List ℕ) (a : ℕ) (size : length maps ≡ letter_limit * map_size) (l : a < letter_limit)
-    (is-map : IsMap d maps a) where
+    (is_map : IsMap d maps a) where
   entries_length : length (entries maps a) ≡ map_size
   entries_length = part_length (a * map_size) map_size maps (omega (arith, size, l))
 
   stored : (q : ℕ) → q < half_of d * 8 → get_or (entries maps a) q 0 ≡ map_at maps d a q
-  stored q j = part_at (a * map_size) map_size maps q (omega (arith, half_map d few)) ∙ is-map.entry q (half_stored d q j)
+  stored q j = part_at (a * map_size) map_size maps q (omega (arith, half_map d few)) ∙ is_map.entry q (half_stored d q j)
 
   -- a map reads the low bits only
   reads : (p q : ℕ) → p % 2 ^ d ≡ q % 2 ^ d → map_at maps d a p ≡ map_at maps d a q
@@ -42,7 +42,7 @@ module _ (d : ℕ) (few : d ≤ operator_limit) (maps : List ℕ) (a : ℕ) (siz
     present_length = ap length bits ∙ spread_length _ ∙ ap (λ n. n * 8) (packed_length set_size _)
 
     entries_fit : EachBelow (h * 8) (length present) (entries maps a)
-    entries_fit = record { small = λ q j. omega (arith, present_length, stored q (omega (arith, half)), is-map.fits q, set_room d few) }
+    entries_fit = record { small = λ q j. omega (arith, present_length, stored q (omega (arith, half)), is_map.fits q, set_room d few) }
 
     -- what `put_next` asks, but for the room in its place; the bytes that differ are few
     pub put_next_asked : EachBelow (length present) 2 present × (h * 8 ≤ length (entries maps a)) × EachBelow (h * 8) (length present) (entries maps a)
@@ -55,5 +55,5 @@ module _ (d : ℕ) (few : d ≤ operator_limit) (maps : List ℕ) (a : ℕ) (siz
     pub next_made : next_bytes set_size present (entries maps a) h ≡ set_bytes (next_all d (map_at maps d) (set_in d mem i) (a ∷ []))
     next_made =
         ap (λ s. next_bytes set_size s (entries maps a) h) bits ∙ ap (next_bytes set_size (bits_in d mem i) (entries maps a)) half
-        ∙ next_packed set_size d (set_room d few) (set_in d mem i) (length_item_in set_size (2 ^ suc d) mem i) (map_at maps d) a (entries maps a) stored reads is-map.fits
+        ∙ next_packed set_size d (set_room d few) (set_in d mem i) (length_item_in set_size (2 ^ suc d) mem i) (map_at maps d) a (entries maps a) stored reads is_map.fits
         ∙ ap set_bytes (sym (next_all_one d (map_at maps d) (set_in d mem i) a))

@@ -48,8 +48,8 @@ module _ (w : ℕ) (pack : List Bool → List ℕ) (f : List Bool → ℕ → Li
           let z : n ≡ length xs = cc in
           let front : take (n * w) mem ≡ items_of pack (closed xs) = ap (λ j. take (j * w) mem) z ∙ r.0 in
           let size : n * w ≡ length (items_of pack (closed xs)) = sym (length-take-le (n * w) mem room) ∙ ap length front in
-          let rest-size : length mem - n * w ≡ m - length (items_of pack (closed xs)) = omega arith in
-          whole ∙ ap₂ (λ x j. x ++ replicate j 0) front rest-size
+          let rest_size : length mem - n * w ≡ m - length (items_of pack (closed xs)) = omega arith in
+          whole ∙ ap₂ (λ x j. x ++ replicate j 0) front rest_size
       at over r p = let z : ◌≡◌ {A = ℕ} 0 1 = cc in absurd (omega arith)
 
   pub end_rows : (n m : ℕ) → Found n ≡ explored_of l → m ≡ length rows → rows ≡ padded m (rows_over same_set f steps width l)

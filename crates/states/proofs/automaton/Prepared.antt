@@ -95,13 +95,13 @@ pub prepared_all : (codes : List ℕ) → Stored codes → (letters rest whole :
     → (words₀ words : List ℕ) → length words₀ ≡ plane_count * plane_size → words ≡ planes_to (parts_in codes) whole k m words₀
     → (maps₀ maps firsts behind : List ℕ) → length maps₀ ≡ letter_limit * map_size → maps ≡ maps_to words m n maps₀
     → firsts ≡ tabulate n (first_of words) ++ behind → MapsOf (parts_in codes) letters d n maps firsts
-prepared_all codes h letters rest whole is d m n k is-d is_m is-n covers few words₀ words long e maps₀ maps firsts behind room f g =
+prepared_all codes h letters rest whole is d m n k is-d is_m is_n covers few words₀ words long e maps₀ maps firsts behind room f g =
     let ps = parts_in codes in
     let small = operators_few codes h d is-d in
     let fits : m ≤ plane_count = subst (λ x. x ≤ plane_count) (sym is_m) (planes_few d small) in
     let carried = planes_carried ps whole k words₀ m words (omega arith) (omega arith) e in
     let kept = classified words m fits maps₀ n maps firsts behind (omega arith) f g in
-    maps_front ps letters rest d n maps firsts is-n
+    maps_front ps letters rest d n maps firsts is_n
     (subst (λ l. MapsOf ps l d n maps firsts) is (prepared ps whole d m n k words maps firsts is-d small is_m covers carried kept))
 
 pub count_letters : (c : Counts) → letter_count c ≡ length (letters_of c)

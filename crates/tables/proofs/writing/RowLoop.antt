@@ -131,10 +131,10 @@ module _ (o : Order) (moves answers : List ℕ) (choices observations k m : ℕ)
 
   -- observation s leads to position t, which is found at row j
   module _ (s n : ℕ) (rows cells : List ℕ) (a : Adding s n rows cells) (inside : s < observations) (t j : ℕ)
-      (is-t : t ≡ get_or moves (k * pair_limit + s * choices + get_or answers s 0) 0) (found : j ≡ index_in eqb t (take n rows)) where
+      (is_t : t ≡ get_or moves (k * pair_limit + s * choices + get_or answers s 0) 0) (found : j ≡ index_in eqb t (take n rows)) where
     next_is : t ≡ next s
     unfolding next_of
-    next_is = is-t
+    next_is = is_t
 
     place : j ≡ index_in eqb t (rows_to s)
     place = found ∙ ap (index_in eqb t) a.front
@@ -217,13 +217,13 @@ module _ (o : Order) (moves answers : List ℕ) (choices observations k m : ℕ)
   unfolding cells_to
   adding_end s n rows cells past a rank cells' q =
       let e : rows_to s ≡ rows_all = rows_end s past in
-      let is-n : n ≡ length rows_all = a.count ∙ ap length e in
+      let is_n : n ≡ length rows_all = a.count ∙ ap length e in
       let is-s : s ≡ observations = omega (arith, a.turn) in
       let is : cells ≡ row_with o moves choices observations k answers rows_all =
       a.cells_are ∙ ap (λ i. choice_row o i (λ t. get_or answers t 0) (λ t. index_in eqb (next t) rows_all)) is-s in (
-        is-n,
+        is_n,
         (
-          sym (take-append-drop n rows) ∙ ap₂ ◌++◌ (a.front ∙ e) (a.rest ∙ ap (λ i. drop i rows₀) is-n),
+          sym (take-append-drop n rows) ∙ ap₂ ◌++◌ (a.front ∙ e) (a.rest ∙ ap (λ i. drop i rows₀) is_n),
           q ∙ rank_put o cells (row_with o moves choices observations k answers rows_all) rank is,
         ),
       )

@@ -270,11 +270,11 @@ module _ (o : Order) (n choices observations : ℕ) (moves finals : List ℕ) wh
             → length (put_mid at w table row) ≡ length table₀
         wide_more at w row is_at is-w is_row room =
             let enough : i * w + w ≤ table_size = row_room o i w (omega (arith, t.few)) is-w in
-            let here-at : at ≡ i * w = is_at ∙ ap (λ z. i * z) (sym is-w) in
-            let room-behind : w ≤ length table - at = omega (arith, t.wide) in
+            let here_at : at ≡ i * w = is_at ∙ ap (λ z. i * z) (sym is-w) in
+            let room_behind : w ≤ length table - at = omega (arith, t.wide) in
             same_len_mid at w table row
             (ap length is_row ∙ cells_length k ∙ sym is-w
-            ∙ sym (length-take-le w (drop at table) (subst (λ j. w ≤ j) (sym (length-drop at table)) room-behind)))
+            ∙ sym (length-take-le w (drop at table) (subst (λ j. w ≤ j) (sym (length-drop at table)) room_behind)))
             ∙ t.wide
 
         -- a position where the table stops
@@ -361,10 +361,10 @@ module _ (o : Order) (n choices observations : ℕ) (moves finals : List ℕ) wh
               → (r ≡ length grown) × ((new ≡ grown ++ drop (length grown) met)
               × (row ≡ with_rank o rank (row_with o moves choices observations k answers grown)))
               → (met' table' : List ℕ) (m' : ℕ) → table' ≡ put_mid at w table row → met' ≡ new → m' ≡ r → Turn table₀ (i + 1) m' met' table'
-          turn_choice at w row new rank r is_at is-w room is-rank (is-r, (is_new, is_row)) met' table' m' p q e =
+          turn_choice at w row new rank r is_at is-w room is-rank (is_r, (is_new, is_row)) met' table' m' p q e =
               let is : row ≡ cells_of k = is_row ∙ row_is rank is-rank in
               let is-met : met' ≡ grown ++ drop (length grown) met = q ∙ is_new in
-              let is_m : m' ≡ length grown = e ∙ is-r in
+              let is_m : m' ≡ length grown = e ∙ is_r in
               rw (p, is-met, is_m) (
               record {
                 read = omega (arith, grown_more);

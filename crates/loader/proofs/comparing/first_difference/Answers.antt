@@ -19,8 +19,8 @@ bounds-b-i c =
 
 pub returns-then-a-i : goal.returns-then-a-i
 returns-then-a-i c =
-    let (in-a, in_b) = in_both c.loop-i.i (length c.args.a.now) (length c.args.b.now) c.loop-i-test.true in
-    differs_here c.args.a.now c.args.b.now c.loop-i.line c.loop-i.i in-a in_b c.if-a-i.true ∙ sym c.loop-i.invariant.3
+    let (in_a, in_b) = in_both c.loop-i.i (length c.args.a.now) (length c.args.b.now) c.loop-i-test.true in
+    differs_here c.args.a.now c.args.b.now c.loop-i.line c.loop-i.i in_a in_b c.if-a-i.true ∙ sym c.loop-i.invariant.3
 
 pub bounds-a-i-in-loop-i : goal.bounds-a-i-in-loop-i
 bounds-a-i-in-loop-i c =
@@ -32,12 +32,12 @@ loop-i-smaller c =
 
 pub loop-i-preserved : goal.loop-i-preserved
 loop-i-preserved c =
-    let (in-a, in_b) = in_both c.loop-i.i (length c.args.a.now) (length c.args.b.now) c.loop-i-test.true in
+    let (in_a, in_b) = in_both c.loop-i.i (length c.args.a.now) (length c.args.b.now) c.loop-i-test.true in
     elim c.if-a-i-eq-LINE_END.branch [
       | then-a-i-eq-LINE_END w ↦ rw w.line-is
-          (omega arith, omega arith, omega arith, c.loop-i.invariant.3 ∙ line_more c.args.a.now c.args.b.now c.loop-i.line c.loop-i.i in-a in_b c.if-a-i.false w.if-a-i-eq-LINE_END.true)
+          (omega arith, omega arith, omega arith, c.loop-i.invariant.3 ∙ line_more c.args.a.now c.args.b.now c.loop-i.line c.loop-i.i in_a in_b c.if-a-i.false w.if-a-i-eq-LINE_END.true)
       | else-a-i-eq-LINE_END w ↦ rw w.line-is
-          (omega arith, omega arith, omega arith, c.loop-i.invariant.3 ∙ line_same c.args.a.now c.args.b.now c.loop-i.line c.loop-i.i in-a in_b c.if-a-i.false w.if-a-i-eq-LINE_END.false)
+          (omega arith, omega arith, omega arith, c.loop-i.invariant.3 ∙ line_same c.args.a.now c.args.b.now c.loop-i.line c.loop-i.i in_a in_b c.if-a-i.false w.if-a-i-eq-LINE_END.false)
     ]
 
 pub returns-then-a-b : goal.returns-then-a-b

@@ -20,17 +20,17 @@ returns-then-first c =
 
 pub overflow_shl-shape : goal.overflow_shl-shape
 overflow_shl-shape c =
-    omega (arith, (goes c.args.table.now c.args.shape c.args.position (holds c.args.table.now c.args.shape c.args.position _ c.is_holding.ensures (rw c.if-not-is_holding.false)) _ c.first_cell-first.ensures c.if-first.false).holds.0.sized.seen)
+    omega (arith, (goes c.args.table.now c.args.shape c.args.position (holds c.args.table.now c.args.shape c.args.position _ c.is_holding.ensures (rw c.if-not-is_holding.false)) _ c.first_cell-first.ensures (omega arith)).holds.0.sized.seen)
 
 pub returns-then-observation-shape : goal.returns-then-observation-shape
 returns-then-observation-shape c =
-    step_told _ _ _ _ _ (step_unseen (goes c.args.table.now c.args.shape c.args.position (holds c.args.table.now c.args.shape c.args.position _ c.is_holding.ensures (rw c.if-not-is_holding.false)) _ c.first_cell-first.ensures c.if-first.false) c.if-observation-shape.true _ c.refuse-then-observation-shape.ensures)
+    step_told _ _ _ _ _ (step_unseen (goes c.args.table.now c.args.shape c.args.position (holds c.args.table.now c.args.shape c.args.position _ c.is_holding.ensures (rw c.if-not-is_holding.false)) _ c.first_cell-first.ensures (omega arith)) c.if-observation-shape.true _ c.refuse-then-observation-shape.ensures)
 
 pub move_from-requires : goal.move_from-requires
 move_from-requires c =
-    let whole = step_asks (goes c.args.table.now c.args.shape c.args.position (holds c.args.table.now c.args.shape c.args.position _ c.is_holding.ensures (rw c.if-not-is_holding.false)) _ c.first_cell-first.ensures c.if-first.false) c.if-observation-shape.false in
+    let whole = step_asks (goes c.args.table.now c.args.shape c.args.position (holds c.args.table.now c.args.shape c.args.position _ c.is_holding.ensures (rw c.if-not-is_holding.false)) _ c.first_cell-first.ensures (omega arith)) c.if-observation-shape.false in
     record { order_in_bounds = whole.0; observation_lt_side_limit = whole.1.0; order_in_bounds_2 = whole.1.1 }
 
 pub returns : goal.returns
 returns c =
-    step_told _ _ _ _ _ (step_moves (goes c.args.table.now c.args.shape c.args.position (holds c.args.table.now c.args.shape c.args.position _ c.is_holding.ensures (rw c.if-not-is_holding.false)) _ c.first_cell-first.ensures c.if-first.false) c.if-observation-shape.false _ c.move_from.ensures)
+    step_told _ _ _ _ _ (step_moves (goes c.args.table.now c.args.shape c.args.position (holds c.args.table.now c.args.shape c.args.position _ c.is_holding.ensures (rw c.if-not-is_holding.false)) _ c.first_cell-first.ensures (omega arith)) c.if-observation-shape.false _ c.move_from.ensures)
