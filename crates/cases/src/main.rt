@@ -39,6 +39,7 @@ fn run(console: Console, line: &[u8]) -> bool {
 }
 
 // Runs the cases up to one that could not be written.
+#[tactic(auto, using(basics::proofs::BytesLaws::past_in))]
 fn run_lines(console: Console, input: &[u8]) -> bool {
     let mut i = 0;
     while i < input.len() {

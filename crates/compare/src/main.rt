@@ -36,6 +36,7 @@ fn run(console: Console, line: &[u8]) -> bool {
 }
 
 // Goes on up to a line that could not be written.
+#[tactic(auto, using(basics::proofs::BytesLaws::past_in))]
 fn run_lines(console: Console, input: &[u8]) -> bool {
     let mut i = 0;
     while i < input.len() {

@@ -47,6 +47,7 @@ pub enum Reading {
     Refused(Refusal),
 }
 
+#[tactic(auto, unfolding(crate::specs::Lines::word_of))]
 pub fn word_of(field: &[u8]) -> Word
     ensures { result ≡ word_of field.now }
 {

@@ -66,7 +66,7 @@ fn write_some<W: Write>(output: &mut W, text: &[u8]) -> std::io::Result<usize>
     Err(Error::from(ErrorKind::Interrupted))
 }
 
-// Writes a text, and answers whether all of it was taken. A write that takes no byte counts as failed.
+// Writes a text, and answers `Ok` where all of it was taken. A write that takes no byte counts as failed.
 fn write_whole<W: Write>(output: &mut W, text: &[u8]) -> std::io::Result<()> {
     let mut done = 0;
     while done < text.len() {
@@ -104,7 +104,7 @@ pub fn close_output(console: Console, program: &[u8]) {
     }
 }
 
-// Writes the last text, as `say` does, and closes standard output behind it.
+// Writes the last text, as `say` does, and hands on what standard output still holds.
 pub fn say_last(console: Console, program: &[u8], text: &[u8]) {
     if say(console, program, text) {
         close_output(console, program);
