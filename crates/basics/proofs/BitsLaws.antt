@@ -2,7 +2,7 @@
 -- Assumes nothing.
 use Prim.Native.Nat.{ℕ, ◌/◌, ◌^◌, ◌<◌, zero, suc, ◌+◌, ◌*◌, ◌%◌, ◌-◌, ◌≤◌}
 use native.Mathlib.Nat.{div-eq_of_lt, div-one, pow-suc, pow-succ', div-div-eq-div-mul, mul-add-mod_self_right, zero-div, div-add-mod'}
-use native.Mathlib.Nat.{mod-lt, div-lt_iff_lt-mul, mod-eq_of_lt, one-mul, add-zero, zero-add, lt_of_lt_of_le}
+use native.Mathlib.Nat.{mod-lt, div-lt_iff_lt-mul, mod-eq_of_lt, one-mul, add-zero, zero-add}
 use mathlib.Core.Path.{◌≡◌, refl, ap, sym, ap₂, ◌∙◌, subst}
 use mathlib.Core.Bool.{Bool, true, false, true≢false, false≢true}
 use lib.Bits.{bit_and, and_mask, mask_lt}
@@ -11,7 +11,7 @@ use Rattle.basics.specs.Bits.{bit, digit, from_bits}
 use native.Mathlib.Omega.{arith}
 use mathlib.Core.List.{List, [], ◌∷◌}
 use lib.Arith.{digits_div, digits_lt}
-use lib.Pow.{field, mod-mod-pow, shl_exact, pow_mono}
+use lib.Pow.{field, mod-mod-pow, shl_exact}
 use lib.ListN.{length, get_or}
 use Rattle.basics.specs.Limits.{word_size}
 use Rattle.basics.specs.Lists.{tabulate}
@@ -130,10 +130,6 @@ module _ (f : ℕ → Bool) where
   unfolding table_from from_bits
   from_none k = refl
 
-  from_lt : (k m : ℕ) → table_from f k m < 2 ^ m
-  unfolding table_from
-  from_lt k m = table_lt m (λ j. f (k + j))
-
   -- one more bit, below the others
   from_more : (k m : ℕ) → table_from f k (suc m) ≡ table_from f (suc k) m * 2 + digit (f k)
   unfolding table_from from_bits
@@ -151,10 +147,6 @@ module _ (w : ℕ) (f : ℕ → Bool) where
   pub bits_none : 0 ≡ table_from f w 0
   bits_none = sym (from_none f w)
 
-  pub bits_small : (n j : ℕ) → 0 < j → n ≡ table_from f j (w - j) → n < 2 ^ (w - 1)
-  bits_small n j h e =
-      lt_of_lt_of_le (subst (λ x. x < 2 ^ (w - j)) (sym e) (from_lt f j (w - j))) (pow_mono {i = w - j} {j = w - 1} (omega arith))
-
   pub bits_more : (n j x : ℕ) → 0 < j → j ≤ w → n ≡ table_from f j (w - j) → x ≡ digit (f (j - 1))
       → n * 2 + x ≡ table_from f (j - 1) (w - (j - 1))
   bits_more n j x h l e q =
@@ -167,18 +159,3 @@ module _ (w : ℕ) (f : ℕ → Bool) where
       let z : j ≡ 0 = omega arith in
       let all : w - j ≡ w = omega arith in
       e ∙ ap₂ (table_from f) z all
-
--- a byte
-
-pub byte_none : (f : ℕ → Bool) → 0 ≡ table_from f 8 0
-byte_none = bits_none 8
-
-pub byte_small : (f : ℕ → Bool) (n j : ℕ) → 0 < j → n ≡ table_from f j (8 - j) → n < 128
-byte_small = bits_small 8
-
-pub byte_more : (f : ℕ → Bool) (n j x : ℕ) → 0 < j → j ≤ 8 → n ≡ table_from f j (8 - j) → x ≡ digit (f (j - 1))
-    → n * 2 + x ≡ table_from f (j - 1) (8 - (j - 1))
-byte_more = bits_more 8
-
-pub byte_done : (f : ℕ → Bool) (n j : ℕ) → j ≤ 0 → n ≡ table_from f j (8 - j) → n ≡ table_from f 0 8
-byte_done = bits_done 8

@@ -17,14 +17,14 @@ put_next p d n a e h =
     ∙ sym (append_snoc p a (drop (suc n) d)) ∙ ap (λ m. p ++ (a ∷ []) ++ drop m d) (sym (add-one n))
 
 -- the same of the entries of a table
-pub table_more : (n : ℕ) (f : ℕ → ℕ) (d w : List ℕ) (v : ℕ) → n < length d → w ≡ tabulate n f ++ drop n d → v ≡ f n
+pub table_more : {A : Type 0} (n : ℕ) (f : ℕ → A) (d w : List A) (v : A) → n < length d → w ≡ tabulate n f ++ drop n d → v ≡ f n
     → set w n v ≡ tabulate (n + 1) f ++ drop (n + 1) d
 table_more n f d w v l e q =
     ap₂ (λ t x. set t n x) e q ∙ put_next (tabulate n f) d n (f n) (length_tabulate n f) l
     ∙ ap (λ t. t ++ drop (n + 1) d) (sym (tabulate_suc n f) ∙ ap (λ m. tabulate m f) (sym (add-one n)))
 
 -- all is written
-pub table_all : (n m : ℕ) (f : ℕ → ℕ) (d w : List ℕ) → n ≡ m → length d ≡ m → w ≡ tabulate n f ++ drop n d → w ≡ tabulate m f
+pub table_all : {A : Type 0} (n m : ℕ) (f : ℕ → A) (d w : List A) → n ≡ m → length d ≡ m → w ≡ tabulate n f ++ drop n d → w ≡ tabulate m f
 table_all n m f d w q l e =
     e ∙ ap (λ k. tabulate k f ++ drop k d) (q ∙ sym l) ∙ ap (λ r. tabulate (length d) f ++ r) (drop-length d)
     ∙ append-nil (tabulate (length d) f) ∙ ap (λ k. tabulate k f) l

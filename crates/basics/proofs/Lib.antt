@@ -6,6 +6,8 @@ pub mod Booleans
 pub mod SaysLaws
 pub mod BoundedLaws
 pub mod GuardedTests
+-- an error that is handed on
+pub mod HandedOn
 -- lists
 pub mod ListsLaws
 pub mod MemberLaws

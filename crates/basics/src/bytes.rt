@@ -11,38 +11,28 @@ pub enum Class {
     Line,
 }
 
+#[tactic(auto, unfolding(crate::specs::Bytes::lower))]
 pub fn is_lower(b: u8) -> bool
     ensures { result ≡ lower b }
 {
-    if b < 97 {
-        return false;
-    }
-    b < 123
+    matches!(b, b'a'..=b'z')
 }
 
+#[tactic(auto, unfolding(crate::specs::Bytes::word_byte))]
 fn is_word(b: u8) -> bool
     ensures { result ≡ word_byte b }
 {
-    if is_lower(b) {
-        return true;
-    }
-    if b == 95 {
-        return true;
-    }
-    if b < 48 {
-        return false;
-    }
-    b < 58
+    is_lower(b) || matches!(b, b'_' | b'0'..=b'9')
 }
 
 fn is_in(class: Class, b: u8) -> bool
     ensures { result ≡ in_class class b }
 {
     match class {
-        Class::Space => b == 32,
+        Class::Space => b == b' ',
         Class::Word => is_word(b),
-        Class::Field => b != 9,
-        Class::Line => b != 10,
+        Class::Field => b != b'\t',
+        Class::Line => b != b'\n',
     }
 }
 
@@ -50,29 +40,18 @@ fn is_in(class: Class, b: u8) -> bool
 pub fn past(text: &[u8], at: usize, class: Class) -> usize
     ensures { result ≡ Rattle.basics.specs.Bytes.past (in_class class) text.now at }
 {
-    let mut i = at;
-    while i < text.len() {
+    for i in at..text.len() {
         if !is_in(class, text[i]) {
             return i;
         }
-        i += 1;
     }
-    i
+    at.max(text.len())
 }
 
 // Whether two byte strings are equal.
+#[tactic(auto, using(crate::proofs::BytesLaws::same_pointwise))]
 pub fn same(a: &[u8], b: &[u8]) -> bool
     ensures { result ≡ same_bytes a.now b.now }
 {
-    if a.len() != b.len() {
-        return false;
-    }
-    let mut i = 0;
-    while i < a.len() {
-        if a[i] != b[i] {
-            return false;
-        }
-        i += 1;
-    }
-    true
+    a == b
 }

@@ -28,10 +28,8 @@ pub fn field(line: &[u8], k: usize) -> &[u8]
     ensures { result.now ≡ field_at k line.now }
 {
     let mut start = 0;
-    let mut j = 0;
-    while j < k {
+    for _ in 0..k {
         start = behind(line, start, Class::Field);
-        j += 1;
     }
     piece(line, start, Class::Field)
 }

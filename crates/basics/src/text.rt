@@ -5,9 +5,9 @@ ghost use Rattle.std.proofs.lemmas.List.Edits.{sets};
 ghost use Rattle.basics.specs.Text.{decimal, field, line};
 
 // Bytes that part fields, and end lines.
-const TAB: u8 = 9;
+const TAB: u8 = b'\t';
 
-pub const LINE_END: u8 = 10;
+pub const LINE_END: u8 = b'\n';
 
 // One byte.
 pub fn put_byte(text: &mut [u8], at: usize, b: u8) -> usize
@@ -25,12 +25,9 @@ pub fn put_bytes(text: &mut [u8], at: usize, bytes: &[u8]) -> usize
     ensures value { result ≡ at + length bytes.now }
     ensures text_after { text.new ≡ sets text.old at bytes.now }
 {
-    let mut i = 0;
-    while i < bytes.len() {
-        text[at + i] = bytes[i];
-        i += 1;
-    }
-    at + i
+    let end = at + bytes.len();
+    text[at..end].copy_from_slice(bytes);
+    end
 }
 
 // A number in base ten.
@@ -40,10 +37,10 @@ pub fn put_decimal(text: &mut [u8], at: usize, n: usize) -> usize
     ensures text_after { text.new ≡ sets text.old at (decimal n) }
 {
     if n < 10 {
-        return put_byte(text, at, 48 + n as u8);
+        return put_byte(text, at, b'0' + n as u8);
     }
     let last = put_decimal(text, at, n / 10);
-    put_byte(text, last, 48 + (n % 10) as u8)
+    put_byte(text, last, b'0' + (n % 10) as u8)
 }
 
 // A field that holds a number.

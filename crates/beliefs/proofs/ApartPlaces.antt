@@ -1,5 +1,6 @@
 -- Places that are apart: one alone can hold given bytes. The search for all beliefs keeps its places so.
 -- Assumes nothing.
+use Rattle.std.specs.Prelude.{Some}
 use Prim.Native.Nat.{ℕ, ◌+◌, ◌*◌, ◌≤◌, ◌<◌}
 use native.Mathlib.Omega.{arith}
 use mathlib.Core.Path.{◌≡◌, sym, ◌∙◌, subst}
@@ -9,7 +10,6 @@ use mathlib.Core.List.Memᴰ
 use mathlib.Core.List.{List, []}
 use lib.ListN.{length, get_or}
 use Rattle.basics.specs.Says.{Says}
-use Rattle.search.specs.declared.searching.Explored.TheVariants.{Found}
 use Rattle.search.specs.Limits.{state_limit}
 use Rattle.basics.specs.Member.{Distinct, distinct_nil, distinct_cons}
 use Rattle.basics.specs.Bounded.{first_that}
@@ -46,7 +46,7 @@ distinct_one n mem = distinct_cons (λ m. Memᴰ.not-nil m) distinct_nil
 
 pub distinct_next : (n limit : ℕ) (f : List Bool → ℕ → List Bool) (steps : List ℕ) (xs : List (List Bool)) (s : List Bool) (m : ℕ)
     (row mem row' : List ℕ) → Distinct xs
-    → Found m ≡ count_up_to limit (grown_over same_set f steps xs s) → ExpandedItems belief_size n pack_belief limit (grown_over same_set f steps xs s) row mem row'
+    → Some m ≡ count_up_to limit (grown_over same_set f steps xs s) → ExpandedItems belief_size n pack_belief limit (grown_over same_set f steps xs s) row mem row'
     → Distinct (beliefs_in n mem m)
 distinct_next n limit f steps xs s m row mem row' d e z =
     let (few, is) = count_found limit (grown_over same_set f steps xs s) m e in

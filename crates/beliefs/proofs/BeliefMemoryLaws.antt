@@ -1,7 +1,7 @@
 -- Beliefs in memory: what their bytes say, and what the functions on them do step by step.
 -- Assumes nothing.
 use Prim.Native.Nat.{ℕ, zero, suc, ◌+◌, ◌*◌, ◌/◌, ◌%◌, ◌^◌, ◌≤◌, ◌<◌, zero-le}
-use native.Mathlib.Nat.{le_refl, add_assoc, one-mul, pow-suc, div-add-mod', mul-le-mul_right}
+use native.Mathlib.Nat.{le_refl, one-mul, pow-suc, div-add-mod', mul-le-mul_right}
 use native.Mathlib.Numerals.{add-one}
 use native.Mathlib.Decide.{ℕ_discrete, dec_lt}
 use native.Mathlib.Omega.{arith}
@@ -18,7 +18,7 @@ use borrow.Rule.Slice.PartMut.{put_mid, set_mid_at}
 use Rattle.basics.specs.Bits.{bit}
 use Rattle.basics.specs.Lists.{tabulate, below}
 use Rattle.basics.proofs.ListsLaws.{length_tabulate, get_d_tabulate, take_zeros}
-use Rattle.search.specs.Limits.{state_limit, letter_limit}
+use Rattle.search.specs.Limits.{state_limit}
 use Rattle.basics.specs.Reach.{reachable}
 use Rattle.search.specs.ReachableSets.{same_set}
 use Rattle.basics.specs.Successors.{own_steps}
@@ -244,27 +244,12 @@ state_set bytes t =
     ap (λ x. set bytes (t / 8) (bit_or (get_or bytes (t / 8) 0) x)) (shl_exact {a = 1} 1 (t % 8) 8 (omega arith) (omega arith) ∙ one-mul (2 ^ (t % 8)))
 
 -- `add_hidden`
-pub hidden_place : (s q pairs h hiddens : ℕ) → s < state_limit → q < pairs → hiddens * pairs ≤ letter_limit → h < hiddens
-    → s * letter_limit + q + h * pairs < state_limit * letter_limit
-hidden_place s q pairs h hiddens a l m k = omega (arith, letter_lt q pairs h hiddens l k)
-
-pub hidden_state : (successors : List ℕ) (s q pairs h hiddens : ℕ) → ((a : ℕ) → a < hiddens * pairs → successor_in successors s a < state_limit)
-    → q < pairs → h < hiddens → get_or successors (s * letter_limit + q + h * pairs) 0 < state_limit
-hidden_state successors s q pairs h hiddens inside l k =
-    subst (λ i. get_or successors i 0 < state_limit) (sym (add_assoc (s * letter_limit) q (h * pairs)))
-    (inside (q + h * pairs) (letter_lt q pairs h hiddens l k))
-
 pub hidden_none : (successors : List ℕ) (s q pairs : ℕ) (bytes : List ℕ) → bytes ≡ with_hidden successors s q pairs 0 bytes
 unfolding with_hidden
 hidden_none successors s q pairs bytes = refl
 
-pub hidden_more : (successors : List ℕ) (s q pairs h : ℕ) (bytes w v : List ℕ) → w ≡ with_hidden successors s q pairs h bytes
-    → v ≡ with_state w (get_or successors (s * letter_limit + q + h * pairs) 0) → v ≡ with_hidden successors s q pairs (h + 1) bytes
+pub hidden_more : (successors : List ℕ) (s q pairs h : ℕ) (bytes w v : List ℕ) (t : ℕ) → w ≡ with_hidden successors s q pairs h bytes
+    → t ≡ successor_in successors s (q + h * pairs) → v ≡ with_state w t → v ≡ with_hidden successors s q pairs (h + 1) bytes
 unfolding with_hidden
-hidden_more successors s q pairs h bytes w v e r =
-    r ∙ ap₂ (λ l k. with_state l (get_or successors k 0)) e (add_assoc (s * letter_limit) q (h * pairs))
-    ∙ sym (ap (λ k. with_hidden successors s q pairs k bytes) (add-one h))
-
-pub hidden_done : (successors : List ℕ) (s q pairs h hiddens : ℕ) (bytes w : List ℕ) → h ≡ hiddens → w ≡ with_hidden successors s q pairs h bytes
-    → w ≡ with_hidden successors s q pairs hiddens bytes
-hidden_done successors s q pairs h hiddens bytes w e r = r ∙ ap (λ k. with_hidden successors s q pairs k bytes) e
+hidden_more successors s q pairs h bytes w v t e at r =
+    r ∙ ap₂ with_state e at ∙ sym (ap (λ k. with_hidden successors s q pairs k bytes) (add-one h))

@@ -1,4 +1,4 @@
--- What is used of the limits: states have their bits in a belief, and numbers of states, pairs and beliefs are kept in bytes.
+-- What is used of the limits: states have their bits in a belief, and numbers of pairs and beliefs are kept in bytes.
 -- Assumes nothing.
 use Prim.Native.Nat.{◌*◌, ◌^◌, ◌≤◌}
 use native.Mathlib.Omega.{arith}
@@ -8,9 +8,6 @@ use Rattle.beliefs.specs.BeliefMemory.{belief_size}
 
 pub state_bits : state_limit ≤ belief_size * 8
 state_bits = omega arith
-
-pub state_byte : state_limit ≤ 2 ^ 8
-state_byte = omega arith
 
 pub pair_byte : pair_limit ≤ 2 ^ 8
 pair_byte = omega arith

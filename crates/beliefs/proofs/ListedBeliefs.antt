@@ -1,5 +1,6 @@
 -- The beliefs that are counted: how many they are, and that pairs lead from each to one of them.
 -- Assumes nothing.
+use Rattle.std.specs.Prelude.{None, Some}
 use Prim.Native.Nat.{ℕ, ◌+◌, ◌*◌, ◌≤◌, ◌<◌}
 use native.Mathlib.Nat.{le_trans, lt_of_lt_of_le}
 use native.Mathlib.Omega.{arith}
@@ -8,7 +9,6 @@ use mathlib.Core.Bool.{false}
 use mathlib.Core.List.{List}
 use lib.ListN.{length, get_or}
 use Rattle.basics.proofs.ListsLaws.{length_tabulate, get_d_tabulate}
-use Rattle.search.specs.declared.searching.Explored.TheVariants.{Found, TooMany}
 use Rattle.basics.specs.Lists.{below, padded}
 use Rattle.basics.specs.Reach.{Listing, closed, over, index_in, reachable}
 use Rattle.search.specs.ReachableSets.{same_set}
@@ -24,17 +24,17 @@ use Rattle.beliefs.proofs.BeliefMemoryLaws.{beliefs_reachable, pairs_le}
 
 -- ---- what a count says
 
-not_many : {C : Type 0} (k : ℕ) → Found k ≡ TooMany → C
+not_many : {C : Type 0} (k : ℕ) → Some k ≡ None → C
 not_many k e = let z : ◌≡◌ {A = ℕ} 0 1 = cc in absurd (omega arith)
 
-same_count : (j k : ℕ) → Found j ≡ Found k → j ≡ k
+same_count : (j k : ℕ) → Some j ≡ Some k → j ≡ k
 same_count j k e = cc
 
-pub counted_some : {K : Type 0} (l : Listing K) (k : ℕ) → Found k ≡ explored_of l → (xs : List K) × (l ≡ closed xs) × (length xs ≡ k)
+pub counted_some : {K : Type 0} (l : Listing K) (k : ℕ) → Some k ≡ explored_of l → (xs : List K) × (l ≡ closed xs) × (length xs ≡ k)
 counted_some (closed xs) k e = (xs, refl, sym (same_count k (length xs) e))
 counted_some over k e = not_many k e
 
-pub counted_over : {K : Type 0} (l : Listing K) → TooMany ≡ explored_of l → l ≡ over
+pub counted_over : {K : Type 0} (l : Listing K) → None ≡ explored_of l → l ≡ over
 counted_over (closed xs) e = not_many (length xs) (sym e)
 counted_over over e = refl
 

@@ -1,7 +1,6 @@
 -- Pairs that lead to the same states.
 -- Assumes nothing.
 use Prim.Native.Nat.{ℕ, ◌+◌, ◌*◌, ◌≤◌, ◌<◌}
-use native.Mathlib.Nat.{add_assoc}
 use native.Mathlib.Numerals.{add-one}
 use native.Mathlib.Decide.{dec_lt}
 use native.Mathlib.Omega.{arith}
@@ -12,7 +11,6 @@ use lib.Dec.{eqb}
 use lib.ListN.{get_or, get_or-append}
 use Rattle.basics.specs.Lists.{tabulate}
 use Rattle.basics.proofs.ListsLaws.{length_tabulate, get_d_tabulate}
-use Rattle.search.specs.Limits.{letter_limit}
 use Rattle.basics.specs.Bounded.{first_that, all}
 use Rattle.basics.proofs.BoundedLaws.{agree_none, agree_more, agree_fails, agree_at, agree_all, first_le, first_passes, all_suc, all_at, all_of, all_fails, any_ext}
 use Rattle.play.specs.Belief.{Belief, has}
@@ -21,22 +19,21 @@ use Rattle.beliefs.specs.Twins.{same_from, same_pairs, first_twin, Twins}
 
 module _ (successors : List ℕ) (pairs a b s : ℕ) where
   abbrev pub entry : ℕ → ℕ → ℕ
-  entry q h = get_or successors (s * letter_limit + q + h * pairs) 0
-
-  entry_is : (q h : ℕ) → entry q h ≡ successor_in successors s (q + h * pairs)
-  entry_is q h = ap (λ k. get_or successors k 0) (add_assoc (s * letter_limit) q (h * pairs))
+  entry q h = successor_in successors s (q + h * pairs)
 
   pub from_none : same_from successors pairs 0 a b s ≡ true
   unfolding same_from
   from_none = agree_none _ _
 
-  pub from_more : (h : ℕ) → same_from successors pairs h a b s ≡ true → entry a h ≡ entry b h → same_from successors pairs (h + 1) a b s ≡ true
+  pub from_more : (h : ℕ) → same_from successors pairs h a b s ≡ true → (x y : ℕ) → x ≡ entry a h → y ≡ entry b h → x ≡ y
+      → same_from successors pairs (h + 1) a b s ≡ true
   unfolding same_from
-  from_more h t e = agree_more _ _ h t (sym (entry_is a h) ∙ e ∙ entry_is b h)
+  from_more h t x y at_a at_b e = agree_more _ _ h t (sym at_a ∙ e ∙ at_b)
 
-  pub from_fails : (hiddens h : ℕ) → h < hiddens → (entry a h ≡ entry b h → ⊥) → same_from successors pairs hiddens a b s ≡ false
+  pub from_fails : (hiddens h : ℕ) → h < hiddens → (x y : ℕ) → x ≡ entry a h → y ≡ entry b h → (x ≡ y → ⊥)
+      → same_from successors pairs hiddens a b s ≡ false
   unfolding same_from
-  from_fails hiddens h l ne = agree_fails _ _ hiddens h l (λ e. ne (entry_is a h ∙ e ∙ sym (entry_is b h)))
+  from_fails hiddens h l x y at_a at_b ne = agree_fails _ _ hiddens h l (λ e. ne (at_a ∙ e ∙ sym at_b))
 
 module _ (successors : List ℕ) (pairs hiddens a b : ℕ) where
   pub pairs_none : same_pairs successors 0 pairs hiddens a b ≡ true

@@ -125,10 +125,6 @@ pub record Members (n : ℕ) (members : List ℕ) (count : ℕ) : Type 0 where
   pub fits : count ≤ length members
   pub small : (i : ℕ) → i < count → get_or members i 0 < n
 
--- letters of all pairs lead from them to states
-pub record Leads (successors : List ℕ) (pairs hiddens : ℕ) (members : List ℕ) (count : ℕ) : Type 0 where
-  pub small : (i a : ℕ) → i < count → a < hiddens * pairs → successor_in successors (get_or members i 0) a < state_limit
-
 -- s is one of them
 unfoldable pub is_member : List ℕ → ℕ → ℕ → Bool
 is_member members count s = any count (λ i. eqb (get_or members i 0) s)

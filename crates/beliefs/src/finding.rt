@@ -1,36 +1,31 @@
 // The place of a belief. The places found last are tried before all others.
-ghost use Rattle.std.specs.Prelude.{◌≡◌, ◌+◌, ◌*◌, ◌≤◌, ◌<◌, length};
+ghost use Rattle.std.specs.Prelude.{◌≡◌, ◌≤◌, ◌<◌};
 ghost use Rattle.basics.specs.Bounded.{first_that};
 ghost use Rattle.search.specs.Slots.{same_slot};
 ghost use Rattle.play.specs.Limits.{belief_limit};
 ghost use Rattle.beliefs.specs.BeliefMemory.{belief_size, Apart, hint_size};
 
-use crate::sizes::{BELIEF, HINTS};
+use crate::sizes::{BELIEF, BELIEFS_SIZE, HINTS};
 use search::{find, same_slot};
 use tables::BELIEF_LIMIT;
 
 // Where the hint for place m is kept: a hash of its bytes, with Bernstein's factor 33. Any number below `HINTS` would do.
-fn hint_at(mem: &[u8], m: usize) -> usize
-    requires m_le_belief_limit { m ≤ belief_limit }
-    requires mem_len { length mem.now ≡ (belief_limit + 1) * belief_size }
+fn hint_at(mem: &[u8; BELIEFS_SIZE], m: usize) -> usize
+    requires { m ≤ belief_limit }
     ensures { result < hint_size }
 {
     let at = m * BELIEF;
     let mut x = 0;
-    let mut i = 0;
-    while i < BELIEF {
+    for i in 0..BELIEF {
         x = (x * 33 + mem[at + i] as usize) % HINTS;
-        i += 1;
     }
     x
 }
 
 // The first of the places before m that holds the same bytes; m if there is none. A hint, the place found last for bytes like
 // these, is tried first. What the hints are afterwards is open: no answer depends on them.
-pub(crate) fn find_hinted(mem: &[u8], m: usize, hints: &mut [u8]) -> usize
+pub(crate) fn find_hinted(mem: &[u8; BELIEFS_SIZE], m: usize, hints: &mut [u8; HINTS]) -> usize
     requires m_le_belief_limit { m ≤ belief_limit }
-    requires mem_len { length mem.now ≡ (belief_limit + 1) * belief_size }
-    requires hints_len { length hints.old ≡ hint_size }
     requires apart { Apart mem.now m }
     ensures { result ≡ first_that (same_slot belief_size mem.now m) m }
 {

@@ -2,10 +2,12 @@
 // function here is proved, and the crate assumes nothing. `explore_beliefs` serves the crate `game`, which shows that it meets what is asked.
 #![tactic(auto)]
 
+mod automaton;
 mod believing;
 mod counting;
 mod finding;
 mod sizes;
 mod twins;
 
+pub use automaton::Automaton;
 pub use counting::explore_beliefs;

@@ -1,5 +1,6 @@
 -- Tables carried as text: printing what was loaded, loading what was printed; and a table that the solver gives, printed, loaded and run.
 -- Assumes nothing.
+use Rattle.std.specs.Prelude.{Err, Ok}
 use Prim.Native.Nat.{ℕ, ◌*◌, ◌≤◌, ◌<◌}
 use native.Mathlib.Nat.{le_refl}
 use mathlib.Core.Path.{◌≡◌, refl, sym, ap, ◌∙◌, subst}
@@ -9,6 +10,7 @@ use mathlib.Core.List.{List, [], ◌∷◌}
 use lib.Dec.{ltb}
 use lib.ListN.{length, take}
 use borrow.Author.Tests.{le-ltb, ltb-false}
+use Rattle.tables.specs.Outcome.{table_with}
 use Rattle.basics.proofs.Booleans.{test}
 use Rattle.basics.proofs.BoundedLaws.{all_fails}
 use Rattle.basics.proofs.ListsLaws.{front_in, front_taken}
@@ -21,10 +23,8 @@ use Rattle.play.proofs.CellsLaws.{stop_taken}
 use Rattle.play.specs.Game.{Play}
 use Rattle.play.specs.Table.{table_strategy}
 use Rattle.tables.specs.declared.shape.Shape.{Shape}
-use Rattle.game.specs.declared.solving.Solved.TheVariants as solved
 use Rattle.game.specs.Solution.{game_of}
 use Rattle.game.specs.SolvedAs.{told_solved, SolvedAs}
-use Rattle.loader.specs.declared.loading.Loaded.TheVariants.{Table}
 use Rattle.loader.specs.LoadedAs.{loaded_by, cells_by, table_after, told_loaded, IsPrint, TableOf, told_shape}
 use Rattle.loader.proofs.LoadedIffDue.{accepted_iff as print_iff, loaded_iff}
 use Rattle.loader.proofs.SameRows.{behind_rows, table_of_print}
@@ -33,7 +33,6 @@ use Rattle.printer.specs.Text.{table_text}
 use Rattle.wellformed.specs.WellFormed.{Printable, is_printable}
 use Rattle.wellformed.proofs.TestsSay.{printable_says, printable_row}
 use Rattle.stepping.specs.declared.position.Position.{Position}
-use Rattle.cabinet.specs.declared.printing.Printed.TheVariants.{Text}
 use Rattle.stepping.specs.declared.position.Moved.{Moved}
 use Rattle.stepping.specs.Position.{start_of, step_of, told_answer, Standing, Held, Holds}
 use Rattle.stepping.specs.Stopping.{AllPossible, StopsWithin}
@@ -45,15 +44,15 @@ use Rattle.cabinet.proofs.SolvedTable.{some, running, can_print, solves}
 
 -- a table that is not refused is printed as its text
 printed_so : (s t : List ℕ) (shape : Shape) (worst room : ℕ) → text_size ≤ room → Printable t shape worst → table_text t shape worst ≡ s
-    → (printed_by t shape worst room ≡ Text (length s)) × (bytes_by t shape worst room ≡ s)
+    → (printed_by t shape worst room ≡ Ok (length s)) × (bytes_by t shape worst room ≡ s)
 unfolding printed_by bytes_by
 printed_so s t shape worst room h p e =
-    rw (le-ltb room text_size h, (printable_says t shape worst).1 p) (ap (λ x. Text (length x)) e, e)
+    rw (le-ltb room text_size h, (printable_says t shape worst).1 p) (ap (λ x. Ok (length x)) e, e)
 
 -- ---- printing what was loaded
 
 -- where a table was loaded, there was room for it
-had_room : (room : ℕ) (s : List ℕ) (shape : Shape) (worst : ℕ) → loaded_by room s ≡ Table shape worst → table_size ≤ room
+had_room : (room : ℕ) (s : List ℕ) (shape : Shape) (worst : ℕ) → loaded_by room s ≡ Ok (table_with shape worst) → table_size ≤ room
 unfolding loaded_by
 had_room room s shape worst e =
     elim (test (ltb room table_size)) [
@@ -61,7 +60,7 @@ had_room room s shape worst e =
       | inr l ↦ ltb-false room table_size l
     ]
 
-module _ (s t : List ℕ) (shape : Shape) (worst : ℕ) (e : loaded_by (length t) s ≡ Table shape worst) where
+module _ (s t : List ℕ) (shape : Shape) (worst : ℕ) (e : loaded_by (length t) s ≡ Ok (table_with shape worst)) where
   abbrev cells : List ℕ
   cells = cells_by (length t) s
 
@@ -81,7 +80,7 @@ module _ (s t : List ℕ) (shape : Shape) (worst : ℕ) (e : loaded_by (length t
   loaded_text = printable.1 ∙ ap (λ c. table_text c shape worst) loaded_rows ∙ is.prints
 
   pub print_loaded : (room : ℕ) → text_size ≤ room
-      → (printed_by (table_after s t) shape worst room ≡ Text (length s)) × (bytes_by (table_after s t) shape worst room ≡ s)
+      → (printed_by (table_after s t) shape worst room ≡ Ok (length s)) × (bytes_by (table_after s t) shape worst room ≡ s)
   print_loaded room h = printed_so s (table_after s t) shape worst room h printable.0 loaded_text
 
   -- a cabinet may stand on every row of it ..
@@ -119,7 +118,7 @@ module _ (s t : List ℕ) (shape : Shape) (worst : ℕ) (e : loaded_by (length t
 -- ---- loading what was printed
 
 -- what was printed is the text of a table that the printer does not refuse
-was_printed : (t : List ℕ) (shape : Shape) (worst room n : ℕ) → printed_by t shape worst room ≡ Text n
+was_printed : (t : List ℕ) (shape : Shape) (worst room n : ℕ) → printed_by t shape worst room ≡ Ok n
     → (is_printable t shape worst ≡ true) × (bytes_by t shape worst room ≡ table_text t shape worst)
 unfolding printed_by bytes_by
 was_printed t shape worst room n e =
@@ -141,11 +140,11 @@ is_print s (t, shape, worst, room, e, q) =
     let (p, x) = was_printed t shape worst room (length s) e in
     (t, shape, worst, (printable_says t shape worst).0 p, sym x ∙ q)
 
-pub accepted_iff : (s : List ℕ) (cells : ℕ) → table_size ≤ cells → ((shape : Shape) × (worst : ℕ) × (loaded_by cells s ≡ Table shape worst)) ↔ IsPrinted s
+pub accepted_iff : (s : List ℕ) (cells : ℕ) → table_size ≤ cells → ((shape : Shape) × (worst : ℕ) × (loaded_by cells s ≡ Ok (table_with shape worst))) ↔ IsPrinted s
 accepted_iff s cells h = (λ a. is_printed s ((print_iff s cells h).0 a), λ p. (print_iff s cells h).1 (is_print s p))
 
-pub load_printed : (t : List ℕ) (shape : Shape) (worst room n : ℕ) → printed_by t shape worst room ≡ Text n → (cells : ℕ) → table_size ≤ cells
-    → (loaded_by cells (bytes_by t shape worst room) ≡ Table (told_shape t shape) worst)
+pub load_printed : (t : List ℕ) (shape : Shape) (worst room n : ℕ) → printed_by t shape worst room ≡ Ok n → (cells : ℕ) → table_size ≤ cells
+    → (loaded_by cells (bytes_by t shape worst room) ≡ Ok (table_with (told_shape t shape) worst))
     × (cells_by cells (bytes_by t shape worst room) ≡ take (shape.rows * row_size shape.order) t)
 load_printed t shape worst room n e cells h =
     let (p, q) = was_printed t shape worst room n e in
@@ -156,7 +155,7 @@ load_printed t shape worst room n e cells h =
 -- ---- a table that the solver gives
 
 module _ (work room : ℕ) (source : List ℕ) (shape : Shape) (r : ℕ) (table : List ℕ)
-    (due : SolvedAs work room source (told_solved (solved.Table shape r)) (take (shape.rows * row_size shape.order) table)) (p : Problem)
+    (due : SolvedAs work room source (told_solved (Ok (table_with shape r))) (take (shape.rows * row_size shape.order) table)) (p : Problem)
     (denotes : Denotes source p) where
   abbrev used : List ℕ
   used = take (shape.rows * row_size shape.order) table
@@ -177,13 +176,13 @@ module _ (work room : ℕ) (source : List ℕ) (shape : Shape) (r : ℕ) (table 
     abbrev text : List ℕ
     text = table_text table shape r
 
-    loads : (loaded_by (length t) text ≡ Table (told_shape table shape) r) × (cells_by (length t) text ≡ used)
+    loads : (loaded_by (length t) text ≡ Ok (table_with (told_shape table shape) r)) × (cells_by (length t) text ≡ used)
     loads =
         (loaded_iff text (length t) h (told_shape table shape) r used).1
         (table_of_print table shape r (can_print work room source shape r table due p denotes))
 
-    pub carried : loaded_by (length t) text ≡ Table shape r
-    carried = subst (λ x. loaded_by (length t) text ≡ Table x r) told loads.0
+    pub carried : loaded_by (length t) text ≡ Ok (table_with shape r)
+    carried = subst (λ x. loaded_by (length t) text ≡ Ok (table_with x r)) told loads.0
 
     same_rows : take (shape.rows * row_size shape.order) (table_after text t) ≡ used
     same_rows = loaded_rows text t shape r carried ∙ loads.1
@@ -193,4 +192,4 @@ module _ (work room : ℕ) (source : List ℕ) (shape : Shape) (r : ℕ) (table 
     carried_running old play =
         subst (λ c. Runs (game_of p) (table_strategy shape.order c) r (answer_to (table_after text t) shape old) play) same_rows
         (running work room source shape r (table_after text t)
-        (subst (SolvedAs work room source (told_solved (solved.Table shape r))) (sym same_rows) due) p denotes old play)
+        (subst (SolvedAs work room source (told_solved (Ok (table_with shape r)))) (sym same_rows) due) p denotes old play)

@@ -1,10 +1,12 @@
 -- The theorems of this crate. Assumes nothing.
+use Rattle.std.specs.Prelude.{Err, Ok}
 use Prim.Native.Nat.{ℕ, ◌*◌, ◌≤◌, ◌<◌}
 use mathlib.Core.Path.{◌≡◌}
 use mathlib.Core.Logic.{◌↔◌, ◌⊎◌}
 use mathlib.Core.Bool.{true}
 use mathlib.Core.List.{List, [], ◌∷◌}
 use lib.ListN.{length, take, drop, replicate}
+use Rattle.tables.specs.Outcome.{table_with}
 use Rattle.lines.specs.Refusal.{Told, values, refused}
 use Rattle.rules.specs.Denotes.{Denotes}
 use Rattle.rules.specs.Problem.{Problem}
@@ -13,12 +15,9 @@ use Rattle.tables.specs.declared.shape.Shape.{Shape}
 use Rattle.play.specs.Game.{Play, Strategy}
 use Rattle.play.specs.Table.{table_strategy}
 use Rattle.game.specs.Solution.{game_of}
-use Rattle.game.specs.declared.solving.Solved.TheVariants as solved
 use Rattle.game.specs.SolvedAs.{told_solved, table_after, Short, SolvedAs}
-use Rattle.loader.specs.declared.loading.Loaded.TheVariants.{Table}
 use Rattle.loader.specs.LoadedAs.{loaded_by, cells_by, table_after as loaded_table, told_shape}
 use Rattle.stepping.specs.declared.position.Position.{Position}
-use Rattle.cabinet.specs.declared.printing.Printed.TheVariants.{Text}
 use Rattle.printer.specs.Limits.{text_size}
 use Rattle.printer.specs.Text.{table_text}
 use Rattle.stepping.specs.Position.{start_of, step_of, is_stopped, left_of, told_answer, told_left, StartedAs, Held, Holds, SteppedAs, LeftAs}
@@ -97,24 +96,24 @@ stopped = AnswersDue.stopped_iff
 -- ---- printing and loading undo each other (`loader/proofs/Main` has what is loaded from any text)
 
 -- a text is accepted exactly where printing some table gives it
-pub accepted : (s : List ℕ) (cells : ℕ) → table_size ≤ cells → ((shape : Shape) × (worst : ℕ) × (loaded_by cells s ≡ Table shape worst)) ↔ IsPrinted s
+pub accepted : (s : List ℕ) (cells : ℕ) → table_size ≤ cells → ((shape : Shape) × (worst : ℕ) × (loaded_by cells s ≡ Ok (table_with shape worst))) ↔ IsPrinted s
 accepted = CarriedTable.accepted_iff
 
 -- printing what was loaded gives the text again
-pub print_loaded : (s t : List ℕ) (shape : Shape) (worst : ℕ) → loaded_by (length t) s ≡ Table shape worst → (room : ℕ) → text_size ≤ room
-    → (printed_by (loaded_table s t) shape worst room ≡ Text (length s)) × (bytes_by (loaded_table s t) shape worst room ≡ s)
+pub print_loaded : (s t : List ℕ) (shape : Shape) (worst : ℕ) → loaded_by (length t) s ≡ Ok (table_with shape worst) → (room : ℕ) → text_size ≤ room
+    → (printed_by (loaded_table s t) shape worst room ≡ Ok (length s)) × (bytes_by (loaded_table s t) shape worst room ≡ s)
 print_loaded = CarriedTable.print_loaded
 
 -- a cabinet that runs what was loaded never meets number 13: started at any old position and stepped with any observations, it stands on a row,
 -- so that the next step is 14, 15 or a move (`stepping`)
-pub loaded_holds : (s t : List ℕ) (shape : Shape) (worst : ℕ) → loaded_by (length t) s ≡ Table shape worst → (old : Position) (h : List ℕ)
+pub loaded_holds : (s t : List ℕ) (shape : Shape) (worst : ℕ) → loaded_by (length t) s ≡ Ok (table_with shape worst) → (old : Position) (h : List ℕ)
     → Holds (loaded_table s t) shape (step_all (loaded_table s t) shape (start_of (loaded_table s t) shape old) h).position
 loaded_holds = CarriedTable.loaded_holds
 
 -- loading what was printed gives the used rows again, and their shape: a table whose rows all stop does not show how many signals are observed,
 -- and is loaded with none
-pub load_printed : (t : List ℕ) (shape : Shape) (worst room n : ℕ) → printed_by t shape worst room ≡ Text n → (cells : ℕ) → table_size ≤ cells
-    → (loaded_by cells (bytes_by t shape worst room) ≡ Table (told_shape t shape) worst)
+pub load_printed : (t : List ℕ) (shape : Shape) (worst room n : ℕ) → printed_by t shape worst room ≡ Ok n → (cells : ℕ) → table_size ≤ cells
+    → (loaded_by cells (bytes_by t shape worst room) ≡ Ok (table_with (told_shape t shape) worst))
     × (cells_by cells (bytes_by t shape worst room) ≡ take (shape.rows * row_size shape.order) t)
 load_printed = CarriedTable.load_printed
 
@@ -127,7 +126,7 @@ pub step_lowers : (t : List ℕ) (shape : Shape) (observation c : ℕ) (p : Posi
 step_lowers = StopsInTime.step_lowers
 
 -- any table that is loaded, stepped with any possible observations
-module _ (s t : List ℕ) (shape : Shape) (worst : ℕ) (loads : loaded_by (length t) s ≡ Table shape worst)
+module _ (s t : List ℕ) (shape : Shape) (worst : ℕ) (loads : loaded_by (length t) s ≡ Ok (table_with shape worst))
     (observation : ℕ → ℕ) (possible : AllPossible shape observation) where
   -- started at any old position it is answered; it is refused nothing before it stops, and stops within the worst case that the text tells
   pub loaded_stops : (old : Position)
@@ -144,7 +143,7 @@ module _ (s t : List ℕ) (shape : Shape) (worst : ℕ) (loads : loaded_by (leng
 
 -- of a table that the solver gives (`SolvedAs` is what its contract says of it), for the problem p that the text denotes
 module _ (work room : ℕ) (source : List ℕ) (shape : Shape) (r : ℕ) (table : List ℕ)
-    (due : SolvedAs work room source (told_solved (solved.Table shape r)) (take (shape.rows * row_size shape.order) table)) (p : Problem)
+    (due : SolvedAs work room source (told_solved (Ok (table_with shape r))) (take (shape.rows * row_size shape.order) table)) (p : Problem)
     (denotes : Denotes source p) where
   -- its rows, read as a strategy of its order, which is the problem's
   abbrev strategy : Strategy shape.order
@@ -160,12 +159,12 @@ module _ (work room : ℕ) (source : List ℕ) (shape : Shape) (r : ℕ) (table 
 
   -- printing it into enough room is never refused
   pub printed : (text : ℕ) → text_size ≤ text
-      → (printed_by table shape r text ≡ Text (length (table_text table shape r))) × (bytes_by table shape r text ≡ table_text table shape r)
+      → (printed_by table shape r text ≡ Ok (length (table_text table shape r))) × (bytes_by table shape r text ≡ table_text table shape r)
   printed = SolvedTable.printed work room source shape r table due p denotes
 
   -- carried on a card, its text loaded into any table of enough cells, the running cabinet has the same promise
   module _ (t : List ℕ) (enough : table_size ≤ length t) where
-    pub carried : loaded_by (length t) (table_text table shape r) ≡ Table shape r
+    pub carried : loaded_by (length t) (table_text table shape r) ≡ Ok (table_with shape r)
     carried = CarriedTable.carried work room source shape r table due p denotes t enough
 
     pub carried_running : (old : Position) (play : Play (game_of p))

@@ -1,5 +1,7 @@
 -- What the printing call answers is what is due, and what is due is what it answers.
 -- Assumes nothing.
+use Rattle.std.specs.Prelude.{Result}
+use Rattle.lines.specs.declared.refusal.Refusal.{Refusal}
 use Prim.Native.Nat.{ℕ}
 use mathlib.Core.Path.{◌≡◌, refl, ap, subst}
 use mathlib.Core.Logic.{◌↔◌, inl, inr}
@@ -17,7 +19,6 @@ use Rattle.tables.specs.declared.shape.Shape.{Shape}
 use Rattle.printer.specs.Limits.{text_size}
 use Rattle.wellformed.specs.WellFormed.{is_printable}
 use Rattle.printer.specs.Text.{table_text}
-use Rattle.cabinet.specs.declared.printing.Printed.{Printed}
 use Rattle.wellformed.proofs.TestsSay.{printable_says}
 use Rattle.cabinet.specs.Print.{printed_by, bytes_by, text_after, told_printed, used_text, PrintedAs, short_memory, bad_table, text}
 
@@ -55,7 +56,7 @@ module _ (t : List ℕ) (shape : Shape) (worst : ℕ) where
             ]
       ]
 
-  pub print_told : (room : List ℕ) (r : Printed) (after : List ℕ)
+  pub print_told : (room : List ℕ) (r : Result ℕ Refusal) (after : List ℕ)
       → (r ≡ printed_by t shape worst (length room)) × (after ≡ text_after t shape worst room)
       → PrintedAs t shape worst (length room) (told_printed r) (used_text r after)
   print_told room r after e = rw (e.0, e.1, print_used room) (print_due (length room))

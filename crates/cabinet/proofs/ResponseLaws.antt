@@ -1,5 +1,8 @@
 -- What is written for a problem's text, from what the calls below answer.
 -- Assumes nothing.
+use Rattle.tables.specs.Outcome.{table_with}
+use Rattle.tables.specs.declared.shape.Table.{Table}
+use Rattle.std.specs.Prelude.{Err, Ok, Result}
 use Prim.Native.Nat.{ℕ, ◌+◌, ◌*◌, ◌≤◌, ◌<◌}
 use native.Mathlib.Omega.{arith}
 use mathlib.Core.Path.{◌≡◌, refl, sym, ap, ◌∙◌, subst}
@@ -16,8 +19,6 @@ use Rattle.lines.specs.Refusal.{Told, values, refused}
 use Rattle.rules.specs.Denotes.{Denotes}
 use Rattle.rules.specs.Problem.{Problem, read_problem}
 use Rattle.basics.proofs.Booleans.{or_left, or_right, test, clash, or_cases}
-use Rattle.game.specs.declared.solving.Solved.{Solved}
-use Rattle.game.specs.declared.solving.Solved.TheVariants as solved
 use Rattle.play.specs.Limits.{belief_limit}
 use Rattle.play.specs.Cells.{row_size, table_size}
 use Rattle.rules.specs.Limits.{work_size}
@@ -31,8 +32,6 @@ use Rattle.game.specs.SolvedAs.{Controller, Short, SolvedAs}
 use Rattle.game.proofs.SolvedAsLaws.{short_says, not_short, due_read, answered_iff, RowCells, due_cells, same_solved}
 use Rattle.game.proofs.LentMemory.{work_kept, work_cleared}
 use Rattle.game.proofs.SolvedAsCases.{due_table}
-use Rattle.cabinet.specs.declared.printing.Printed.{Printed}
-use Rattle.cabinet.specs.declared.printing.Printed.TheVariants.{Text, Refused}
 use Rattle.printer.specs.Limits.{text_size}
 use Rattle.wellformed.specs.WellFormed.{is_printable}
 use Rattle.printer.specs.Text.{table_text, refusal_text}
@@ -44,7 +43,7 @@ use Rattle.wellformed.proofs.TestsSay.{printable_says}
 use Rattle.cabinet.proofs.SolvedTable.{can_print}
 
 -- the whole call: its answer, and what it leaves in text, table and work memory
-abbrev Responded : (source work table text : List ℕ) → Printed → (text' table' work' : List ℕ) → Type 0
+abbrev Responded : (source work table text : List ℕ) → Result ℕ Refusal → (text' table' work' : List ℕ) → Type 0
 Responded source work table text r text' table' work' =
     (r ≡ responded_by (length work) (length table) (length text) source) × (text' ≡ response_after (length work) (length table) source text)
     × (table' ≡ responded_table (length work) (length text) source table) × (work' ≡ responded_work (length table) (length text) work)
@@ -55,7 +54,7 @@ tight_says work table text = says_or (short_says work table) (lt_says text text_
 
 -- memory that is too short
 pub tight_right : (source work table text : List ℕ) → is_tight (length work) (length table) (length text) ≡ true
-    → Responded source work table text (Refused ShortMemory) text table work
+    → Responded source work table text (Err ShortMemory) text table work
 unfolding responded_by bytes_for response_after responded_table responded_work cells_by work_after
 tight_right source work table text e =
     let due : RespondedAs (length work) (length table) (length text) source (refused 12 0) [] =
@@ -70,17 +69,17 @@ tight_right source work table text e =
 
 -- what is written, by cases
 module _ (source : List ℕ) where
-  response_refused : (x : Refusal) → solved_from (read_problem source) ≡ solved.Refused x → response source ≡ refusal_text x
+  response_refused : (x : Refusal) → solved_from (read_problem source) ≡ Err x → response source ≡ refusal_text x
   unfolding response
   response_refused x h = rw h
 
-  response_table : (shape : Shape) (r : ℕ) → solved_from (read_problem source) ≡ solved.Table shape r
+  response_table : (shape : Shape) (r : ℕ) → solved_from (read_problem source) ≡ Ok (table_with shape r)
       → response source ≡ table_text (cells_from (read_problem source)) shape r
   unfolding response
   response_table shape r h = rw h
 
 -- the cells of a table that is answered are those of its rows
-cells_count : (source : List ℕ) (shape : Shape) (r : ℕ) → solved_from (read_problem source) ≡ solved.Table shape r
+cells_count : (source : List ℕ) (shape : Shape) (r : ℕ) → solved_from (read_problem source) ≡ Ok (table_with shape r)
     → length (cells_from (read_problem source)) ≡ shape.rows * row_size shape.order
 cells_count source shape r e =
     subst (λ z. RowCells (told_solved z) (cells_from (read_problem source))) e
@@ -92,7 +91,7 @@ pub text_long : (work table text : ℕ) → is_tight work table text ≡ false �
 text_long work table text e = ltb-false text text_size (or_right (is_short work table) (ltb text text_size) e)
 
 module _ (source work table text : List ℕ) (e : is_tight (length work) (length table) (length text) ≡ false)
-    (s : Solved) (table' work' : List ℕ) (answer : s ≡ solved_by (length work) (length table) source)
+    (s : Result Table Refusal) (table' work' : List ℕ) (answer : s ≡ solved_by (length work) (length table) source)
     (rows : table' ≡ table_after (length work) source table) (cleared : work' ≡ work_after (length table) work) where
   enough : is_short (length work) (length table) ≡ false
   enough = or_left (is_short (length work) (length table)) (ltb (length text) text_size) e
@@ -115,7 +114,7 @@ module _ (source work table text : List ℕ) (e : is_tight (length work) (length
       answered (λ t. clash ((tight_says (length work) (length table) (length text)).1 t) e) (solved_from (read_problem source)) (cells_from (read_problem source))
       (due_read source (length work) (length table) (not_short (length work) (length table) enough))
 
-  responded : (r : Printed) (text' : List ℕ) → r ≡ Text (length (response source)) → text' ≡ written (response source) text
+  responded : (r : Result ℕ Refusal) (text' : List ℕ) → r ≡ Ok (length (response source)) → text' ≡ written (response source) text
       → Responded source work table text r text' table' work'
   unfolding responded_by bytes_for response_after responded_table responded_work
   responded r text' p q =
@@ -123,24 +122,24 @@ module _ (source work table text : List ℕ) (e : is_tight (length work) (length
       rw (e, long) (p, q, rows, cleared, rw (p, q, own) response_due)
 
   -- the text of a refusal
-  pub refusal_right : (x : Refusal) → s ≡ solved.Refused x → (r : Printed) (text' : List ℕ) → r ≡ Text (length (refusal_text x)) → text' ≡ written
+  pub refusal_right : (x : Refusal) → s ≡ Err x → (r : Result ℕ Refusal) (text' : List ℕ) → r ≡ Ok (length (refusal_text x)) → text' ≡ written
       (refusal_text x) text
       → Responded source work table text r text' table' work'
   refusal_right x h r text' p q =
       let is : response source ≡ refusal_text x = response_refused source x (sym is_solved ∙ h) in
-      responded r text' (p ∙ ap (λ l. Text (length l)) (sym is)) (q ∙ ap (λ l. written l text) (sym is))
+      responded r text' (p ∙ ap (λ l. Ok (length l)) (sym is)) (q ∙ ap (λ l. written l text) (sym is))
 
   -- the text of a table: it is one that can be printed
-  module _ (shape : Shape) (r : ℕ) (h : s ≡ solved.Table shape r)
+  module _ (shape : Shape) (r : ℕ) (h : s ≡ Ok (table_with shape r))
       (due : SolvedAs (length work) (length table) source (told_solved s) (used_rows s table')) where
     -- how many cells its rows have
     abbrev size : ℕ
     size = shape.rows * row_size shape.order
 
-    is_table_lem : solved_from (read_problem source) ≡ solved.Table shape r
+    is_table_lem : solved_from (read_problem source) ≡ Ok (table_with shape r)
     is_table_lem = sym is_solved ∙ h
 
-    table_due : SolvedAs (length work) (length table) source (told_solved (solved.Table shape r)) (take size table')
+    table_due : SolvedAs (length work) (length table) source (told_solved (Ok (table_with shape r))) (take size table')
     table_due = subst (λ z. SolvedAs (length work) (length table) source (told_solved z) (used_rows z table')) h due
 
     controller : (p : Problem) × Denotes source p × (shape.observed ≡ p.signals.observed) × (shape.order ≡ p.order)
@@ -150,9 +149,9 @@ module _ (source work table text : List ℕ) (e : is_tight (length work) (length
     front : take size table' ≡ cells_from (read_problem source)
     front = ap (take size) is_written ∙ take_at (cells_from (read_problem source)) _ size (cells_count source shape r is_table_lem)
 
-    front_due : SolvedAs (length work) (length table) source (told_solved (solved.Table shape r)) (take size (take size table'))
+    front_due : SolvedAs (length work) (length table) source (told_solved (Ok (table_with shape r))) (take size (take size table'))
     front_due =
-        subst (SolvedAs (length work) (length table) source (told_solved (solved.Table shape r))) (sym (take-take size size table' (omega arith)))
+        subst (SolvedAs (length work) (length table) source (told_solved (Ok (table_with shape r)))) (sym (take-take size size table' (omega arith)))
         table_due
 
     -- its rows are few
@@ -173,35 +172,13 @@ module _ (source work table text : List ℕ) (e : is_tight (length work) (length
           let long : length (take size table') ≡ size = c.is_table.long ∙ ap (λ q. shape.rows * row_size q) (sym o) in
           omega (arith, ends, sym (length-take size table') ∙ long)
 
-      pub table_right : (q : Printed) (text' : List ℕ) → q ≡ printed_by (take end table') shape r (length text)
+      pub table_right : (q : Result ℕ Refusal) (text' : List ℕ) → q ≡ printed_by (take end table') shape r (length text)
           → text' ≡ text_after (take end table') shape r text → Responded source work table text q text' table' work'
       unfolding printed_by bytes_by
       table_right q text' p t =
           let is : table_text (take size table') shape r ≡ response source =
           ap (λ cells. table_text cells shape r) front ∙ sym (response_table source shape r is_table_lem) in
-          responded q text' (p ∙ rw (ends, long, prints) (ap (λ l. Text (length l)) is)) (t ∙ rw (ends, long, prints) (ap (λ l. written l text) is))
-
--- what is written stands in the text
-pub text_within : (source : List ℕ) (work table : ℕ) (text : List ℕ) (r : Printed) (text' : List ℕ) → r ≡ responded_by work table (length text) source
-    → text' ≡ response_after work table source text → (n : ℕ) → r ≡ Text n → n ≤ length text'
-unfolding responded_by bytes_for response_after
-text_within source work table text r text' p q n h =
-    elim (test (is_tight work table (length text))) [
-      | inl t ↦ let e = rw t at p in absurd (no_text ShortMemory n (sym e ∙ h))
-      | inr f ↦
-          let after = rw f at q in
-          let long : length text' ≡ length (response source) + length (drop (length (response source)) text) =
-          ap length after ∙ length-append (response source) (drop (length (response source)) text) in
-          let e = rw f at p in
-          let is : length (response source) ≡ n = same_text (length (response source)) n (sym e ∙ h) in
-          omega arith
-    ]
-  where
-    no_text : (x : Refusal) (n : ℕ) → Refused x ≡ Text n → ⊥
-    no_text x n e = let z : ◌≡◌ {A = ℕ} 0 1 = cc in absurd (omega arith)
-
-    same_text : (m n : ℕ) → Text m ≡ Text n → m ≡ n
-    same_text m n e = cc
+          responded q text' (p ∙ rw (ends, long, prints) (ap (λ l. Ok (length l)) is)) (t ∙ rw (ends, long, prints) (ap (λ l. written l text) is))
 
 -- ---- what is answered and written is what is due, and what is due is answered and written
 
@@ -216,7 +193,7 @@ module _ (work table text : ℕ) (source : List ℕ) where
             (due_read source work table (not_short work table (or_left (is_short work table) (ltb text text_size) f))))
       ]
 
-  response_is : (s : Solved) (cells : List ℕ) → SolvedAs work table source (told_solved s) cells → is_short work table ≡ false
+  response_is : (s : Result Table Refusal) (cells : List ℕ) → SolvedAs work table source (told_solved s) cells → is_short work table ≡ false
       → response source ≡ solved_text cells s
   unfolding response solved_by cells_by
   response_is s cells d f =

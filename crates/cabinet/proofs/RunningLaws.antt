@@ -1,5 +1,7 @@
 -- A cabinet that runs a table laid out as the solver lays it does what the table says, read as a strategy.
 -- Assumes nothing.
+use Rattle.lines.specs.declared.refusal.Refusal.{Refusal}
+use Rattle.std.specs.Prelude.{Result, Ok, Err}
 use Prim.Native.Nat.{ℕ, zero, suc, ◌*◌, ◌^◌, ◌≤◌, ◌<◌, zero-le, suc-le-suc}
 use native.Mathlib.Omega.{arith}
 use mathlib.Core.Path.{◌≡◌, refl, sym, ap, ◌∙◌, subst}
@@ -24,7 +26,7 @@ use Rattle.play.proofs.Plans.{rest}
 use Rattle.wellformed.proofs.WellFormedLaws.{side_le}
 use Rattle.stepping.specs.declared.position.Position.{Position}
 use Rattle.stepping.specs.declared.position.Answer.{Answer}
-use Rattle.stepping.specs.declared.position.Answer.TheVariants.{Choice, Refused}
+use Rattle.stepping.specs.declared.position.Answer.TheVariants.{Choice}
 use Rattle.stepping.specs.declared.position.Moved.{Moved}
 use Rattle.stepping.specs.Position.{move_to, start_at, move_from, is_standing, is_held, is_holding, start_of, step_of, Standing}
 use Rattle.cabinet.specs.Running.{step_all, answer_to, told_after, Opens, Closes, Runs}
@@ -89,18 +91,18 @@ module _ (t : List ℕ) where
 
   -- what is answered where the row goes on: its choice, under `Read` for the observation, once that is read
   at_goes : (o : Order) (row s : ℕ) → is_stop o t row ≡ false → (after : ℕ → Moved) (k : ℕ) → At o t row (after k)
-      → after (suc k) ≡ move_from o t row s → (after (told_after o k)).answer ≡ Choice (choice_cell o t row s)
+      → after (suc k) ≡ move_from o t row s → (after (told_after o k)).answer ≡ Ok (Choice (choice_cell o t row s))
   at_goes Set row s f after k a e = rw (a, f) refl
   at_goes Read row s f after k a e = ap (λ (m : Moved). m.answer) e
 
   -- where it stops
-  at_stop : (o : Order) (row : ℕ) → is_stop o t row ≡ true → (answers : List ℕ → Answer) (h : List ℕ) (m : Moved) → answers h ≡ m.answer
+  at_stop : (o : Order) (row : ℕ) → is_stop o t row ≡ true → (answers : List ℕ → Result Answer Refusal) (h : List ℕ) (m : Moved) → answers h ≡ m.answer
       → At o t row m → Closes o answers h
   at_stop Set row e answers h m q a = q ∙ rw (a, e) refl
   at_stop Read row e answers h m q a = tt
 
   -- at the start, where row 0 goes on
-  at_first : (o : Order) → is_stop o t 0 ≡ false → (answers : List ℕ → Answer) → answers [] ≡ (start_at o t).answer → Opens o answers
+  at_first : (o : Order) → is_stop o t 0 ≡ false → (answers : List ℕ → Result Answer Refusal) → answers [] ≡ (start_at o t).answer → Opens o answers
   at_first Set f answers q = tt
   at_first Read f answers q = q ∙ rw f refl
 
@@ -142,7 +144,7 @@ module _ (G : Game) (shape : Shape) (t : List ℕ) (few_choices : G.choices ≤ 
     unfolding step_of
     goes_on_lem f s b = rw (holding, at_row t o i m a, f, lt-ltb s (2 ^ shape.observed) b) refl
 
-    stays : is_stop o t i ≡ true → (s : ℕ) → (step_of t shape s m.position).answer ≡ Refused Stopped
+    stays : is_stop o t i ≡ true → (s : ℕ) → (step_of t shape s m.position).answer ≡ Err Stopped
     unfolding step_of
     stays e s = rw (holding, at_row t o i m a, e) refl
 
@@ -185,7 +187,7 @@ module _ (G : Game) (shape : Shape) (t : List ℕ) (few_choices : G.choices ≤ 
 
     -- at a step that it takes, it tells the strategy's choice
     tells : (k : ℕ) → GoesOn σ play k → (a : StrategyAnswer o) → σ (seen play k) ≡ choose a
-        → (after (told_after o k)).answer ≡ Choice (chosen o a (observed k))
+        → (after (told_after o k)).answer ≡ Ok (Choice (chosen o a (observed k)))
     tells k g a q =
         let s = observed k in
         let (j, l, at, same) = from_start k g in
@@ -193,7 +195,7 @@ module _ (G : Game) (shape : Shape) (t : List ℕ) (few_choices : G.choices ≤ 
         let goes = sym (stop_taken o n t j l) ∙ f in
         let cells : choice_cell o t j s ≡ chosen o a s =
         sym (choice_taken o n t j l s (few_seen play k)) ∙ sym (chosen_at o T j s) ∙ ap (λ (a : StrategyAnswer o). chosen o a s) is in
-        at_goes t o j s goes after k at (after_more k ∙ goes_on_lem j l (after k) at goes s (seen_below play k)) ∙ ap Choice cells
+        at_goes t o j s goes after k at (after_more k ∙ goes_on_lem j l (after k) at goes s (seen_below play k)) ∙ ap (λ c. Ok (Choice c)) cells
 
   pub runs : (r : ℕ) → Optimal G σ r → (old : Position) (play : Play G) → Runs G σ r (answer_to t shape old) play
   runs r best old play =
@@ -210,7 +212,7 @@ module _ (G : Game) (shape : Shape) (t : List ℕ) (few_choices : G.choices ≤ 
             let (a, q) = g k b in
             let is : chosen o a (play k).observation ≡ choice_of (σ (seen play k)) (play k).observation =
             sym (ap (λ (d : Decision o). choice_of d (play k).observation) q) in
-            (tells old play k (λ i h. g i (omega arith)) a q ∙ ap Choice is, (a, q, is));
+            (tells old play k (λ i h. g i (omega arith)) a q ∙ ap (λ c. Ok (Choice c)) is, (a, q, is));
         closes = at_stop t o j last (answer_to t shape old) (seen play m) (after old play m) refl at;
         stops = e;
         ends = λ s.

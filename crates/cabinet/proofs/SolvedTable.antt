@@ -1,11 +1,13 @@
 -- What the solver promises of a table, carried to printer and cabinet.
 -- Assumes nothing.
+use Rattle.std.specs.Prelude.{Ok}
 use Prim.Native.Nat.{ℕ, ◌*◌, ◌^◌, ◌≤◌, ◌<◌}
 use native.Mathlib.Omega.{arith}
 use mathlib.Core.Path.{◌≡◌, refl, sym, ap, subst}
 use mathlib.Core.List.{List}
 use lib.ListN.{length, take}
 use borrow.Author.Tests.{le-ltb}
+use Rattle.tables.specs.Outcome.{table_with}
 use Rattle.basics.specs.Limits.{kind_limit}
 use Rattle.rules.specs.Denotes.{Denotes}
 use Rattle.rules.specs.Problem.{Problem}
@@ -18,12 +20,10 @@ use Rattle.tables.specs.declared.shape.Shape.{Shape}
 use Rattle.play.specs.Game.{Play}
 use Rattle.play.specs.Table.{table_strategy, Laid}
 use Rattle.play.specs.Answer.{Solves}
-use Rattle.game.specs.declared.solving.Solved.TheVariants.{Table}
 use Rattle.game.specs.Solution.{game_of}
 use Rattle.game.specs.SolvedAs.{told_solved, Controller, SolvedAs}
 use Rattle.game.proofs.SolvedAsCases.{due_table}
 use Rattle.stepping.specs.declared.position.Position.{Position}
-use Rattle.cabinet.specs.declared.printing.Printed.TheVariants.{Text}
 use Rattle.printer.specs.Limits.{text_size}
 use Rattle.wellformed.specs.WellFormed.{Printable}
 use Rattle.printer.specs.Text.{table_text}
@@ -35,7 +35,7 @@ use Rattle.cabinet.proofs.LaidRows.{printable}
 use Rattle.cabinet.proofs.RunningLaws.{runs}
 
 module _ (work room : ℕ) (source : List ℕ) (shape : Shape) (r : ℕ) (table : List ℕ)
-    (due : SolvedAs work room source (told_solved (Table shape r)) (take (shape.rows * row_size shape.order) table)) (p : Problem)
+    (due : SolvedAs work room source (told_solved (Ok (table_with shape r))) (take (shape.rows * row_size shape.order) table)) (p : Problem)
     (denotes : Denotes source p) where
   abbrev used : List ℕ
   used = take (shape.rows * row_size shape.order) table
@@ -81,6 +81,6 @@ module _ (work room : ℕ) (source : List ℕ) (shape : Shape) (r : ℕ) (table 
       (subst (λ (k : ℕ). Laid shape.order (game_of p).choices k shape.rows used) declared solves.laid) r solves.first
 
   pub printed : (text : ℕ) → text_size ≤ text
-      → (printed_by table shape r text ≡ Text (length (table_text table shape r))) × (bytes_by table shape r text ≡ table_text table shape r)
+      → (printed_by table shape r text ≡ Ok (length (table_text table shape r))) × (bytes_by table shape r text ≡ table_text table shape r)
   unfolding printed_by bytes_by
   printed text h = rw (le-ltb text text_size h, (printable_says table shape r).1 can_print) (refl, refl)

@@ -1,22 +1,21 @@
 -- What is written for a problem's text: its table or the refusal, from bytes to bytes; and what is due.
 -- Assumes nothing.
-use Rattle.std.specs.Prelude.{ℕ, ◌<◌, ◌⊎◌, Bool, cond, ◌||◌, List, [], ◌∷◌, ltb, length}
+use Rattle.tables.specs.Outcome.{table_with}
+use Rattle.lines.specs.declared.refusal.Refusal.{Refusal}
+use Rattle.tables.specs.declared.shape.Table.{Table}
+use Rattle.std.specs.Prelude.{ℕ, ◌<◌, ◌⊎◌, Bool, cond, ◌||◌, List, [], ◌∷◌, ltb, length, Err, Ok, Result}
 use Rattle.lines.specs.declared.refusal.Refusal.TheVariants.{ShortMemory}
 use Rattle.lines.specs.Refusal.{Told, values, refused}
 use Rattle.rules.specs.Problem.{read_problem}
-use Rattle.game.specs.declared.solving.Solved.{Solved}
-use Rattle.game.specs.declared.solving.Solved.TheVariants as solved
 use Rattle.basics.specs.Lists.{written}
 use Rattle.game.specs.SolvedAs.{is_short, solved_from, told_solved, cells_from, table_after, work_after, Short, SolvedAs}
-use Rattle.cabinet.specs.declared.printing.Printed.{Printed}
-use Rattle.cabinet.specs.declared.printing.Printed.TheVariants.{Text, Refused}
 use Rattle.printer.specs.Limits.{text_size}
 use Rattle.printer.specs.Text.{table_text, refusal_text}
 
 -- the text of an answer, a table's from its cells
-abbrev pub solved_text : List ℕ → Solved → List ℕ
-solved_text cells (solved.Table shape worst) = table_text cells shape worst
-solved_text cells (solved.Refused r) = refusal_text r
+abbrev pub solved_text : List ℕ → Result Table Refusal → List ℕ
+solved_text cells (Ok t) = table_text cells t.shape t.worst_case
+solved_text cells (Err r) = refusal_text r
 
 -- what is written for a source
 unfoldable pub response : List ℕ → List ℕ
@@ -27,8 +26,8 @@ abbrev pub is_tight : ℕ → ℕ → ℕ → Bool
 is_tight work table text = is_short work table || ltb text text_size
 
 -- the answer, and what is left in the lent text, table and work memory
-unfoldable pub responded_by : ℕ → ℕ → ℕ → List ℕ → Printed
-responded_by work table text source = cond (is_tight work table text) (Refused ShortMemory) (Text (length (response source)))
+unfoldable pub responded_by : ℕ → ℕ → ℕ → List ℕ → Result ℕ Refusal
+responded_by work table text source = cond (is_tight work table text) (Err ShortMemory) (Ok (length (response source)))
 
 unfoldable pub bytes_for : ℕ → ℕ → ℕ → List ℕ → List ℕ
 bytes_for work table text source = cond (is_tight work table text) [] (response source)
@@ -46,5 +45,5 @@ responded_work table text work = cond (ltb text text_size) work (work_after tabl
 pub data RespondedAs (work table text : ℕ) (source : List ℕ) : Told → List ℕ → Type 0 where
   short_memory : Short work table ⊎ (text < text_size) → RespondedAs work table text source (refused 12 0) []
   -- the text of the answer that is due to the source
-  answered : (¬ (Short work table ⊎ (text < text_size))) → (s : Solved) (cells : List ℕ) → SolvedAs work table source (told_solved s) cells
+  answered : (¬ (Short work table ⊎ (text < text_size))) → (s : Result Table Refusal) (cells : List ℕ) → SolvedAs work table source (told_solved s) cells
       → RespondedAs work table text source (values (length (solved_text cells s) ∷ [])) (solved_text cells s)

@@ -7,10 +7,10 @@
 mod printing;
 mod responding;
 
-pub use loader::{Loaded, load};
+pub use loader::load;
 pub use printer::TEXT_SIZE;
-pub use printing::{Printed, print};
+pub use printing::print;
 pub use responding::respond;
 pub use stepping::{
-    Answer, Left, Moved, Position, is_stopped, start, start_from, step, step_from, steps_left,
+    Answer, Moved, Position, is_stopped, start, start_from, step, step_from, steps_left,
 };

@@ -5,26 +5,21 @@ ghost use Rattle.cabinet.specs.Print.{printed_by, text_after, told_printed, used
 use lines::Refusal;
 use printer::{TEXT_SIZE, put_table};
 use tables::Shape;
-use wellformed::is_printable;
+use wellformed::SizedTable;
 
-// The length of the text, or one refusal.
-#[derive(Clone, Copy)]
-pub enum Printed {
-    Text(usize),
-    Refused(Refusal),
-}
-
-// Prints a table of a shape, with its worst case. Refusals: 12, then 13. Only the text's own bytes change, at the front.
-pub fn print(table: &[u16], shape: Shape, worst: usize, text: &mut [u8]) -> Printed
+// Prints a table of a shape, with its worst case, and answers the length of the text. Refusals: 12, then 13. Only the text's own bytes
+// change, at the front.
+#[tactic(auto, using(crate::proofs::PrintLaws::text_room, crate::proofs::PrintLaws::short_due, crate::proofs::PrintLaws::refused_due, crate::proofs::PrintLaws::table_due), unfolding(crate::specs::Print::printed_by, crate::specs::Print::bytes_by))]
+pub fn print(table: &[u16], shape: Shape, worst: usize, text: &mut [u8]) -> Result<usize, Refusal>
     ensures answer { result ≡ printed_by table.now shape worst (length text.old) }
     ensures bytes { text.new ≡ text_after table.now shape worst text.old }
     ensures due { PrintedAs table.now shape worst (length text.old) (told_printed result) (used_text result text.new) }
 {
     if text.len() < TEXT_SIZE {
-        return Printed::Refused(Refusal::ShortMemory);
+        return Err(Refusal::ShortMemory);
     }
-    if !is_printable(table, shape, worst) {
-        return Printed::Refused(Refusal::BadTable);
+    match SizedTable::new(table, shape) {
+        Some(table) if table.is_printable(worst) => Ok(put_table(text, &table, worst)),
+        _ => Err(Refusal::BadTable),
     }
-    Printed::Text(put_table(text, table, shape, worst))
 }

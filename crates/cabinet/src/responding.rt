@@ -3,8 +3,8 @@ ghost use Rattle.std.specs.Prelude.{◌≡◌, length};
 ghost use Rattle.cabinet.specs.Print.{told_printed, used_text};
 ghost use Rattle.cabinet.specs.Response.{responded_by, response_after, responded_table, responded_work, RespondedAs};
 
-use crate::printing::{Printed, print};
-use game::{Solved, solve};
+use crate::printing::print;
+use game::solve;
 use lines::Refusal;
 use printer::{TEXT_SIZE, put_refusal};
 use rules::WORK_SIZE;
@@ -12,7 +12,12 @@ use tables::{TABLE_SIZE, row_size};
 
 // Solves a problem and writes its table, or the refusal, as text. Refusal: 12, which touches nothing. Otherwise only the text's own
 // bytes change, at the front; the table and the work memory are left as `solve` leaves them.
-pub fn respond(source: &[u8], work: &mut [u8], table: &mut [u16], text: &mut [u8]) -> Printed
+pub fn respond(
+    source: &[u8],
+    work: &mut [u8],
+    table: &mut [u16],
+    text: &mut [u8],
+) -> Result<usize, Refusal>
     ensures answer { result ≡ responded_by (length work.old) (length table.old) (length text.old) source.now }
     ensures bytes { text.new ≡ response_after (length work.old) (length table.old) source.now
         text.old }
@@ -23,14 +28,13 @@ pub fn respond(source: &[u8], work: &mut [u8], table: &mut [u16], text: &mut [u8
         (told_printed result) (used_text result text.new) }
 {
     if (work.len() < WORK_SIZE) | (table.len() < TABLE_SIZE) | (text.len() < TEXT_SIZE) {
-        return Printed::Refused(Refusal::ShortMemory);
+        return Err(Refusal::ShortMemory);
     }
     match solve(source, work, table) {
-        Solved::Table { shape, worst_case } => {
-            let order = shape.order;
-            let end = shape.rows * row_size(order);
-            print(&table[..end], shape, worst_case, text)
+        Ok(solved) => {
+            let end = solved.shape.rows * row_size(solved.shape.order);
+            print(&table[..end], solved.shape, solved.worst_case, text)
         }
-        Solved::Refused(r) => Printed::Text(put_refusal(text, r)),
+        Err(r) => Ok(put_refusal(text, r)),
     }
 }

@@ -1,135 +1,106 @@
 // What a call answers, written as fields behind the case's name.
 use basics::Order;
-use cabinet::{Answer, Left, Loaded, Moved, Printed, is_stopped, steps_left};
-use game::{Shape, Solved};
+use cabinet::{Answer, Moved, is_stopped, steps_left};
+use game::{Shape, Table};
 use lines::order_of;
-use rules::{Reading, Refusal, Verdict};
-use streams::Console;
+use rules::{Refusal, Sizes, number, place};
+use streams::{Console, Told};
 
-pub(crate) fn say(console: Console, text: &[u8]) {
-    streams::say(console, b"cases", text);
+fn refused(console: Console, r: Refusal) -> Result<(), Told> {
+    console.say_fields(b"\trefused", &[number(r), place(r)])
 }
 
-// What is said where a line is not of the form asked for, or memory is not as it should be after a call.
-pub(crate) fn wrong(console: Console) {
-    say(console, b"\twrong");
-}
-
-fn tell(console: Console, word: &[u8], n: usize) {
-    say(console, word);
-    streams::say_number(console, b"cases", n as u64);
-}
-
-fn tell_two(console: Console, word: &[u8], n: usize, m: usize) {
-    tell(console, word, n);
-    tell(console, b"\t", m);
-}
-
-fn refused(console: Console, r: Refusal) {
-    tell_two(console, b"\trefused\t", rules::number(r), rules::place(r));
-}
-
-fn order(console: Console, o: Order) {
+fn order(console: Console, o: Order) -> Result<(), Told> {
     match o {
-        Order::Set => say(console, b"\tset"),
-        Order::Read => say(console, b"\tread"),
+        Order::Set => console.say(b"\tset"),
+        Order::Read => console.say(b"\tread"),
     }
 }
 
 // How many signals of each kind, parts and temporal operators were read, and the order.
-pub(crate) fn reading(console: Console, r: Reading) {
+pub(crate) fn reading(console: Console, r: Result<Sizes, Refusal>) -> Result<(), Told> {
     match r {
-        Reading::Accepted(s) => {
-            tell_two(console, b"\tread\t", s.outputs, s.observed);
-            tell_two(console, b"\t", s.hidden, s.parts);
-            tell(console, b"\t", s.operators);
-            order(console, order_of(s));
+        Ok(s) => {
+            console.say_fields(
+                b"\tread",
+                &[s.outputs, s.observed, s.hidden, s.parts, s.operators],
+            )?;
+            order(console, order_of(s))
         }
-        Reading::Refused(x) => refused(console, x),
+        Err(x) => refused(console, x),
     }
 }
 
-pub(crate) fn verdict(console: Console, v: Verdict) {
+pub(crate) fn verdict(console: Console, v: Result<bool, Refusal>) -> Result<(), Told> {
     match v {
-        Verdict::True => say(console, b"\ttrue"),
-        Verdict::False => say(console, b"\tfalse"),
-        Verdict::Refused(r) => refused(console, r),
+        Ok(true) => console.say(b"\ttrue"),
+        Ok(false) => console.say(b"\tfalse"),
+        Err(r) => refused(console, r),
     }
 }
 
 // The first word of a table's text, rows and worst case.
-fn table(console: Console, shape: Shape, worst: usize) {
-    let o = shape.order;
-    match o {
-        Order::Set => tell_two(console, b"\ttable\t", shape.rows, worst),
-        Order::Read => tell_two(console, b"\trtable\t", shape.rows, worst),
+fn table(console: Console, shape: Shape, worst: usize) -> Result<(), Told> {
+    match shape.order {
+        Order::Set => console.say_fields(b"\ttable", &[shape.rows, worst]),
+        Order::Read => console.say_fields(b"\trtable", &[shape.rows, worst]),
     }
 }
 
-pub(crate) fn solved(console: Console, s: Solved) {
+pub(crate) fn solved(console: Console, s: Result<Table, Refusal>) -> Result<(), Told> {
     match s {
-        Solved::Table { shape, worst_case } => table(console, shape, worst_case),
-        Solved::Refused(r) => refused(console, r),
+        Ok(t) => table(console, t.shape, t.worst_case),
+        Err(r) => refused(console, r),
     }
 }
 
 // The same with the observed signals.
-pub(crate) fn loaded(console: Console, l: Loaded) {
+pub(crate) fn loaded(console: Console, l: Result<Table, Refusal>) -> Result<(), Told> {
+    solved(console, l)?;
     match l {
-        Loaded::Table { shape, worst_case } => {
-            table(console, shape, worst_case);
-            tell(console, b"\t", shape.observed);
-        }
-        Loaded::Refused(r) => refused(console, r),
+        Ok(t) => console.say_fields(b"", &[t.shape.observed]),
+        Err(_) => Ok(()),
     }
 }
 
 // The place of a bad text.
-pub(crate) fn fault(console: Console, l: Loaded) {
+pub(crate) fn fault(console: Console, l: Result<Table, Refusal>) -> Result<(), Told> {
     match l {
-        Loaded::Refused(r) => match r {
-            Refusal::BadText(place) => tell(console, b"\t", place),
-            _ => wrong(console),
-        },
-        Loaded::Table {
-            shape: _,
-            worst_case: _,
-        } => wrong(console),
+        Err(Refusal::BadText(place)) => console.say_fields(b"", &[place]),
+        _ => console.say_wrong(),
     }
 }
 
-pub(crate) fn printed(console: Console, p: Printed) {
+pub(crate) fn printed(console: Console, p: Result<usize, Refusal>) -> Result<(), Told> {
     match p {
-        Printed::Text(n) => tell(console, b"\ttext\t", n),
-        Printed::Refused(r) => refused(console, r),
+        Ok(n) => console.say_fields(b"\ttext", &[n]),
+        Err(r) => refused(console, r),
     }
 }
 
-fn choice(console: Console, a: Answer) {
+fn choice(console: Console, a: Result<Answer, Refusal>) -> Result<(), Told> {
     match a {
-        Answer::Choice(c) => tell(console, b"\tchoice\t", c as usize),
-        Answer::Stop => say(console, b"\tstop"),
-        Answer::Ready => say(console, b"\tready"),
-        Answer::Refused(r) => refused(console, r),
+        Ok(Answer::Choice(c)) => console.say_fields(b"\tchoice", &[c as usize]),
+        Ok(Answer::Stop) => console.say(b"\tstop"),
+        Ok(Answer::Ready) => console.say(b"\tready"),
+        Err(r) => refused(console, r),
     }
 }
 
-fn left(console: Console, l: Left) {
+fn left(console: Console, l: Result<u16, Refusal>) -> Result<(), Told> {
     match l {
-        Left::Steps(n) => tell(console, b"\tleft\t", n as usize),
-        Left::Refused(r) => refused(console, r),
+        Ok(n) => console.say_fields(b"\tleft", &[n as usize]),
+        Err(r) => refused(console, r),
     }
 }
 
 // The answer and the position behind it, whether the cabinet stands on a stop row there, and how many steps are left.
-pub(crate) fn moved(console: Console, table: &[u16], shape: Shape, m: Moved) {
-    let answer = m.answer;
-    choice(console, answer);
-    let position = m.position;
-    tell(console, b"\trow\t", position.row);
-    tell(console, b"\tchoice\t", position.choice as usize);
-    if is_stopped(table, shape, position) {
-        say(console, b"\tstopped");
+pub(crate) fn moved(console: Console, table: &[u16], shape: Shape, m: Moved) -> Result<(), Told> {
+    choice(console, m.answer)?;
+    console.say_fields(b"\trow", &[m.position.row])?;
+    console.say_fields(b"\tchoice", &[m.position.choice as usize])?;
+    if is_stopped(table, shape, m.position) {
+        console.say(b"\tstopped")?;
     }
-    left(console, steps_left(table, shape, position));
+    left(console, steps_left(table, shape, m.position))
 }

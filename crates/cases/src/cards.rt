@@ -1,121 +1,109 @@
 // Tables and their texts: what is loaded is printed again, and what is printed is loaded again.
-ghost use Rattle.std.specs.Prelude.{◌<◌, ◌≤◌};
+ghost use Rattle.std.specs.Prelude.{◌<◌};
 
 use crate::answer::{fault, loaded, printed, solved};
-use crate::line::{argument, shape_at};
-use crate::memory::{look_at, look_at_cells, look_at_work, ones};
+use crate::line::Case;
+use crate::memory::{look_at, look_at_work, ones};
 use basics::Order;
-use cabinet::{Loaded, Printed};
-use game::{Shape, Solved, TABLE_SIZE};
-use streams::{Console, first};
-use tables::{SIDE_LIMIT, STOP, rank_at};
+use game::{Shape, TABLE_SIZE, Table};
+use rules::Refusal;
+use streams::{Console, Told, first};
+use tables::{SIDE_LIMIT, STOP, rank_at, row_size};
 
-// Says so where the print of a loaded table is not its text.
-fn look_at_print(console: Console, l: Loaded, cells: &[u16], text: &[u8]) {
-    match l {
-        Loaded::Table { shape, worst_case } => {
-            let mut memory = ones();
-            cabinet::print(cells, shape, worst_case, &mut memory);
-            look_at(console, &memory, text, 1);
-        }
-        Loaded::Refused(_) => {}
-    }
+// What loading a text answers.
+type Loaded = Result<Table, Refusal>;
+
+// Says so where the print of a table is not its text.
+fn look_at_print(console: Console, t: Table, cells: &[u16], text: &[u8]) -> Result<(), Told> {
+    let mut memory = ones();
+    let _ = cabinet::print(cells, t.shape, t.worst_case, &mut memory);
+    look_at(console, &memory, text, 1)
 }
 
 // Loads a text, and looks at the table that was lent.
-fn load_in(console: Console, text: &[u8], expected: &[u16], cells: &mut [u16]) -> Loaded {
+fn load_in(
+    console: Console,
+    text: &[u8],
+    expected: &[u16],
+    cells: &mut [u16],
+) -> Result<Loaded, Told> {
     let l = cabinet::load(text, cells);
-    look_at_cells(console, cells, expected);
-    look_at_print(console, l, cells, text);
-    l
+    look_at(console, cells, expected, 1)?;
+    if let Ok(t) = l {
+        look_at_print(console, t, cells, text)?;
+    }
+    Ok(l)
 }
 
 // The same with a table of all cells.
-fn load_whole(console: Console, text: &[u8], expected: &[u16]) -> Loaded {
+fn load_whole(console: Console, text: &[u8], expected: &[u16]) -> Result<Loaded, Told> {
     let mut cells = [1u16; TABLE_SIZE];
     load_in(console, text, expected, &mut cells)
 }
 
-pub(crate) fn load(console: Console, line: &[u8], text: &[u8], expected: &[u16]) {
+pub(crate) fn load(case: Case, text: &[u8], expected: &[u16]) -> Result<(), Told> {
     let mut cells = [1u16; TABLE_SIZE];
-    let n = TABLE_SIZE - argument(console, line, 5) % TABLE_SIZE;
-    loaded(console, load_in(console, text, expected, &mut cells[..n]));
+    let n = TABLE_SIZE - case.argument(5)? % TABLE_SIZE;
+    let l = load_in(case.console, text, expected, &mut cells[..n])?;
+    loaded(case.console, l)
 }
 
 // Loads every proper beginning of a text, and then the text.
-pub(crate) fn prefixes(console: Console, text: &[u8], expected: &[u16]) {
-    let mut n = 0;
-    while n < text.len() {
-        fault(console, load_whole(console, &text[..n], &[]));
-        n += 1;
+pub(crate) fn prefixes(console: Console, text: &[u8], expected: &[u16]) -> Result<(), Told> {
+    for n in 0..text.len() {
+        fault(console, load_whole(console, &text[..n], &[])?)?;
     }
-    loaded(console, load_whole(console, text, expected));
+    loaded(console, load_whole(console, text, expected)?)
 }
 
 // Prints a table that has ones behind its rows, and loads its text.
-fn copy(console: Console, cells: &[u16], shape: Shape, worst: usize) {
+fn copy(console: Console, cells: &[u16], shape: Shape, worst: usize) -> Result<(), Told> {
     let mut text = ones();
     let p = cabinet::print(cells, shape, worst, &mut text);
-    printed(console, p);
-    match p {
-        Printed::Text(n) => loaded(console, load_whole(console, first(&text, n), cells)),
-        Printed::Refused(_) => {}
+    printed(console, p)?;
+    if let Ok(n) = p {
+        loaded(console, load_whole(console, first(&text, n), cells)?)?;
     }
+    Ok(())
 }
 
 // Copies the table that solves a problem.
-pub(crate) fn card(console: Console, source: &[u8], work: &mut [u8]) {
+pub(crate) fn card(console: Console, source: &[u8], work: &mut [u8]) -> Result<(), Told> {
     let mut cells = [1u16; TABLE_SIZE];
     let s = game::solve(source, work, &mut cells);
-    solved(console, s);
-    look_at_work(console, work, false);
-    match s {
-        Solved::Table { shape, worst_case } => copy(console, &cells, shape, worst_case),
-        Solved::Refused(_) => {}
+    solved(console, s)?;
+    look_at_work(console, work, false)?;
+    if let Ok(t) = s {
+        copy(console, &cells, t.shape, t.worst_case)?;
     }
+    Ok(())
 }
-
-// Cells of a row.
-const SET_ROW: usize = 2 + SIDE_LIMIT;
-
-const READ_ROW: usize = 2 + 2 * SIDE_LIMIT;
 
 // Room for one row more than a table may have.
-const CELLS: usize = TABLE_SIZE + READ_ROW;
-
-fn row_size(order: Order) -> usize
-    ensures { 0 < result }
-{
-    match order {
-        Order::Set => SET_ROW,
-        Order::Read => READ_ROW,
-    }
-}
+const CELLS: usize = TABLE_SIZE + 2 + 2 * SIDE_LIMIT;
 
 // Cell k of a row; 0 behind its end.
 fn cell_at(row: &[u16], k: usize) -> u16 {
-    if k < row.len() { row[k] } else { 0 }
+    row.get(k).copied().unwrap_or(0)
 }
 
-// Puts a row of so many cells into a table, again and again, as far as there is room for so many rows.
-fn put_rows(cells: &mut [u16], row: &[u16], size: usize, rows: usize)
-    requires { 0 < size }
+// Copies a table of so many rows, as far as there is room for them. Cell k of row i is `cell(i, k)`.
+fn copy_rows<F: Fn(usize, usize) -> u16>(case: Case, shape: Shape, cell: F) -> Result<(), Told>
+    requires { F.IsAlwaysCallable cell }
 {
-    let mut i = 0;
-    while i < cells.len() && i / size < rows {
-        cells[i] = cell_at(row, i % size);
-        i += 1;
+    let mut cells = [1u16; CELLS];
+    let size = row_size(shape.order);
+    for i in 0..CELLS {
+        if i / size < shape.rows {
+            cells[i] = cell(i / size, i % size);
+        }
     }
+    copy(case.console, &cells, shape, case.argument(6)?)
 }
 
 // Copies a table of equal rows.
-pub(crate) fn fill(console: Console, line: &[u8], row: &[u16]) {
-    let shape = shape_at(console, line, 5, 7, 8);
-    let worst = argument(console, line, 6);
-    let mut cells = [1u16; CELLS];
-    let order = shape.order;
-    put_rows(&mut cells, row, row_size(order), shape.rows);
-    copy(console, &cells, shape, worst);
+pub(crate) fn fill(case: Case, row: &[u16]) -> Result<(), Told> {
+    copy_rows(case, case.shape_at(5, 7, 8)?, |_, k| cell_at(row, k))
 }
 
 // Whether cell k of a row is a next row.
@@ -126,48 +114,26 @@ fn is_next(order: Order, k: usize) -> bool {
     }
 }
 
-// The row so many rows further down than row i, but not past the last.
-fn further(i: usize, down: usize, last: usize) -> usize
-    requires { i ≤ last }
-    ensures { result ≤ last }
-{
-    if down < last - i { i + down } else { last }
-}
-
 // Cell k of row i of a ladder whose last row stops.
-fn rung(row: &[u16], order: Order, k: usize, i: usize, last: usize) -> u16
-    requires { (i ≤ last) × (last < 65536) }
+fn rung(row: &[u16], shape: Shape, i: usize, k: usize) -> u16
+    requires { shape.rows < 65536 }
 {
-    if i == last {
+    let below = shape.rows.saturating_sub(i).saturating_sub(1);
+    if below == 0 {
         return cell_at(&[STOP], k);
     }
-    if k == rank_at(order) {
-        return (last - i) as u16;
+    if k == rank_at(shape.order) {
+        return below as u16;
     }
     let cell = cell_at(row, k);
-    if is_next(order, k) & (cell > 0) {
-        return further(i, cell as usize, last) as u16;
+    if is_next(shape.order, k) & (cell > 0) {
+        return (i + below.min(cell as usize)) as u16;
     }
     cell
 }
 
-// Puts a ladder of so many rows, each of so many cells, into a table, as far as there is room.
-fn put_ladder(cells: &mut [u16], row: &[u16], order: Order, size: usize, rows: usize)
-    requires { (0 < size) × (rows < 65536) }
-{
-    let mut i = 0;
-    while i < cells.len() && i / size < rows {
-        cells[i] = rung(row, order, i % size, i / size, rows - 1);
-        i += 1;
-    }
-}
-
-// Copies a table of rows that lead down to the last.
-pub(crate) fn ladder(console: Console, line: &[u8], row: &[u16]) {
-    let shape = shape_at(console, line, 5, 7, 8);
-    let worst = argument(console, line, 6);
-    let mut cells = [1u16; CELLS];
-    let order = shape.order;
-    put_ladder(&mut cells, row, order, row_size(order), shape.rows);
-    copy(console, &cells, shape, worst);
+// Copies a table of rows that lead down to the last. A next row of the row that is given says how many rows further down it is.
+pub(crate) fn ladder(case: Case, row: &[u16]) -> Result<(), Told> {
+    let shape = case.shape_at(5, 7, 8)?;
+    copy_rows(case, shape, move |i, k| rung(row, shape, i, k))
 }

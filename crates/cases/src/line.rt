@@ -1,175 +1,164 @@
 // The texts, numbers and shapes in a line's fields. In a text `\n` is a line end, `\t` a tab, `\r` a carriage return and `\\` a backslash,
 // and `\2` is all that stands before it in the text once more: `\n\2\2` is four line ends. Numbers are decimal. Those of a list are parted
 // by single spaces, and `z` before a number is so many zeros: `1 z3` is `1 0 0 0`.
-ghost use Rattle.std.specs.Prelude.{◌≤◌, ◌<◌, length};
+ghost use Rattle.std.specs.Prelude.{◌≤◌, ◌<◌, length, IfOk};
 
-use crate::answer::wrong;
-use basics::{Class, Number, Order, field, number_in, past, put_byte};
+use basics::{Class, Order, field, past, put_byte};
 use game::Shape;
-use streams::Console;
+use streams::{Console, Told};
 
-// The number that digits stand for; 0 where they are wrong.
-fn number(console: Console, digits: &[u8]) -> usize
-    ensures { result < 65536 }
-{
-    match number_in(digits) {
-        Number::Value(n) => n,
-        Number::Bad => {
-            wrong(console);
-            0
+// A case: its line, and where it is answered.
+#[derive(Clone, Copy)]
+pub struct Case<'a> {
+    pub console: Console,
+    pub line: &'a [u8],
+}
+
+impl<'a> Case<'a> {
+    pub(crate) fn field(self, k: usize) -> &'a [u8] {
+        field(self.line, k)
+    }
+
+    // The number in a field; 0 where the field is empty.
+    pub(crate) fn argument(self, k: usize) -> Result<usize, Told>
+        ensures { IfOk result (λ n. n < 65536) }
+    {
+        match self.field(k) {
+            [] => Ok(0),
+            digits => self.console.number_in(digits),
         }
     }
-}
 
-// The number in a field; 0 where the field is empty.
-pub(crate) fn argument(console: Console, line: &[u8], k: usize) -> usize
-    ensures { result < 65536 }
-{
-    let digits = field(line, k);
-    if digits.len() == 0 {
-        return 0;
-    }
-    number(console, digits)
-}
-
-// The order in a field: 0 or nothing for `set`, 1 for `read`.
-fn order_at(console: Console, line: &[u8], k: usize) -> Order {
-    match argument(console, line, k) {
-        0 => Order::Set,
-        1 => Order::Read,
-        _ => {
-            wrong(console);
-            Order::Set
+    // The order in a field: 0 or nothing for `set`, 1 for `read`.
+    fn order_at(self, k: usize) -> Result<Order, Told> {
+        match self.argument(k)? {
+            0 => Ok(Order::Set),
+            1 => Ok(Order::Read),
+            _ => {
+                self.console.say_wrong()?;
+                Ok(Order::Set)
+            }
         }
     }
-}
 
-// The shape whose row count, observed signals and order stand in these fields.
-pub(crate) fn shape_at(
-    console: Console,
-    line: &[u8],
-    rows: usize,
-    observed: usize,
-    order: usize,
-) -> Shape
-    ensures { result.rows < 65536 }
-{
-    Shape {
-        rows: argument(console, line, rows),
-        observed: argument(console, line, observed),
-        order: order_at(console, line, order),
+    // The shape whose row count, observed signals and order stand in these fields.
+    pub(crate) fn shape_at(self, rows: usize, observed: usize, order: usize) -> Result<Shape, Told>
+        ensures { IfOk result (λ s. s.rows < 65536) }
+    {
+        Ok(Shape {
+            rows: self.argument(rows)?,
+            observed: self.argument(observed)?,
+            order: self.order_at(order)?,
+        })
     }
 }
 
-// Puts a number behind others, and answers how many there are then.
-fn put_number(console: Console, numbers: &mut [u16], n: usize, digits: &[u8]) -> usize
-    requires { n ≤ length numbers.old }
-    ensures { result ≤ length numbers.new }
+// Puts a number, if there is room, and answers how many are put.
+fn put_number(console: Console, room: &mut [u16], digits: &[u8]) -> Result<usize, Told>
+    ensures { IfOk result (λ n. n ≤ length room.new) }
 {
-    if n < numbers.len() {
-        numbers[n] = number(console, digits) as u16;
-        return n + 1;
+    if room.len() == 0 {
+        console.say_wrong()?;
+        return Ok(0);
     }
-    wrong(console);
-    n
+    room[0] = console.number_in(digits)? as u16;
+    Ok(1)
 }
 
-// How many numbers there are with k zeros behind n others, of at most `most`. Numbers that are not put are 0.
-fn with_zeros(console: Console, n: usize, k: usize, most: usize) -> usize
-    requires { n ≤ most }
-    ensures { result ≤ most }
+// How many of k zeros are put: all, if there is room. Numbers that are not put are 0.
+fn zeros(console: Console, room: usize, k: usize) -> Result<usize, Told>
+    ensures { IfOk result (λ n. n ≤ room) }
 {
-    if k > most - n {
-        wrong(console);
-        return n;
+    if k > room {
+        console.say_wrong()?;
+        return Ok(0);
     }
-    n + k
+    Ok(k)
 }
 
-// Puts what a word of a list stands for behind n numbers, and answers how many there are then.
-fn put_word(console: Console, numbers: &mut [u16], n: usize, word: &[u8]) -> usize
-    requires { n ≤ length numbers.old }
-    ensures { result ≤ length numbers.new }
+// Puts what a word of a list stands for, and answers how many numbers are put.
+fn put_word(console: Console, room: &mut [u16], word: &[u8]) -> Result<usize, Told>
+    ensures { IfOk result (λ n. n ≤ length room.new) }
 {
-    if word.len() > 0 && word[0] == b'z' {
-        return with_zeros(console, n, number(console, &word[1..]), numbers.len());
+    match word {
+        [b'z', digits @ ..] => zeros(console, room.len(), console.number_in(digits)?),
+        _ => put_number(console, room, word),
     }
-    put_number(console, numbers, n, word)
 }
 
 // The place behind a word, where a space or the list's end has to stand.
-fn word_end(console: Console, list: &[u8], from: usize) -> usize
+#[tactic(auto, using(basics::proofs::BytesLaws::past_in))]
+fn word_end(console: Console, list: &[u8], from: usize) -> Result<usize, Told>
     requires { from ≤ length list.now }
-    ensures { (from ≤ result) × (result ≤ length list.now) }
+    ensures { IfOk result (λ end. (from ≤ end) × (end ≤ length list.now)) }
 {
     let end = past(list, from, Class::Word);
     if end < list.len() && list[end] != b' ' {
-        wrong(console);
+        console.say_wrong()?;
     }
-    end
+    Ok(end)
 }
 
-// Reads a list into numbers that are 0 before, and answers how many there are.
-pub(crate) fn read_numbers(console: Console, list: &[u8], numbers: &mut [u16]) -> usize
-    ensures { result ≤ length numbers.new }
-{
+// Reads a list into numbers that are 0 before, and answers those that it has.
+pub(crate) fn read_numbers<'a>(
+    console: Console,
+    list: &[u8],
+    numbers: &'a mut [u16],
+) -> Result<&'a [u16], Told> {
     let mut n = 0;
     let mut i = 0;
     while i < list.len() {
-        let end = word_end(console, list, i);
-        n = put_word(console, numbers, n, &list[i..end]);
+        let end = word_end(console, list, i)?;
+        n += put_word(console, &mut numbers[n..], &list[i..end])?;
         i = end + 1;
     }
-    n
+    Ok(&numbers[..n])
 }
 
 // The byte that a backslash and another byte stand for.
-fn escaped(console: Console, b: u8) -> u8 {
+fn escaped(console: Console, b: u8) -> Result<u8, Told> {
     match b {
-        b'n' => b'\n',
-        b't' => b'\t',
-        b'r' => b'\r',
-        b'\\' => b'\\',
+        b'n' => Ok(b'\n'),
+        b't' => Ok(b'\t'),
+        b'r' => Ok(b'\r'),
+        b'\\' => Ok(b'\\'),
         _ => {
-            wrong(console);
-            0
+            console.say_wrong()?;
+            Ok(0)
         }
     }
 }
 
 // Puts the n bytes of a text behind themselves, if there is room, and answers how many there are then.
-fn put_again(console: Console, text: &mut [u8], n: usize) -> usize
+fn put_again(console: Console, text: &mut [u8], n: usize) -> Result<usize, Told>
     requires { n ≤ length text.old }
-    ensures { result ≤ length text.new }
+    ensures { IfOk result (λ m. m ≤ length text.new) }
 {
     if text.len() - n < n {
-        wrong(console);
-        return n;
+        console.say_wrong()?;
+        return Ok(n);
     }
-    let mut i = 0;
-    while i < n {
-        text[n + i] = text[i];
-        i += 1;
-    }
-    n + n
+    text.copy_within(..n, n);
+    Ok(n + n)
 }
 
 // Puts a byte, or what a backslash and the next byte stand for, behind n bytes, and answers how many there are then.
-fn put(console: Console, text: &mut [u8], n: usize, b: u8, next: u8) -> usize
+fn put(console: Console, text: &mut [u8], n: usize, b: u8, next: u8) -> Result<usize, Told>
     requires { n ≤ length text.old }
-    ensures { result ≤ length text.new }
+    ensures { IfOk result (λ m. m ≤ length text.new) }
 {
     if n == text.len() {
-        wrong(console);
-        return n;
+        console.say_wrong()?;
+        return Ok(n);
     }
     if b != b'\\' {
-        return put_byte(text, n, b);
+        return Ok(put_byte(text, n, b));
     }
     if next == b'2' {
         return put_again(console, text, n);
     }
-    put_byte(text, n, escaped(console, next))
+    let byte = escaped(console, next)?;
+    Ok(put_byte(text, n, byte))
 }
 
 // How many bytes that takes of the line.
@@ -179,21 +168,18 @@ fn width(b: u8) -> usize
     if b == b'\\' { 2 } else { 1 }
 }
 
-// The byte at a place; 0 behind the end.
-fn byte_at(console: Console, raw: &[u8], i: usize) -> u8 {
-    if i < raw.len() { raw[i] } else { 0 }
-}
-
-// Reads a text, and answers its length.
-pub(crate) fn read_text(console: Console, raw: &[u8], text: &mut [u8]) -> usize
-    ensures { result ≤ length text.new }
-{
+// Reads a text, and answers it.
+pub(crate) fn read_text<'a>(
+    console: Console,
+    raw: &[u8],
+    text: &'a mut [u8],
+) -> Result<&'a [u8], Told> {
     let mut n = 0;
     let mut i = 0;
     while i < raw.len() {
         let b = raw[i];
-        n = put(console, text, n, b, byte_at(console, raw, i + 1));
+        n = put(console, text, n, b, raw.get(i + 1).copied().unwrap_or(0))?;
         i += width(b);
     }
-    n
+    Ok(&text[..n])
 }

@@ -18,11 +18,11 @@
 //
 // `line.rt` says how a text, a list of numbers and an order are written, `parts.rt` how parts are. Lent memory holds ones before a call, and
 // all of it is looked at afterwards: the answer has the field `wrong` where it is not as it should be, or where the line is not of this
-// form. A table that was loaded is printed again, which has to give its text.
+// form. A table that was loaded is printed again, which has to give its text. Nothing is written behind what could not be written.
 #![tactic(auto)]
 
-use basics::Class;
-use streams::{Console, Input};
+use crate::line::Case;
+use streams::{Console, LINES_SIZE, Told, for_each_line};
 
 mod answer;
 mod call;
@@ -31,44 +31,22 @@ mod line;
 mod memory;
 mod parts;
 
-// Runs the case of a line, and answers whether the end of its line could be written.
-fn run(console: Console, line: &[u8]) -> bool {
-    answer::say(console, basics::field(line, 0));
-    call::call(console, line);
-    streams::say(console, b"cases", b"\n")
+// Runs the case of a line.
+fn run_line(console: Console, line: &[u8]) -> Result<(), Told> {
+    let case = Case { console, line };
+    console.say(case.field(0))?;
+    call::call(case)?;
+    console.say(b"\n")
 }
 
-// Runs the cases up to one that could not be written.
-#[tactic(auto, using(basics::proofs::BytesLaws::past_in))]
-fn run_lines(console: Console, input: &[u8]) -> bool {
-    let mut i = 0;
-    while i < input.len() {
-        let end = basics::past(input, i, Class::Line);
-        if !run(console, &input[i..end]) {
-            return false;
-        }
-        i = end + 1;
-    }
-    true
+fn run(rt: &HostRuntime, console: Console) -> Result<(), Told> {
+    let mut buffer = [0u8; LINES_SIZE];
+    let lines = streams::read_lines(console, &mut rt.stdin(), &mut buffer)?;
+    for_each_line(lines, |line| run_line(console, line))?;
+    console.close_output()
 }
 
-fn run_all(console: Console, input: &[u8]) {
-    if run_lines(console, input) {
-        streams::close_output(console, b"cases");
-    }
-}
-
-// No case is run from a part of the input: one that fills the buffer may go on.
+// What failed is told, and the exit status is 0 all the same.
 fn main(rt: HostRuntime) {
-    let console = Console {
-        output: rt.stdout(),
-        errors: rt.stderr(),
-        alloc: rt.alloc(),
-    };
-    let mut input = [0u8; 65536];
-    match streams::read_to_end(&mut rt.stdin(), &mut input) {
-        Input::Whole(n) => run_all(console, streams::first(&input, n)),
-        Input::Longer => streams::tell(console, b"cases", b"standard input", b"over 65,535 bytes"),
-        Input::Failed(error) => streams::fail(console, b"cases", b"standard input", error),
-    }
+    let _ = run(&rt, Console::new(&rt, "cases"));
 }

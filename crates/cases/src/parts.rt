@@ -2,93 +2,74 @@
 ghost use Rattle.std.specs.Prelude.{◌<◌};
 ghost use Rattle.formula.specs.Limits.{part_limit};
 
-use crate::answer::{reading, verdict, wrong};
-use crate::line::{argument, read_numbers};
-use basics::field;
-use lines::{OrderSoFar, PART_LIMIT, Sizes};
+use crate::answer::{reading, verdict};
+use crate::line::{Case, read_numbers};
+use lines::{PART_LIMIT, Sizes};
 use records::PartList;
-use streams::Console;
+use streams::{Console, Told};
 
 // Number k of a list, as a byte; 0 behind its end.
-fn byte_at(console: Console, numbers: &[u16], k: usize) -> u32
-    ensures { result < 256 }
-{
-    if k < numbers.len() {
-        let n = numbers[k];
-        if n < 256 {
-            return n as u32;
+fn byte_at(console: Console, numbers: &[u16], k: usize) -> Result<u8, Told> {
+    match u8::try_from(numbers.get(k).copied().unwrap_or(0)) {
+        Ok(b) => Ok(b),
+        Err(_) => {
+            console.say_wrong()?;
+            Ok(0)
         }
-        wrong(console);
     }
-    0
 }
 
 // The number that holds part i of a list.
-fn code_at(console: Console, numbers: &[u16], i: usize) -> u32
+fn code_at(console: Console, numbers: &[u16], i: usize) -> Result<u32, Told>
     requires { i < part_limit }
 {
-    byte_at(console, numbers, 3 * i)
-        + 256 * byte_at(console, numbers, 3 * i + 1)
-        + 65536 * byte_at(console, numbers, 3 * i + 2)
+    Ok(u32::from_le_bytes([
+        byte_at(console, numbers, 3 * i)?,
+        byte_at(console, numbers, 3 * i + 1)?,
+        byte_at(console, numbers, 3 * i + 2)?,
+        0,
+    ]))
 }
 
 // The parts of a list, with zeros behind them.
-fn codes_of(console: Console, numbers: &[u16]) -> [u32; PART_LIMIT] {
+fn codes_of(console: Console, numbers: &[u16]) -> Result<[u32; PART_LIMIT], Told> {
     let mut codes = [0u32; PART_LIMIT];
-    let mut i = 0;
-    while i < PART_LIMIT {
-        codes[i] = code_at(console, numbers, i);
-        i += 1;
+    for i in 0..PART_LIMIT {
+        codes[i] = code_at(console, numbers, i)?;
     }
-    codes
-}
-
-// Number i of those that hold parts; 0 behind their end.
-fn held_at(codes: &[u32], i: usize) -> u32 {
-    if i < codes.len() { codes[i] } else { 0 }
-}
-
-// Says so where they do not hold the parts of a list.
-fn look_at_parts(console: Console, codes: &[u32], numbers: &[u16]) {
-    let mut i = 0;
-    while i < PART_LIMIT {
-        if held_at(codes, i) != code_at(console, numbers, i) {
-            return wrong(console);
-        }
-        i += 1;
-    }
+    Ok(codes)
 }
 
 // Lists the parts of a problem, and looks at them.
-pub(crate) fn list(console: Console, line: &[u8], source: &[u8], numbers: &[u16]) {
-    let l = records::list_parts(source, argument(console, line, 5));
+pub(crate) fn list(case: Case, source: &[u8], numbers: &[u16]) -> Result<(), Told> {
+    let l = records::list_parts(source, case.argument(5)?);
     let r = l.reading;
-    reading(console, r);
-    let codes = l.codes;
-    look_at_parts(console, &codes, numbers);
+    reading(case.console, r)?;
+    if l.codes != codes_of(case.console, numbers)? {
+        case.console.say_wrong()?;
+    }
+    Ok(())
 }
 
 // Judges a trace by the parts of a list.
-fn judge_by(console: Console, line: &[u8], numbers: &[u16], trace: &[u16]) {
+fn judge_by(case: Case, numbers: &[u16], trace: &[u16]) -> Result<(), Told> {
     let s = Sizes {
-        outputs: argument(console, line, 6),
-        observed: argument(console, line, 7),
-        hidden: argument(console, line, 8),
-        parts: argument(console, line, 9),
+        outputs: case.argument(6)?,
+        observed: case.argument(7)?,
+        hidden: case.argument(8)?,
+        parts: case.argument(9)?,
         operators: 0,
-        order: OrderSoFar::Open,
+        order: None,
     };
     let l = PartList {
-        codes: codes_of(console, numbers),
+        codes: codes_of(case.console, numbers)?,
     };
-    verdict(
-        console,
-        records::judge_list(l, argument(console, line, 5), s, trace),
-    );
+    let room = case.argument(5)?;
+    verdict(case.console, records::judge_list(l, room, s, trace))
 }
 
-pub(crate) fn judge_list(console: Console, line: &[u8], trace: &[u16]) {
+pub(crate) fn judge_list(case: Case, trace: &[u16]) -> Result<(), Told> {
     let mut numbers = [0u16; 3 * PART_LIMIT];
-    let n = read_numbers(console, field(line, 10), &mut numbers);
-    judge_by(console, line, &numbers[..n], trace);
+    let parts = read_numbers(case.console, case.field(10), &mut numbers)?;
+    judge_by(case, parts, trace)
 }

@@ -2,27 +2,30 @@
 // plan word and what it stands for: then a formula can be drawn in two ways, with the same pattern, signals and operands.
 ghost use Rattle.std.specs.Prelude.{◌+◌, ◌<◌};
 
+use crate::comparing::ROOM;
+use crate::draw::Kind;
+use crate::list::List;
 use std::num::wrapping_add_usize;
 
-// Where drawing stands: the generator, the length of the text, the temporal operators left, and whose turn it is among the signals; then
-// what it needs of the kind. Inputs are the signals that are not outputs.
+// A text, which is cut where it does not fit.
+pub type Text = List<u8, ROOM>;
+
+// A side of the patterns that are pairs.
 #[derive(Clone, Copy)]
-pub struct Drawing {
-    pub seed: u64,
-    pub at: usize,
-    pub operators: usize,
-    pub turn: usize,
-    pub outputs: usize,
-    pub observed: usize,
-    pub inputs: usize,
-    pub size: usize,
-    pub second: bool,
+pub enum Side {
+    First,
+    Second,
 }
 
-// Words are numbers of up to eight bytes, the first byte lowest, as `true`.
-const TRUE: u64 = 0x65757274;
-
-pub const LINE_END: u64 = 10;
+// Where drawing stands: the generator, the temporal operators left, and whose turn it is among the signals; then what is drawn.
+#[derive(Clone, Copy)]
+pub struct Drawing<'a> {
+    pub seed: u64,
+    pub operators: usize,
+    pub turn: usize,
+    pub side: Side,
+    pub kind: Kind<'a>,
+}
 
 // One step of the generator xorshift64.
 pub(crate) fn step(x: u64) -> u64 {
@@ -39,34 +42,6 @@ pub(crate) fn below(seed: u64, n: usize) -> usize
     seed as usize % n
 }
 
-// Puts a word behind the text, as far as there is room. With every word the generator goes a step on: all that is drawn for one word comes
-// from one seed.
-pub(crate) fn put(text: &mut [u8], d: Drawing, word: u64) -> Drawing {
-    let mut at = d.at;
-    let mut w = word;
-    while w > 0 && at < text.len() {
-        text[at] = (w % 256) as u8;
-        at += 1;
-        w /= 256;
-    }
-    let mut e = d;
-    e.at = at;
-    e.seed = step(d.seed);
-    e
-}
-
-// A token of one byte, where `>` stands for `->`; now and then with a space before it where it is no small letter.
-fn token(b: u8, seed: u64) -> u64 {
-    let w = b as u64;
-    if b == b'>' {
-        return w << 8 | 45;
-    }
-    if (b < b'a') & (seed >> 50 & 7 == 0) {
-        return w << 8 | 32;
-    }
-    w
-}
-
 // What stands in the place of a temporal operator when none is left; other bytes stand for themselves.
 fn plain(b: u8) -> u8 {
     match b {
@@ -77,55 +52,11 @@ fn plain(b: u8) -> u8 {
     }
 }
 
-// Puts an operator, which is counted if it is temporal.
-fn put_operator(text: &mut [u8], d: Drawing, b: u8) -> Drawing {
-    let mut e = d;
-    let mut c = plain(b);
-    if c != b && d.operators > 0 {
-        e.operators = d.operators - 1;
-        c = b;
-    }
-    put(text, e, token(c, d.seed))
-}
-
 // A name of one letter. The eighth of a kind has the name of the first.
-pub(crate) fn letter(first: u8, i: usize) -> u64 {
-    first as u64 + i as u64 % 7
-}
-
-// The name of signal i: outputs first, then observed, then hidden ones.
-fn name(d: Drawing, i: usize) -> u64 {
-    if i < d.outputs {
-        return letter(b'a', i);
-    }
-    let j = i - d.outputs;
-    if j < d.observed {
-        return letter(b's', j);
-    }
-    letter(b'h', j - d.observed)
-}
-
-// The name that has its turn at t among the n signals from the first on, or `true` where there are none.
-fn signal(d: Drawing, t: usize, first: usize, n: usize) -> u64 {
-    if n == 0 {
-        return TRUE;
-    }
-    name(d, wrapping_add_usize(first, t % n))
-}
-
-// Gives the turn to the next signal, or by one chance in four to the one after it.
-pub(crate) fn turned(d: Drawing) -> Drawing {
-    let mut e = d;
-    e.turn = d.turn % 5040 + 1 + (d.seed >> 30) as usize % 4 / 3;
-    e
-}
-
-// The signal that has its turn, or by one chance in sixteen `true`.
-fn leaf(d: Drawing) -> u64 {
-    if d.seed >> 20 & 15 == 0 {
-        return TRUE;
-    }
-    signal(d, d.turn, 0, wrapping_add_usize(d.outputs, d.inputs))
+pub(crate) fn letter(first: u8, i: usize) -> u8
+    requires { first < 128 }
+{
+    first + (i % 7) as u8
 }
 
 // The operators that a tree is drawn from. The first ten are prefixes.
@@ -137,8 +68,8 @@ fn operator_at(k: usize) -> u8
 }
 
 // A parenthesis, or a space by one chance in four: for both of a pair by the same seed.
-fn parenthesis(b: u64, seed: u64) -> u64 {
-    if seed >> 40 & 3 == 0 { 32 } else { b }
+fn parenthesis(b: u8, seed: u64) -> u8 {
+    if seed >> 40 & 3 == 0 { b' ' } else { b }
 }
 
 // How many parts the left operand has. It is the smaller one more often.
@@ -147,59 +78,6 @@ fn left_size(seed: u64, size: usize) -> usize
     ensures { (0 < result) × (result + 1 < size) }
 {
     below(seed >> 30, below(seed >> 45, size - 2) + 1) + 1
-}
-
-// Puts a random formula of at most so many parts, and of one at least.
-#[cycle(put_tree_put_two)]
-fn put_tree(text: &mut [u8], d: Drawing, size: usize) -> Drawing {
-    if size < 3 {
-        let e = turned(d);
-        return put(text, e, leaf(e));
-    }
-    let k = below(d.seed >> 20, 20);
-    let b = operator_at(k);
-    if k < 10 {
-        let e = put_operator(text, d, b);
-        return put_tree(text, e, size - 1);
-    }
-    put_two(text, d, b, size)
-}
-
-// Puts an operator between its operands.
-#[cycle(put_tree_put_two)]
-fn put_two(text: &mut [u8], d: Drawing, b: u8, size: usize) -> Drawing
-    requires { 2 < size }
-{
-    let left = left_size(d.seed, size);
-    let mut e = put(text, d, parenthesis(40, d.seed));
-    e = put_tree(text, e, left);
-    e = put_operator(text, e, b);
-    e = put_tree(text, e, size - 1 - left);
-    put(text, e, parenthesis(41, d.seed))
-}
-
-// How many parts a tree has: the most that are asked for, or down to half of them.
-fn tree_size(d: Drawing) -> usize {
-    d.size - below(d.seed >> 20, d.size / 2 + 1)
-}
-
-// The signal of a variable of the pattern that began at a place.
-fn variable(start: Drawing, b: u8) -> u64 {
-    let t = wrapping_add_usize(start.turn, b as usize);
-    if b < b'x' {
-        return signal(start, t, start.outputs, start.inputs);
-    }
-    signal(start, t, 0, start.outputs)
-}
-
-// A variable with its sign, the same wherever it stands in the pattern.
-fn signed(start: Drawing, b: u8) -> u64 {
-    let w = variable(start, b);
-    if start.seed >> (b % 16) & 1 == 0 {
-        w << 8 | 33
-    } else {
-        w
-    }
 }
 
 // What a byte of a pattern draws: `Y` is one of `X` and `N`, `V` one of `U` and `R`, and `W` the small letter, as in `Within`. Others, such
@@ -214,85 +92,207 @@ fn drawn(b: u8, seed: u64) -> u8 {
     }
 }
 
-// Puts a random formula without temporal operators, the same wherever it stands in the pattern: an operand of a plan word.
-fn put_operand(text: &mut [u8], d: Drawing, start: Drawing) -> Drawing {
-    let mut e = start;
-    e.at = d.at;
-    e.operators = 0;
-    e = put_tree(text, e, tree_size(start));
-    e.operators = d.operators;
-    e
-}
-
-// Puts what a byte of a pattern stands for: `v` and `w` are inputs, `x` and `y` outputs, `#` is a tree, `%` an operand, `>` the arrow.
-fn put_symbol(text: &mut [u8], d: Drawing, start: Drawing, b: u8) -> Drawing {
-    if (b >= b'v') & (b <= b'y') {
-        return put(text, d, signed(start, b));
-    }
-    if b == b'#' {
-        return put_tree(text, d, tree_size(d));
-    }
-    if b == b'%' {
-        return put_operand(text, d, start);
-    }
-    put_operator(text, d, drawn(b, d.seed))
-}
-
 // The start of a pattern: the place behind the next space from a drawn place on, or the first where there is none.
 fn pattern_at(patterns: &[u8], seed: u64) -> usize {
     let n = patterns.len();
     if n == 0 {
         return 0;
     }
-    let mut i = below(seed >> 40, n);
-    while i < patterns.len() {
+    for i in below(seed >> 40, n)..n {
         if patterns[i] == b' ' {
             return i + 1;
         }
-        i += 1;
     }
     0
 }
 
 // Where the second side begins of the pattern that begins at a place: behind `=`, or at the same place where the pattern is no pair.
 fn second_at(patterns: &[u8], first: usize) -> usize {
-    let mut i = first;
-    while i < patterns.len() && patterns[i] != b' ' {
-        if patterns[i] == b'=' {
-            return i + 1;
+    for i in first..patterns.len() {
+        match patterns[i] {
+            b'=' => return i + 1,
+            b' ' => return first,
+            _ => {}
         }
-        i += 1;
     }
     first
 }
 
-// Puts the side of a pattern that begins at a place.
-fn put_side(text: &mut [u8], d: Drawing, patterns: &[u8], first: usize) -> Drawing {
-    let mut e = d;
-    let mut i = first;
-    while i < patterns.len() && patterns[i] != b' ' && patterns[i] != b'=' {
-        e = put_symbol(text, e, d, patterns[i]);
-        i += 1;
+impl Drawing<'_> {
+    // Puts a word. With every word the generator goes a step on: all that is drawn for one word comes from one seed.
+    pub(crate) fn put(&mut self, text: &mut Text, word: &[u8]) {
+        text.append(word);
+        self.seed = step(self.seed);
     }
-    e
-}
 
-// The place of the side that is put.
-fn side_at(d: Drawing, first: usize, second: usize) -> usize {
-    if d.second { second } else { first }
-}
+    // Puts a token of one byte, where `>` stands for `->`; now and then with a space before it where it is no small letter.
+    fn put_token(&mut self, text: &mut Text, b: u8) {
+        if b == b'>' {
+            text.append(b"-");
+        } else if (b < b'a') & (self.seed >> 50 & 7 == 0) {
+            text.append(b" ");
+        }
+        self.put(text, &[b]);
+    }
 
-// Where drawing goes on behind a pattern: behind a pair from where it began, so that what comes is the same behind either side.
-fn behind(start: Drawing, e: Drawing, is_pair: bool) -> Drawing {
-    let mut next = if is_pair { start } else { e };
-    next.at = e.at;
-    next
-}
+    // Puts an operator, which is counted if it is temporal.
+    fn put_operator(&mut self, text: &mut Text, b: u8) {
+        if plain(b) != b && self.operators > 0 {
+            self.operators -= 1;
+            self.put_token(text, b);
+        } else {
+            self.put_token(text, plain(b));
+        }
+    }
 
-// Puts one side of one of the patterns, and the line's end.
-pub(crate) fn put_pattern(text: &mut [u8], d: Drawing, patterns: &[u8]) -> Drawing {
-    let first = pattern_at(patterns, d.seed);
-    let second = second_at(patterns, first);
-    let e = put_side(text, d, patterns, side_at(d, first, second));
-    put(text, behind(d, e, second != first), LINE_END)
+    // The name of signal i: outputs first, then observed, then hidden ones.
+    fn name(self, i: usize) -> u8 {
+        if i < self.kind.outputs {
+            return letter(b'a', i);
+        }
+        let j = i - self.kind.outputs;
+        if j < self.kind.observed {
+            return letter(b's', j);
+        }
+        letter(b'h', j - self.kind.observed)
+    }
+
+    // The name that has its turn at t among the n signals from the first on, where there are any.
+    fn signal(self, t: usize, first: usize, n: usize) -> Option<u8> {
+        if n == 0 {
+            return None;
+        }
+        Some(self.name(wrapping_add_usize(first, t % n)))
+    }
+
+    // Puts a signal's name, or `true` for none.
+    fn put_signal(&mut self, text: &mut Text, signal: Option<u8>) {
+        match signal {
+            Some(name) => self.put(text, &[name]),
+            None => self.put(text, b"true"),
+        }
+    }
+
+    // Gives the turn to the next signal, or by one chance in four to the one after it.
+    pub(crate) fn take_turn(&mut self) {
+        self.turn = self.turn % 5040 + 1 + (self.seed >> 30) as usize % 4 / 3;
+    }
+
+    // The signal that has its turn, or by one chance in sixteen none.
+    fn leaf(self) -> Option<u8> {
+        if self.seed >> 20 & 15 == 0 {
+            return None;
+        }
+        let n = wrapping_add_usize(self.kind.outputs, self.kind.inputs());
+        self.signal(self.turn, 0, n)
+    }
+
+    // Puts a random formula of at most so many parts, and of one at least.
+    #[cycle(put_tree_put_two)]
+    fn put_tree(&mut self, text: &mut Text, size: usize) {
+        if size < 3 {
+            self.take_turn();
+            let signal = self.leaf();
+            return self.put_signal(text, signal);
+        }
+        let k = below(self.seed >> 20, 20);
+        let b = operator_at(k);
+        if k < 10 {
+            self.put_operator(text, b);
+            return self.put_tree(text, size - 1);
+        }
+        self.put_two(text, b, size);
+    }
+
+    // Puts an operator between its operands.
+    #[cycle(put_tree_put_two)]
+    fn put_two(&mut self, text: &mut Text, b: u8, size: usize)
+        requires { 2 < size }
+    {
+        let seed = self.seed;
+        let left = left_size(seed, size);
+        self.put(text, &[parenthesis(b'(', seed)]);
+        self.put_tree(text, left);
+        self.put_operator(text, b);
+        self.put_tree(text, size - 1 - left);
+        self.put(text, &[parenthesis(b')', seed)]);
+    }
+
+    // How many parts a tree has: the most that are asked for, or down to half of them.
+    fn tree_size(self) -> usize {
+        let most = self.kind.size;
+        most - below(self.seed >> 20, most / 2 + 1)
+    }
+
+    // The signal of a variable of the pattern that begins here.
+    fn variable(self, b: u8) -> Option<u8> {
+        let t = wrapping_add_usize(self.turn, b as usize);
+        if b < b'x' {
+            return self.signal(t, self.kind.outputs, self.kind.inputs());
+        }
+        self.signal(t, 0, self.kind.outputs)
+    }
+
+    // Puts a variable with its sign, the same wherever it stands in the pattern.
+    fn put_variable(&mut self, text: &mut Text, start: Drawing, b: u8) {
+        if start.seed >> (b % 16) & 1 == 0 {
+            text.append(b"!");
+        }
+        self.put_signal(text, start.variable(b));
+    }
+
+    // Puts a random formula without temporal operators, the same wherever it stands in the pattern: an operand of a plan word.
+    fn put_operand(&mut self, text: &mut Text, start: Drawing) {
+        let operators = self.operators;
+        self.seed = start.seed;
+        self.turn = start.turn;
+        self.operators = 0;
+        self.put_tree(text, start.tree_size());
+        self.operators = operators;
+    }
+
+    // Puts what a byte of a pattern stands for: `v` and `w` are inputs, `x` and `y` outputs, `#` is a tree, `%` an operand, `>` the arrow.
+    fn put_symbol(&mut self, text: &mut Text, start: Drawing, b: u8) {
+        match b {
+            b'v'..=b'y' => self.put_variable(text, start, b),
+            b'#' => {
+                let size = self.tree_size();
+                self.put_tree(text, size);
+            }
+            b'%' => self.put_operand(text, start),
+            _ => {
+                let operator = drawn(b, self.seed);
+                self.put_operator(text, operator);
+            }
+        }
+    }
+
+    // Puts the side of a pattern that begins at a place.
+    fn put_side(&mut self, text: &mut Text, first: usize) {
+        let start = *self;
+        let patterns = self.kind.patterns;
+        for i in first..patterns.len() {
+            let b = patterns[i];
+            if (b == b' ') | (b == b'=') {
+                return;
+            }
+            self.put_symbol(text, start, b);
+        }
+    }
+
+    // Puts one side of one of the patterns, and the line's end. Behind a pair drawing goes on from where it began, so that what comes is the
+    // same behind either side.
+    pub(crate) fn put_pattern(&mut self, text: &mut Text) {
+        let start = *self;
+        let first = pattern_at(self.kind.patterns, self.seed);
+        let second = second_at(self.kind.patterns, first);
+        match self.side {
+            Side::First => self.put_side(text, first),
+            Side::Second => self.put_side(text, second),
+        }
+        if second != first {
+            *self = start;
+        }
+        self.put(text, b"\n");
+    }
 }

@@ -1,19 +1,27 @@
-// The numbers in a line's fields.
-ghost use Rattle.std.specs.Prelude.{◌<◌};
+// What a line's fields say.
+ghost use Rattle.std.specs.Prelude.{◌<◌, IfOk};
 
-use crate::answer::say;
-use basics::{Number, field, number_in};
-use streams::Console;
+use crate::draw::Kind;
+use basics::field;
+use streams::{Console, Told};
 
 // The number in a field; 0 where it is wrong, which is said.
-pub(crate) fn argument(console: Console, line: &[u8], k: usize) -> usize
-    ensures { result < 65536 }
+pub(crate) fn argument(console: Console, line: &[u8], k: usize) -> Result<usize, Told>
+    ensures { IfOk result (λ n. n < 65536) }
 {
-    match number_in(field(line, k)) {
-        Number::Value(n) => n,
-        Number::Bad => {
-            say(console, b"\twrong");
-            0
-        }
-    }
+    console.number_in(field(line, k))
+}
+
+// The kind of problems that a line is about.
+pub(crate) fn kind_of(console: Console, line: &[u8]) -> Result<Kind<'_>, Told> {
+    Ok(Kind {
+        outputs: argument(console, line, 3)?,
+        observed: argument(console, line, 4)?,
+        hidden: argument(console, line, 5)?,
+        rules: argument(console, line, 6)?,
+        size: argument(console, line, 7)?,
+        operators: argument(console, line, 8)?,
+        damage: argument(console, line, 9)? != 0,
+        patterns: field(line, 10),
+    })
 }

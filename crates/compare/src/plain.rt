@@ -2,42 +2,62 @@
 // thought of time. It shares the reader of problems and the limits with the proved solver, and no code behind them.
 ghost use Rattle.std.specs.Prelude.{◌≤◌, length};
 ghost use Rattle.basics.specs.Limits.{index_limit};
-ghost use Rattle.play.specs.Limits.{side_limit};
 
-use crate::plain_beliefs::{Moves, explore_beliefs};
+use crate::plain_beliefs::{Beliefs, Moves, explore_beliefs};
 use crate::plain_patterns::PATTERNS;
-use crate::plain_ranks::{NO_RANK, Ranks, ranks_of};
+use crate::plain_ranks::{Ranks, ranks_of};
 use crate::plain_rows::put_table;
-use crate::plain_sets::Sets;
-use crate::plain_states::{LETTERS, Successors, Widths, explore_states};
+use crate::plain_states::{Formula, LETTERS, States, Successors, Widths, explore_states};
 use basics::{OPERATOR_LIMIT, Order};
-use lines::{PART_LIMIT, Reading, Sizes, order_of};
-use rules::{number, place, read};
+use lines::{PART_LIMIT, Sizes, order_of};
+use rules::{Refusal, number, place, read};
 use search::STATE_LIMIT;
 use tables::{BELIEF_LIMIT, PAIR_LIMIT, SIDE_LIMIT, TABLE_SIZE};
 
 // A table, whose used rows stand at the front.
 pub type Table = [u16; TABLE_SIZE];
 
-// What is answered to a problem: the number and the place of a refusal, or 0 and 0 with a table's row count, worst case and order.
-#[derive(Clone, Copy)]
-pub struct Answer {
-    pub number: usize,
-    pub place: usize,
+// A table's row count, worst case and order.
+#[derive(Clone, Copy, PartialEq)]
+pub struct Solved {
     pub rows: usize,
     pub worst_case: usize,
-    pub read: bool,
+    pub order: Order,
 }
 
-pub(crate) fn refused(number: usize, place: usize) -> Answer {
-    Answer {
-        number,
-        place,
-        rows: 0,
-        worst_case: 0,
-        read: false,
+// The number and the place of a refusal. The numbers that the plain solver gives are its own, as `docs/REFERENCE.md` lists them.
+#[derive(Clone, Copy, PartialEq)]
+pub struct Refused {
+    pub number: usize,
+    pub place: usize,
+}
+
+impl From<Refusal> for Refused {
+    fn from(r: Refusal) -> Self {
+        Refused {
+            number: number(r),
+            place: place(r),
+        }
     }
 }
+
+const TOO_MANY_STATES: Refused = Refused {
+    number: 9,
+    place: 0,
+};
+
+const TOO_MANY_BELIEFS: Refused = Refused {
+    number: 10,
+    place: 0,
+};
+
+pub const UNREALIZABLE: Refused = Refused {
+    number: 11,
+    place: 0,
+};
+
+// What is answered to a problem.
+pub type Answer = Result<Solved, Refused>;
 
 // Twice a number, where it is at most `most`.
 fn twice(n: usize, most: usize) -> usize
@@ -62,90 +82,58 @@ fn power(k: usize, most: usize) -> usize
     n
 }
 
-// Whether an order is `read`.
-pub(crate) fn is_read(order: Order) -> bool {
-    match order {
-        Order::Set => false,
-        Order::Read => true,
-    }
-}
-
 // How many values the signals of each kind have, and the order.
-fn widths(s: Sizes) -> Widths
-    ensures { (result.choices ≤ side_limit) × (result.observations ≤ side_limit) × (result.hiddens ≤ side_limit) }
-{
-    let outputs = s.outputs;
-    let observed = s.observed;
-    let hidden = s.hidden;
+fn widths(s: Sizes) -> Widths {
     Widths {
-        choices: power(outputs, SIDE_LIMIT),
-        observations: power(observed, SIDE_LIMIT),
-        hiddens: power(hidden, SIDE_LIMIT),
-        read: is_read(order_of(s)),
+        choices: power(s.outputs, SIDE_LIMIT),
+        observations: power(s.observed, SIDE_LIMIT),
+        hiddens: power(s.hidden, SIDE_LIMIT),
+        order: order_of(s),
     }
-}
-
-// A rank as a number of steps.
-fn steps(rank: u16) -> usize {
-    rank as usize
 }
 
 // The answer from the ranks of beliefs.
-fn solve_ranks(moves: &Moves, ranks: &Ranks, w: Widths, table: &mut Table) -> Answer
-    requires choices_le_side_limit { w.choices ≤ side_limit }
-    requires observations_le_side_limit { w.observations ≤ side_limit }
-{
-    let rank = ranks[0];
-    if rank == NO_RANK {
-        return refused(11, 0);
-    }
-    Answer {
-        number: 0,
-        place: 0,
+fn solve_ranks(moves: &Moves, ranks: &Ranks, w: Widths, table: &mut Table) -> Answer {
+    let rank = ranks[0].ok_or(UNREALIZABLE)?;
+    Ok(Solved {
         rows: put_table(moves, ranks, w, table),
-        worst_case: steps(rank),
-        read: w.read,
-    }
+        worst_case: rank as usize,
+        order: w.order,
+    })
 }
 
 // The answer from the states and what letters lead to.
-fn solve_states(states: &Sets, successors: &Successors, w: Widths, table: &mut Table) -> Answer
-    requires { (w.choices ≤ side_limit) × (w.observations ≤ side_limit) × (w.hiddens ≤ side_limit) }
-{
-    let mut beliefs = [[false; PATTERNS]; BELIEF_LIMIT + 1];
+fn solve_states(states: &States, successors: &Successors, w: Widths, table: &mut Table) -> Answer {
+    let mut beliefs = Beliefs {
+        items: [[false; PATTERNS]; BELIEF_LIMIT],
+        count: 0,
+    };
     let mut moves = [[0u8; PAIR_LIMIT]; BELIEF_LIMIT];
-    let n = explore_beliefs(states, successors, w, &mut beliefs, &mut moves);
-    if n > BELIEF_LIMIT {
-        return refused(10, 0);
-    }
-    let ranks = ranks_of(states, &beliefs, &moves, n, w);
+    explore_beliefs(states, successors, w, &mut beliefs, &mut moves).ok_or(TOO_MANY_BELIEFS)?;
+    let ranks = ranks_of(states, &beliefs, &moves, w);
     solve_ranks(&moves, &ranks, w, table)
 }
 
 // The answer from the parts of a formula.
 fn solve_parts(parts: &[u32], operators: usize, w: Widths, table: &mut Table) -> Answer
-    requires parts_len_bound { length parts.now ≤ index_limit }
-    requires choices_le_side_limit { (w.choices ≤ side_limit) × (w.observations ≤ side_limit) × (w.hiddens ≤ side_limit) }
+    requires { length parts.now ≤ index_limit }
 {
-    let mut states = [[false; PATTERNS]; BELIEF_LIMIT + 1];
+    let mut states = States {
+        items: [[false; PATTERNS]; STATE_LIMIT],
+        count: 0,
+    };
     let mut successors = [[0u8; LETTERS]; STATE_LIMIT];
-    let patterns = 2 * power(operators, 1 << OPERATOR_LIMIT);
-    let n = explore_states(parts, patterns, w, &mut states, &mut successors);
-    if n > STATE_LIMIT {
-        return refused(9, 0);
-    }
+    let formula = Formula {
+        parts,
+        patterns: 2 * power(operators, 1 << OPERATOR_LIMIT),
+    };
+    explore_states(formula, w, &mut states, &mut successors).ok_or(TOO_MANY_STATES)?;
     solve_states(&states, &successors, w, table)
 }
 
 // Solves a problem. Only the table's used rows change.
 pub(crate) fn solve(source: &[u8], table: &mut Table) -> Answer {
     let mut parts = [0u32; PART_LIMIT];
-    match read(source, &mut parts) {
-        Reading::Refused(r) => refused(number(r), place(r)),
-        Reading::Accepted(s) => {
-            let n = s.parts;
-            let operators = s.operators;
-            solve_parts(&parts[..n], operators, widths(s), table)
-        }
-    }
+    let s = read(source, &mut parts)?;
+    solve_parts(&parts[..s.parts], s.operators, widths(s), table)
 }

@@ -3,7 +3,6 @@ ghost use Rattle.std.specs.Prelude.{◌+◌, ◌*◌, ◌<◌, ◌≤◌, length
 ghost use Rattle.basics.specs.Limits.{index_limit};
 ghost use Rattle.compare.specs.Sizes.{pattern_count};
 
-use crate::plain_sets::index;
 use basics::{INDEX_LIMIT, OPERATOR_LIMIT};
 
 // Bits of a pattern: bit 0 is about the whole formula, bit k + 1 about temporal operator k, in the order of the parts.
@@ -21,7 +20,7 @@ type Values = [bool; INDEX_LIMIT];
 pub(crate) fn digit(n: usize, k: usize) -> bool {
     let mut m = n;
     for _ in 0..k {
-        m = m / 2;
+        m /= 2;
     }
     m % 2 == 1
 }
@@ -57,30 +56,24 @@ fn number_of(pattern: &Pattern) -> usize
     n
 }
 
-// A part is a number. Its lowest byte is the operator's, as it stands in a rule: `a` for any signal, `t` and `f` for the constants, and `-`
-// for the arrow.
-fn kind_of(part: u32) -> u8 {
-    (part % 256) as u8
+// A part: the byte of its operator, as it stands in a rule, with `a` for any signal, `t` and `f` for the constants, and `-` for the arrow; and
+// the indices of its operands. The left one of a signal is the number of its binary digit in a letter.
+#[derive(Clone, Copy)]
+struct Part {
+    kind: u8,
+    left: u8,
+    right: u8,
 }
 
-// The index of its left operand, or the number of a signal, which is that of its binary digit in a letter.
-fn left_of(part: u32) -> usize
-    ensures { result < index_limit }
-{
-    index((part / 256 % 256) as u8)
-}
-
-fn right_of(part: u32) -> usize
-    ensures { result < index_limit }
-{
-    index((part / 65536 % 256) as u8)
+impl From<u32> for Part {
+    fn from(code: u32) -> Self {
+        let [kind, left, right, _] = code.to_le_bytes();
+        Part { kind, left, right }
+    }
 }
 
 fn is_temporal(kind: u8) -> bool {
-    match kind {
-        b'X' | b'N' | b'F' | b'G' | b'U' | b'R' => true,
-        _ => false,
-    }
+    matches!(kind, b'X' | b'N' | b'F' | b'G' | b'U' | b'R')
 }
 
 // The value of an operator: o is its own obligation, p and q are the values of its operands.
@@ -113,34 +106,24 @@ fn obligation(kind: u8, p: bool, v: bool) -> bool {
     }
 }
 
-// The value of a part, whose own obligation is o, at a step with this letter.
-fn value_at(part: u32, letter: usize, o: bool, values: &Values) -> bool {
-    let left = left_of(part);
-    let right = right_of(part);
-    value(
-        kind_of(part),
-        digit(letter, left),
-        o,
-        values[left],
-        values[right],
-    )
-}
-
-// The obligation of a part, whose value is v, about a step.
-fn obligation_at(part: u32, v: bool, values: &Values) -> bool {
-    let left = left_of(part);
-    obligation(kind_of(part), values[left], v)
-}
-
-// How many temporal operators there are with a part, where k are before it.
-fn past(part: u32, k: usize) -> usize
-    requires { k < index_limit }
-    ensures { result ≤ k + 1 }
-{
-    if is_temporal(kind_of(part)) {
-        return k + 1;
+impl Part {
+    // The value of a part, whose own obligation is o, at a step with this letter.
+    fn value_at(self, letter: usize, o: bool, values: &Values) -> bool {
+        let left = self.left as usize;
+        let right = self.right as usize;
+        value(
+            self.kind,
+            digit(letter, left),
+            o,
+            values[left],
+            values[right],
+        )
     }
-    k
+
+    // The obligation of a part, whose value is v, about a step.
+    fn obligation_at(self, v: bool, values: &Values) -> bool {
+        obligation(self.kind, values[self.left as usize], v)
+    }
 }
 
 // The pattern about a step with this letter, where a pattern is about the next step. The last part is the whole formula; what a part
@@ -152,12 +135,14 @@ fn pattern_before(parts: &[u32], letter: usize, next: &Pattern) -> Pattern
     let mut pattern = [false; INDEX_LIMIT + 1];
     let mut k = 0;
     for i in 0..parts.len() {
-        let part = parts[i];
-        let v = value_at(part, letter, next[k + 1], &values);
+        let part = Part::from(parts[i]);
+        let v = part.value_at(letter, next[k + 1], &values);
         values[i] = v;
         pattern[0] = v;
-        pattern[k + 1] = obligation_at(part, v, &values);
-        k = past(part, k);
+        pattern[k + 1] = part.obligation_at(v, &values);
+        if is_temporal(part.kind) {
+            k += 1;
+        }
     }
     pattern
 }

@@ -1,144 +1,124 @@
 // Ranks: in how many steps a belief is brought to a final one at the latest, and the choices that do so. Observations that are not told
 // apart when the choice is made get one choice together: under `set` all of them, under `read` each one alone.
-ghost use Rattle.std.specs.Prelude.{◌<◌, ◌≤◌};
+ghost use Rattle.std.specs.Prelude.{◌<◌, ◌≤◌, IfSome};
 ghost use Rattle.play.specs.Limits.{belief_limit, side_limit};
 
-use crate::plain_beliefs::{Moves, is_final};
-use crate::plain_sets::{Set, Sets, index};
-use crate::plain_states::Widths;
-use search::STATE_LIMIT;
+use crate::plain_beliefs::{Beliefs, Moves, is_final};
+use crate::plain_states::{States, Widths};
+use basics::Order;
 use tables::{BELIEF_LIMIT, PAIR_LIMIT, SIDE_LIMIT};
 
-pub type Ranks = [u16; BELIEF_LIMIT];
-
-// The rank of a belief that has none.
-pub const NO_RANK: u16 = 65535;
+// The rank of each belief that has one so far.
+pub type Ranks = [Option<u16>; BELIEF_LIMIT];
 
 // Final beliefs have rank 0, and so far no other has a rank.
-fn rank_finals(states: &Sets, beliefs: &Sets, n: usize) -> Ranks
-    requires { n ≤ belief_limit }
-{
-    let mut ranks = [NO_RANK; BELIEF_LIMIT];
-    for b in 0..n {
-        if is_final(states, &beliefs[b]) {
-            ranks[b] = 0;
+fn rank_finals(states: &States, beliefs: &Beliefs) -> Ranks {
+    let mut ranks = [None; BELIEF_LIMIT];
+    for b in 0..beliefs.count {
+        if is_final(states, &beliefs.items[b]) {
+            ranks[b] = Some(0);
         }
     }
     ranks
 }
 
 // Whether two observations get one choice together.
-fn are_together(read: bool, o: usize, p: usize) -> bool {
-    !read | (o == p)
+fn are_together(order: Order, o: usize, p: usize) -> bool {
+    match order {
+        Order::Set => true,
+        Order::Read => o == p,
+    }
 }
 
-// Whether a choice leads observation o, and all that get it together with o, to ranks below r.
-fn leads_below(
-    moves: &[u8; PAIR_LIMIT],
-    ranks: &Ranks,
-    w: Widths,
-    o: usize,
-    choice: usize,
-    r: u16,
-) -> bool
-    requires observations_le_side_limit { w.observations ≤ side_limit }
-    requires choice_lt_side_limit { choice < side_limit }
-{
-    for p in 0..w.observations {
-        if are_together(w.read, o, p) & (ranks[index(moves[choice + SIDE_LIMIT * p])] >= r) {
-            return false;
+// What there is to choose by at a belief: where its moves lead, and the ranks.
+#[derive(Clone, Copy)]
+pub struct Options<'a> {
+    pub moves: &'a [u8; PAIR_LIMIT],
+    pub ranks: &'a Ranks,
+    pub widths: Widths,
+}
+
+impl Options<'_> {
+    // The belief that a choice and an observation lead to.
+    pub(crate) fn next(self, choice: usize, o: usize) -> u8
+        requires choice_lt_side_limit { choice < side_limit }
+        requires o_lt_side_limit { o < side_limit }
+    {
+        self.moves[choice + SIDE_LIMIT * o]
+    }
+
+    // Whether a choice leads observation o, and all that get it together with o, to ranks below r.
+    fn leads_below(self, o: usize, choice: usize, r: u16) -> bool
+        requires { choice < side_limit }
+    {
+        for p in 0..self.widths.observations {
+            let rank = self.ranks[self.next(choice, p) as usize];
+            if are_together(self.widths.order, o, p) && rank.is_none_or(|k| k >= r) {
+                return false;
+            }
         }
+        true
     }
-    true
-}
 
-// The smallest choice that does so; 0 where none does.
-fn smallest_choice(moves: &[u8; PAIR_LIMIT], ranks: &Ranks, w: Widths, o: usize, r: u16) -> usize
-    requires choices_le_side_limit { w.choices ≤ side_limit }
-    requires observations_le_side_limit { w.observations ≤ side_limit }
-    ensures { result < side_limit }
-{
-    for choice in 0..w.choices {
-        if leads_below(moves, ranks, w, o, choice, r) {
-            return choice;
+    // The smallest choice that does so.
+    fn smallest_choice(self, o: usize, r: u16) -> Option<usize>
+        ensures { IfSome result (λ choice. choice < side_limit) }
+    {
+        for choice in 0..self.widths.choices {
+            if self.leads_below(o, choice, r) {
+                return Some(choice);
+            }
         }
+        None
     }
-    0
-}
 
-// Whether some choice does so.
-fn has_choice(moves: &[u8; PAIR_LIMIT], ranks: &Ranks, w: Widths, o: usize, r: u16) -> bool
-    requires choices_le_side_limit { w.choices ≤ side_limit }
-    requires observations_le_side_limit { w.observations ≤ side_limit }
-{
-    let choice = smallest_choice(moves, ranks, w, o, r);
-    leads_below(moves, ranks, w, o, choice, r)
-}
-
-// The choice for an observation of a belief with a rank: the smallest of those that lead lowest.
-pub(crate) fn best_choice(
-    moves: &[u8; PAIR_LIMIT],
-    ranks: &Ranks,
-    w: Widths,
-    o: usize,
-    rank: u16,
-) -> usize
-    requires choices_le_side_limit { w.choices ≤ side_limit }
-    requires observations_le_side_limit { w.observations ≤ side_limit }
-    ensures { result < side_limit }
-{
-    let mut r = 1;
-    while r < rank && !has_choice(moves, ranks, w, o, r) {
-        r += 1;
-    }
-    smallest_choice(moves, ranks, w, o, r)
-}
-
-// Whether every observation has a choice that leads below r.
-fn all_have_choice(moves: &[u8; PAIR_LIMIT], ranks: &Ranks, w: Widths, r: u16) -> bool
-    requires choices_le_side_limit { w.choices ≤ side_limit }
-    requires observations_le_side_limit { w.observations ≤ side_limit }
-{
-    for o in 0..w.observations {
-        if !has_choice(moves, ranks, w, o, r) {
-            return false;
+    // The choice for an observation of a belief with a rank: the smallest of those that lead lowest.
+    pub(crate) fn best_choice(self, o: usize, rank: u16) -> Option<usize>
+        ensures { IfSome result (λ choice. choice < side_limit) }
+    {
+        for r in 1..=rank {
+            let choice = self.smallest_choice(o, r);
+            if choice.is_some() {
+                return choice;
+            }
         }
+        None
     }
-    true
+
+    // Whether every observation has a choice that leads below r.
+    fn all_lead_below(self, r: u16) -> bool {
+        for o in 0..self.widths.observations {
+            if self.smallest_choice(o, r).is_none() {
+                return false;
+            }
+        }
+        true
+    }
 }
 
-// The rank of a belief after round r: it is r where it had none, and every observation has a choice that leads below r.
-fn ranked(moves: &[u8; PAIR_LIMIT], ranks: &Ranks, w: Widths, r: u16, rank: u16) -> u16
-    requires choices_le_side_limit { w.choices ≤ side_limit }
-    requires observations_le_side_limit { w.observations ≤ side_limit }
-{
-    if (rank == NO_RANK) && all_have_choice(moves, ranks, w, r) {
-        return r;
-    }
-    rank
-}
-
-// Round r for all beliefs. A rank that it gives is not below r.
-fn rank_round(moves: &Moves, n: usize, w: Widths, r: u16, ranks: &mut Ranks)
-    requires n_le_belief_limit { n ≤ belief_limit }
-    requires choices_le_side_limit { w.choices ≤ side_limit }
-    requires observations_le_side_limit { w.observations ≤ side_limit }
+// Round r for n beliefs: one that had no rank gets r, where every observation has a choice that leads below r. A rank that it gives is not
+// below r.
+fn rank_round(moves: &Moves, n: usize, widths: Widths, r: u16, ranks: &mut Ranks)
+    requires { n ≤ belief_limit }
 {
     for b in 0..n {
         let rank = ranks[b];
-        ranks[b] = ranked(&moves[b], ranks, w, r, rank);
+        let options = Options {
+            moves: &moves[b],
+            ranks,
+            widths,
+        };
+        if rank.is_none() && options.all_lead_below(r) {
+            ranks[b] = Some(r);
+        }
     }
 }
 
-// The ranks of n beliefs: each is below n.
-pub(crate) fn ranks_of(states: &Sets, beliefs: &Sets, moves: &Moves, n: usize, w: Widths) -> Ranks
-    requires n_le_belief_limit { n ≤ belief_limit }
-    requires choices_le_side_limit { w.choices ≤ side_limit }
-    requires observations_le_side_limit { w.observations ≤ side_limit }
-{
-    let mut ranks = rank_finals(states, beliefs, n);
-    for r in 1..n {
-        rank_round(moves, n, w, r as u16, &mut ranks);
+// The ranks of all beliefs: each is below their number.
+pub(crate) fn ranks_of(states: &States, beliefs: &Beliefs, moves: &Moves, widths: Widths) -> Ranks {
+    let mut ranks = rank_finals(states, beliefs);
+    for r in 1..beliefs.count {
+        rank_round(moves, beliefs.count, widths, r as u16, &mut ranks);
     }
     ranks
 }

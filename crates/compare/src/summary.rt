@@ -1,88 +1,97 @@
 // How many problems of a kind and an order were drawn, on how many the solvers agree, what kinds of answers these have, and how many of them
 // were asked in two ways.
-ghost use Rattle.std.specs.Prelude.{◌≤◌, length};
-
-use crate::answer::{say, tell};
-use crate::comparing::{Compared, ROOM, compare, observe};
+use crate::comparing::{Compared, compare, observe};
 use crate::draw::{Kind, draw};
-use crate::line::argument;
-use basics::field;
-use std::num::{wrapping_add_u64, wrapping_add_usize};
-use streams::Console;
+use crate::draw_formula::{Side, Text};
+use crate::plain::UNREALIZABLE;
+use basics::Order;
+use std::num::wrapping_add_usize;
+use streams::{Console, Told};
 
-// What is counted: all problems; those on which both solvers agree, and of these the tables and the refusals by number; tables with a worst
-// case over 1 and over 2; where it matters that hidden signals are hidden; those whose two texts differ and are answered alike; and all
-// problems where the order matters.
-const DRAWN: usize = 0;
+// What is counted: all problems; those on which both solvers agree, and of these the tables and the refusals, the first of which has number
+// 1; tables with a worst case over 1 and over 2; where it matters that hidden signals are hidden; those whose two texts differ and are
+// answered alike; and all problems where the order matters.
+#[derive(Clone, Copy, Default)]
+pub struct Counts {
+    drawn: usize,
+    agree: usize,
+    tables: usize,
+    refusals: [usize; 11],
+    over_one: usize,
+    over_two: usize,
+    hidden_matter: usize,
+    alike: usize,
+    order_matters: usize,
+}
 
-const AGREE: usize = 1;
+// The names of what is counted.
+pub(crate) fn write_names(console: Console) -> Result<(), Told> {
+    console.say(
+        b"kind\torder\tdrawn\tagree\ttables\t1\t2\t3\t4\t5\t6\t7\t8\t9\t10\t11\tover 1 step\tover 2 steps\thidden matter\talike\torder matters\n",
+    )
+}
 
-const TABLES: usize = 2;
+// Counts one more, if it is one.
+fn count_if(count: &mut usize, is_one: bool) {
+    *count = wrapping_add_usize(*count, is_one as usize);
+}
 
-const OVER_ONE: usize = TABLES + 12;
-
-const OVER_TWO: usize = OVER_ONE + 1;
-
-const HIDDEN_MATTER: usize = OVER_TWO + 1;
-
-const ALIKE: usize = HIDDEN_MATTER + 1;
-
-const ORDER_MATTERS: usize = ALIKE + 1;
-
-pub const CLASSES: usize = ORDER_MATTERS + 1;
-
-type Counts = [u64; CLASSES];
-
-// Writes the line of a kind and an order, and answers whether its end could be written. What fails before is told.
-pub(crate) fn write(console: Console, kind: &[u8], order: &[u8], counts: &Counts) -> bool {
-    say(console, kind);
-    say(console, order);
-    for k in 0..CLASSES {
-        tell(console, counts[k]);
+impl Counts {
+    // Writes the line of a kind and an order.
+    pub(crate) fn write(&self, console: Console, kind: &[u8], order: &[u8]) -> Result<(), Told> {
+        console.say(kind)?;
+        console.say_fields(order, &[self.drawn, self.agree, self.tables])?;
+        console.say_fields(b"", &self.refusals)?;
+        console.say_fields(b"", &[self.over_one, self.over_two, self.hidden_matter])?;
+        console.say_fields(b"", &[self.alike, self.order_matters])?;
+        console.say(b"\n")
     }
-    say(console, b"\n")
+
+    // Counts a problem on which both solvers agree, where d is the answer if the hidden signals are observed.
+    fn add_agreed(&mut self, c: Compared, d: Compared) {
+        count_if(&mut self.agree, true);
+        match c.answer {
+            Ok(solved) => {
+                count_if(&mut self.tables, true);
+                count_if(&mut self.over_one, solved.worst_case > 1);
+                count_if(&mut self.over_two, solved.worst_case > 2);
+            }
+            Err(refused) => {
+                for (i, count) in self.refusals.iter_mut().enumerate() {
+                    count_if(count, i + 1 == refused.number);
+                }
+            }
+        }
+        count_if(&mut self.hidden_matter, differ(c, d));
+        count_if(&mut self.alike, c.texts_differ);
+    }
+
+    // Counts a problem, where d is the answer if the hidden signals are observed.
+    fn add(&mut self, c: Compared, d: Compared) {
+        count_if(&mut self.drawn, true);
+        if c.agrees & d.agrees {
+            self.add_agreed(c, d);
+        }
+    }
 }
 
-// Whether a problem was solved: by a table, or as unrealizable.
-fn is_solved(c: Compared) -> bool {
-    (c.number == 0) | (c.number == 11)
-}
-
-// Whether two problems are both solved, and the number or the worst case is another.
+// Whether two problems are both solved, by a table or as unrealizable, and the answer or the worst case is another.
 fn differ(c: Compared, d: Compared) -> bool {
-    is_solved(c) & is_solved(d) & ((c.number != d.number) | (c.worst_case != d.worst_case))
-}
-
-// Counts one more in a class.
-fn add(counts: &mut Counts, class: usize) {
-    if class < CLASSES {
-        counts[class] = wrapping_add_u64(counts[class], 1);
+    match (c.answer, d.answer) {
+        (Ok(a), Ok(b)) => a.worst_case != b.worst_case,
+        (Ok(_), Err(r)) | (Err(r), Ok(_)) => r == UNREALIZABLE,
+        (Err(_), Err(_)) => false,
     }
-}
-
-fn add_if(counts: &mut Counts, class: usize, is_in: bool) {
-    if is_in {
-        add(counts, class);
-    }
-}
-
-// Counts a problem on which both solvers agree, where d is the answer if the hidden signals are observed.
-fn add_agreed(counts: &mut Counts, c: Compared, d: Compared) {
-    add(counts, AGREE);
-    add(counts, wrapping_add_usize(TABLES, c.number));
-    add_if(counts, OVER_ONE, c.worst_case > 1);
-    add_if(counts, OVER_TWO, c.worst_case > 2);
-    add_if(counts, HIDDEN_MATTER, differ(c, d));
-    add_if(counts, ALIKE, c.texts_differ);
 }
 
 // Writes a problem, in both ways where they differ.
-fn show(console: Console, text: &[u8], other: &[u8], c: Compared) {
-    say(console, b"\n");
-    say(console, text);
+fn show(console: Console, text: &[u8], other: &[u8], c: Compared) -> Result<(), Told> {
+    console.say(b"\n")?;
+    console.say(text)?;
     if c.texts_differ {
-        say(console, other);
+        console.say(other)?;
     }
+    Ok(())
 }
 
 // Solves a problem by both. If they differ, and have not before on a problem of the kind, it is written.
@@ -92,76 +101,53 @@ fn compare_shown(
     other: &[u8],
     counts: &Counts,
     agreed: bool,
-) -> Compared {
+) -> Result<Compared, Told> {
     let c = compare(text, other);
-    if agreed & !c.agrees & (counts[DRAWN] == counts[AGREE]) {
-        show(console, text, other, c);
+    if agreed & !c.agrees & (counts.drawn == counts.agree) {
+        show(console, text, other, c)?;
     }
-    c
-}
-
-// Counts a problem, where d is the answer if the hidden signals are observed.
-fn add_compared(counts: &mut Counts, c: Compared, d: Compared) {
-    add(counts, DRAWN);
-    if c.agrees & d.agrees {
-        add_agreed(counts, c, d);
-    }
+    Ok(c)
 }
 
 // Solves a problem by both, then with its hidden signals observed, counts it, and answers how the first went.
-fn count(console: Console, text: &mut [u8], other: &mut [u8], counts: &mut Counts) -> Compared {
-    let c = compare_shown(console, text, other, counts, true);
+fn count(
+    console: Console,
+    text: &mut Text,
+    other: &mut Text,
+    counts: &mut Counts,
+) -> Result<Compared, Told> {
+    let c = compare_shown(console, text.as_slice(), other.as_slice(), counts, true)?;
     observe(text);
     observe(other);
-    let d = compare_shown(console, text, other, counts, c.agrees);
-    add_compared(counts, c, d);
-    c
+    let d = compare_shown(console, text.as_slice(), other.as_slice(), counts, c.agrees)?;
+    counts.add(c, d);
+    Ok(c)
 }
 
-// Draws a problem of a line's kind and an order, by one side of its pairs.
-fn draw_by(
+// Draws a problem of a kind and an order in both ways, and counts it.
+fn draw_one(
     console: Console,
-    line: &[u8],
+    kind: Kind,
+    order: Order,
     seed: u64,
-    read: bool,
-    second: bool,
-    text: &mut [u8],
-) -> usize
-    ensures { result ≤ length text.new }
-{
-    let kind = Kind {
-        outputs: argument(console, line, 3),
-        observed: argument(console, line, 4),
-        hidden: argument(console, line, 5),
-        rules: argument(console, line, 6),
-        size: argument(console, line, 7),
-        operators: argument(console, line, 8),
-        damage: argument(console, line, 9),
-        second,
-        read,
-    };
-    draw(kind, field(line, 10), seed, text)
+    counts: &mut Counts,
+) -> Result<Compared, Told> {
+    let mut text = draw(kind, order, Side::First, seed);
+    let mut other = draw(kind, order, Side::Second, seed);
+    count(console, &mut text, &mut other, counts)
 }
 
-// Draws a problem of a line's kind and an order in both ways, and counts it.
-fn draw_one(console: Console, line: &[u8], seed: u64, read: bool, counts: &mut Counts) -> Compared {
-    let mut text = [0u8; ROOM];
-    let mut other = [0u8; ROOM];
-    let n = draw_by(console, line, seed, read, false, &mut text);
-    let m = draw_by(console, line, seed, read, true, &mut other);
-    count(console, &mut text[..n], &mut other[..m], counts)
-}
-
-// Draws a problem of a line's kind under both orders, and counts it.
+// Draws a problem of a kind under both orders, and counts it.
 pub(crate) fn draw_both(
     console: Console,
-    line: &[u8],
+    kind: Kind,
     seed: u64,
     set: &mut Counts,
     read: &mut Counts,
-) {
-    let c = draw_one(console, line, seed, false, set);
-    let d = draw_one(console, line, seed, true, read);
-    add_if(set, ORDER_MATTERS, differ(c, d));
-    add_if(read, ORDER_MATTERS, differ(c, d));
+) -> Result<(), Told> {
+    let c = draw_one(console, kind, Order::Set, seed, set)?;
+    let d = draw_one(console, kind, Order::Read, seed, read)?;
+    count_if(&mut set.order_matters, differ(c, d));
+    count_if(&mut read.order_matters, differ(c, d));
+    Ok(())
 }

@@ -4,7 +4,7 @@ use Prim.Native.Nat.{ℕ, ◌+◌, ◌^◌, ◌≤◌, ◌<◌}
 use native.Mathlib.Nat.{zero-add}
 use native.Mathlib.Decide.{dec_lt}
 use native.Mathlib.Omega.{arith}
-use mathlib.Core.Path.{◌≡◌, refl, sym, ap, subst, ◌∙◌}
+use mathlib.Core.Path.{◌≡◌, refl, sym, ap, ◌∙◌}
 use mathlib.Core.Logic.{◌↔◌, inl, inr}
 use mathlib.Core.Bool.{true, false}
 use mathlib.Core.List.{List, [], ◌∷◌, ◌++◌, flat_map}
@@ -21,14 +21,13 @@ use Rattle.basics.proofs.Stores.{Put, Rest, rest_all, rest_room, rest_next, put_
 use Rattle.basics.proofs.TextLaws.{decimal_length, field_length, line_parts}
 use Rattle.stepping.specs.Position.{Holds, OnStop, SteppedAs, bad_observation}
 use Rattle.stepping.specs.declared.position.Position.{Position}
-use Rattle.stepping.specs.declared.position.Answer.{Answer}
 use Rattle.lines.specs.Refusal.{refused}
 use Rattle.play.specs.Limits.{side_limit}
 use Rattle.printer.specs.Limits.{text_size}
 use Rattle.wellformed.proofs.WellFormedLaws.{side_le}
 use Rattle.printer.proofs.TextLaws.{words_fit}
 use Rattle.tables.specs.declared.shape.Shape.{Shape}
-use Rattle.control.specs.Dialogue.{word_room, answer_text, observation_in}
+use Rattle.control.specs.Dialogue.{word_room, observation_in}
 
 -- ---- an answer is put at the front of a text
 
@@ -37,10 +36,6 @@ Written l x end y = (end ≡ length l) × (y ≡ written l x)
 
 front_put : (l x : List ℕ) → length l ≤ length x → (end : ℕ) (y : List ℕ) → Put 0 l x end y → Written l x end y
 front_put l x room end y p = (p.0 ∙ zero-add (length l), p.1 ∙ put_front l x room)
-
-pub same_answer : {a b : Answer} → a ≡ b → (left : ℕ) (x : List ℕ) (end : ℕ) (y : List ℕ) → Written (answer_text b left) x end y
-    → Written (answer_text a left) x end y
-same_answer e left x end y p = subst (λ (a : Answer). Written (answer_text a left) x end y) (sym e) p
 
 -- a line of a word and two numbers
 module _ (word : List ℕ) (short : length word ≤ 100) (c left : ℕ) (c_small : c < 65536) (left_small : left < 65536)
@@ -73,9 +68,6 @@ module _ (word : List ℕ) (short : length word ≤ word_room) (n : ℕ) (small 
 
   rest₀ : Rest 0 whole x 0 (word ++ (field (decimal n) ++ (10 ∷ []))) x
   rest₀ = rest_all 0 whole x (omega (arith, fits)) _ parts
-
-  pub word_room_lem : 0 + length word ≤ length x
-  word_room_lem = rest_room word _ rest₀
 
   module _ {w : ℕ} {y₁ : List ℕ} (p₁ : Put 0 word x w y₁) where
     rest₁ : Rest 0 whole x w (field (decimal n) ++ (10 ∷ [])) y₁

@@ -7,6 +7,7 @@ ghost use Rattle.control.specs.Dialogue.{word_room, answer_text, observation_in}
 
 use basics::{LINE_END, number_below, put_byte, put_bytes, put_decimal, put_field, put_line, same};
 use cabinet::Answer;
+use lines::Refusal;
 use printer::put_refusal;
 use tables::SIDE_LIMIT;
 
@@ -23,16 +24,16 @@ fn put_word(text: &mut [u8], word: &[u8], n: u16) -> usize
 }
 
 // Puts the line of an answer, with the steps left at most, and answers its length.
-pub(crate) fn put_answer(text: &mut [u8], a: Answer, left: u16) -> usize
+pub(crate) fn put_answer(text: &mut [u8], a: Result<Answer, Refusal>, left: u16) -> usize
     requires { text_size ≤ length text.old }
     ensures value { result ≡ length (answer_text a left) }
     ensures text_after { text.new ≡ written (answer_text a left) text.old }
 {
     match a {
-        Answer::Choice(c) => put_line(text, b"choice", c as usize, left as usize),
-        Answer::Stop => put_word(text, b"stop", left),
-        Answer::Ready => put_word(text, b"ready", left),
-        Answer::Refused(r) => put_refusal(text, r),
+        Ok(Answer::Choice(c)) => put_line(text, b"choice", c as usize, left as usize),
+        Ok(Answer::Stop) => put_word(text, b"stop", left),
+        Ok(Answer::Ready) => put_word(text, b"ready", left),
+        Err(r) => put_refusal(text, r),
     }
 }
 

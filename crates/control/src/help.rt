@@ -1,11 +1,6 @@
 // What `control --help` writes: one screen.
-use streams::Console;
-
-pub(crate) fn explain(console: Console) {
-    streams::say_last(
-        console,
-        b"control",
-        b"control runs a controller table by hand, as it is tried at the bench: it writes
+pub(crate) const TEXT: &[u8] =
+    b"control runs a controller table by hand, as it is tried at the bench: it writes
 the first choice, then reads an observation and writes the next choice, and so
 on until the table says stop. On a card that begins with rtable the first
 observation comes first: each is answered by the choice for its own step.
@@ -49,6 +44,4 @@ An example: a flap is pulled (out pull) and seen to be open or not (see open).
 What cannot be read or written is told on standard error, and ends the run; a
 line that was not read to its end is not answered. The exit status tells
 nothing: it is 0 after a refusal or a failure too.
-",
-    );
-}
+";

@@ -5,11 +5,10 @@
 // on standard error, and not by the exit status.
 #![tactic(auto)]
 
-use cabinet::{Loaded, TEXT_SIZE, load};
-use std::env::Env;
+use cabinet::{TEXT_SIZE, load};
 use std::fs::Files;
 use std::io::Read;
-use streams::{Argument, Console, Input};
+use streams::{Console, Request, Told};
 use tables::TABLE_SIZE;
 
 mod dialogue;
@@ -17,76 +16,37 @@ mod help;
 mod running;
 
 // Runs the table whose text it is.
-fn run_text<R: Read>(console: Console, input: &mut R, text: &[u8]) {
+fn run_text<R: Read>(console: Console, input: &mut R, text: &[u8]) -> Result<(), Told> {
     let mut table = [0u16; TABLE_SIZE];
     match load(text, &mut table) {
-        Loaded::Table { shape, .. } => running::run(console, input, &table, shape),
-        Loaded::Refused(r) => running::refuse_text(console, r),
+        Ok(loaded) => running::run(console, input, &table, loaded.shape),
+        Err(r) => running::refuse_text(console, r),
     }
-}
-
-// Reads a file, and closes it: its descriptor is that of standard input where that was closed. A failure is told, and brings nothing.
-fn read<F: Files>(rt: &F, console: Console, path: &[u8], text: &mut [u8]) -> Option<Input> {
-    let mut file = streams::open(rt, console, b"control", path)?;
-    let input = streams::read_to_end(&mut file, text);
-    if let Input::Failed(error) = input {
-        streams::fail(console, b"control", path, error);
-    }
-    Some(input)
 }
 
 // One byte more than the longest text of a table is enough to find the line at fault of any longer one.
-fn run_file<F: Files, R: Read>(rt: &F, console: Console, input: &mut R, path: &[u8]) {
+fn run_file<F: Files, R: Read>(
+    rt: &F,
+    console: Console,
+    input: &mut R,
+    path: &[u8],
+) -> Result<(), Told> {
     let mut text = [0u8; TEXT_SIZE + 1];
-    match read(rt, console, path, &mut text) {
-        Some(Input::Whole(n)) => run_text(console, input, streams::first(&text, n)),
-        Some(Input::Longer) => run_text(console, input, &text),
-        Some(Input::Failed(_)) | None => {}
-    }
+    let card = streams::read_file(rt, console, path, &mut text)?;
+    run_text(console, input, card.bytes(&text))
 }
 
 // Does what the argument asks for.
-fn obey<F: Files, R: Read>(rt: &F, console: Console, input: &mut R, argument: &[u8]) {
-    if streams::is_help(argument) {
-        help::explain(console);
-    } else if streams::is_option(argument) {
-        streams::tell(
-            console,
-            b"control",
-            argument,
-            b"no such option; see control --help",
-        );
-    } else {
-        run_file(rt, console, input, argument);
-    }
-}
-
-fn tell_arguments(console: Console) {
-    streams::tell(
-        console,
-        b"control",
-        b"arguments",
-        b"one is needed; see control --help",
-    );
-}
-
-fn run_argument<S: Env + Files, R: Read>(rt: &S, console: Console, input: &mut R) {
+fn run(rt: &HostRuntime, console: Console) -> Result<(), Told> {
     let mut argument = [0u8; 4096];
-    match streams::argument_at(rt, 1, &mut argument) {
-        Argument::Given(n) => obey(rt, console, input, streams::first(&argument, n)),
-        Argument::Missing => tell_arguments(console),
-        Argument::Long => streams::tell(console, b"control", b"argument", b"File name too long"),
+    match streams::requested(rt, console, &mut argument)? {
+        Request::Help => console.say_last(help::TEXT),
+        Request::File(path) => run_file(rt, console, &mut rt.stdin(), path),
+        Request::Nothing | Request::Many => Err(console.tell_usage(b"arguments", b"one is needed")),
     }
 }
 
+// What failed is told, and the exit status is 0 all the same.
 fn main(rt: HostRuntime) {
-    let console = Console {
-        output: rt.stdout(),
-        errors: rt.stderr(),
-        alloc: rt.alloc(),
-    };
-    if let Argument::Missing = streams::argument_at(&rt, 2, &mut []) {
-        return run_argument(&rt, console, &mut rt.stdin());
-    }
-    tell_arguments(console);
+    let _ = run(&rt, Console::new(&rt, "control"));
 }

@@ -5,6 +5,8 @@ pub mod ConstraintsLaws
 pub mod ConstraintsCounts
 -- letters
 pub mod LetterLaws
+-- words of truth values
+pub mod WordBits
 -- parts, and the operators and the signals among them
 pub mod OperatorBytes
 pub mod PartsLaws

@@ -1,17 +1,14 @@
 -- The signals that are written in a formula: those among its parts; those of the plan words' formulas.
 -- Assumes nothing.
-use Prim.Native.Nat.{ℕ, zero, suc, ◌+◌, ◌≤◌, ◌<◌}
-use native.Mathlib.Numerals.{add-one}
+use Prim.Native.Nat.{ℕ, zero, suc, ◌+◌}
 use mathlib.Core.Path.{◌≡◌, refl, sym, ap, ap₂, ◌∙◌}
-use mathlib.Core.Bool.{true, false, ◌&&◌, ◌||◌, or_assoc, or-false, or_self}
+use mathlib.Core.Bool.{false, ◌&&◌, ◌||◌, or_assoc, or-false, or_self}
 use mathlib.Core.List.{List, [], ◌∷◌, ◌++◌}
 use lib.Dec.{eqb}
-use lib.ListN.{length, drop, drop_of_length-le}
-use lib.Seq.{drop-cons}
 use Rattle.formula.specs.declared.formula.Op.{Op}
 use Rattle.formula.specs.declared.formula.Op.TheVariants as op
 use Rattle.formula.specs.Formula.{Formula, signal, True, False, Not, And, Or, Implies, X, N, F, G, U, R, size, uses}
-use Rattle.formula.specs.Parts.{Part, is_signal, have_signal, one_part, unary_parts, binary_parts, parts_from, parts_of, no_part, part_at}
+use Rattle.formula.specs.Parts.{Part, is_signal, have_signal, one_part, unary_parts, binary_parts, parts_from, parts_of}
 use Rattle.formula.specs.Constraints.{soon, hold, delay}
 
 have_append : (ps qs : List Part) (b : ℕ) → have_signal (ps ++ qs) b ≡ (have_signal ps b || have_signal qs b)
@@ -57,22 +54,6 @@ parts_use (R φ ψ) n b = have_binary op.Release refl φ n b (parts_use φ n b) 
 pub have_parts : (φ : Formula) (b : ℕ) → have_signal (parts_of φ) b ≡ uses φ b
 unfolding parts_of
 have_parts φ b = parts_use φ 0 b
-
--- ---- the parts from index i on, up to the first that is the signal
-
-module _ (ps : List Part) (i b : ℕ) where
-  pub have_here : i < length ps → (is_signal (part_at ps i).kind && eqb (part_at ps i).left b) ≡ true → have_signal (drop i ps) b ≡ true
-  unfolding have_signal part_at
-  have_here h e = rw (drop-cons ps i no_part h, e)
-
-  pub have_next : i < length ps → (is_signal (part_at ps i).kind && eqb (part_at ps i).left b) ≡ false
-      → have_signal (drop i ps) b ≡ have_signal (drop (i + 1) ps) b
-  unfolding have_signal part_at
-  have_next h e = rw (add-one, drop-cons ps i no_part h, e)
-
-  pub have_end : length ps ≤ i → have_signal (drop i ps) b ≡ false
-  unfolding have_signal
-  have_end h = rw (drop_of_length-le ps {i = i} h)
 
 -- ---- what repeats an operand has its signals
 

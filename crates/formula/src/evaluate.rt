@@ -8,8 +8,7 @@ ghost use Rattle.formula.specs.Values.{value_on};
 ghost use Rattle.formula.specs.Entries.{entries_on, with_values, with_owed};
 
 use crate::formula::{bit_of, combined, entry_of, owed_by, owed_in, value_in};
-use crate::parts::part_at;
-use basics::clear;
+use crate::parts::{Part, part_at};
 
 // Writes the values of the first n parts at the step with this letter, from the entries for the next step. An operand that does not
 // stand before its part counts as false.
@@ -23,10 +22,7 @@ fn values_back(parts: &[u32], letter: u16, n: usize, entries: &mut [u8])
     }
     let i = n - 1;
     values_back(parts, letter, i, entries);
-    let q = part_at(parts, i);
-    let kind = q.kind;
-    let left = q.left;
-    let right = q.right;
+    let Part { kind, left, right } = part_at(parts, i);
     let o = owed_in(entries[i]);
     let x = ((left as usize) < i) & value_in(entries[left as usize]);
     let y = ((right as usize) < i) & value_in(entries[right as usize]);
@@ -39,15 +35,11 @@ fn owed_back(parts: &[u32], entries: &mut [u8])
     requires { (length parts.now ≤ length entries.old) × (index_limit ≤ length entries.old) }
     ensures { entries.new ≡ with_owed (parts_in parts.now) (length parts.now) entries.old }
 {
-    let mut i = 0;
-    while i < parts.len() {
-        let q = part_at(parts, i);
-        let kind = q.kind;
-        let left = q.left;
+    for i in 0..parts.len() {
+        let Part { kind, left, .. } = part_at(parts, i);
         let v = value_in(entries[i]);
         let x = value_in(entries[left as usize]);
         entries[i] = entry_of(v, owed_by(kind, x, v));
-        i += 1;
     }
 }
 
@@ -58,7 +50,7 @@ fn entries_at(parts: &[u32], trace: &[u16], t: usize, entries: &mut [u8])
     ensures { entries.new ≡ entries_on (parts_in parts.now) (length entries.old) (drop t trace.now) }
 {
     if t == trace.len() {
-        clear(entries);
+        entries.fill(0);
         return;
     }
     entries_at(parts, trace, t + 1, entries);

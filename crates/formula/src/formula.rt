@@ -1,11 +1,13 @@
 // The operators of a formula, and what a part's value is.
-ghost use Rattle.std.specs.Prelude.{◌≡◌};
+ghost use Rattle.std.specs.Prelude.{◌≡◌, ◌<◌, ℕ};
 ghost use Rattle.basics.specs.Bits.{bit};
 ghost use Rattle.formula.specs.Parts.{byte_of, op_of, is_temporal};
 ghost use Rattle.formula.specs.Values.{combine, owed};
 ghost use Rattle.formula.specs.Entries.{entry};
 
-#[derive(Clone, Copy)]
+use crate::truth::Truth;
+
+#[derive(Clone, Copy, PartialEq, Eq, Debug)]
 pub enum Op {
     Signal,
     True,
@@ -23,108 +25,83 @@ pub enum Op {
 }
 
 // The byte that stands for an operator in a rule.
-pub(crate) fn byte_of(op: Op) -> u8
-    ensures { result ≡ byte_of op }
-{
-    match op {
-        Op::Signal => 97,
-        Op::True => 116,
-        Op::False => 102,
-        Op::Not => 33,
-        Op::And => 38,
-        Op::Or => 124,
-        Op::Implies => 45,
-        Op::Next => 88,
-        Op::WeakNext => 78,
-        Op::Eventually => 70,
-        Op::Always => 71,
-        Op::Until => 85,
-        Op::Release => 82,
+impl From<Op> for u8 {
+    ghost from_gives = { λ op byte. byte ≡ byte_of op };
+
+    fn from(op: Op) -> u8 {
+        match op {
+            Op::Signal => b'a',
+            Op::True => b't',
+            Op::False => b'f',
+            Op::Not => b'!',
+            Op::And => b'&',
+            Op::Or => b'|',
+            Op::Implies => b'-',
+            Op::Next => b'X',
+            Op::WeakNext => b'N',
+            Op::Eventually => b'F',
+            Op::Always => b'G',
+            Op::Until => b'U',
+            Op::Release => b'R',
+        }
     }
 }
 
 // The operator that a byte stands for in a rule; `False` for a byte that stands for none.
-pub(crate) fn op_of(kind: u8) -> Op
-    ensures { result ≡ op_of kind }
-{
-    if kind == 97 {
-        return Op::Signal;
+impl From<u8> for Op {
+    ghost from_gives = { λ byte op. op ≡ op_of byte };
+
+    #[tactic(auto, unfolding(crate::specs::Parts::op_of))]
+    fn from(kind: u8) -> Op {
+        match kind {
+            b'a' => Op::Signal,
+            b't' => Op::True,
+            b'!' => Op::Not,
+            b'&' => Op::And,
+            b'|' => Op::Or,
+            b'-' => Op::Implies,
+            b'X' => Op::Next,
+            b'N' => Op::WeakNext,
+            b'F' => Op::Eventually,
+            b'G' => Op::Always,
+            b'U' => Op::Until,
+            b'R' => Op::Release,
+            _ => Op::False,
+        }
     }
-    if kind == 116 {
-        return Op::True;
-    }
-    if kind == 33 {
-        return Op::Not;
-    }
-    if kind == 38 {
-        return Op::And;
-    }
-    if kind == 124 {
-        return Op::Or;
-    }
-    if kind == 45 {
-        return Op::Implies;
-    }
-    if kind == 88 {
-        return Op::Next;
-    }
-    if kind == 78 {
-        return Op::WeakNext;
-    }
-    if kind == 70 {
-        return Op::Eventually;
-    }
-    if kind == 71 {
-        return Op::Always;
-    }
-    if kind == 85 {
-        return Op::Until;
-    }
-    if kind == 82 {
-        return Op::Release;
-    }
-    Op::False
 }
 
 // The value of a part from the signal's value, its own obligation and its operands' values.
-pub(crate) fn combined(op: Op, s: bool, o: bool, x: bool, y: bool) -> bool
-    ensures { result ≡ combine op s o x y }
+pub fn combined<T: Truth>(op: Op, s: T, o: T, x: T, y: T) -> T
+    ensures { (j : ℕ) → j < T.width → T.value result j ≡ combine op (T.value s j) (T.value o j) (T.value x j) (T.value y j) }
 {
     match op {
         Op::Signal => s,
-        Op::True => true,
-        Op::False => false,
-        Op::Not => !x,
-        Op::And => x && y,
-        Op::Or => x || y,
-        Op::Implies => !x || y,
+        Op::True => T::all(true),
+        Op::False => T::all(false),
+        Op::Not => x.not(),
+        Op::And => x.and(y),
+        Op::Or => x.or(y),
+        Op::Implies => x.not().or(y),
         Op::Next => o,
-        Op::WeakNext => !o,
-        Op::Eventually => x || o,
-        Op::Always => x && !o,
-        Op::Until => y || (x && o),
-        Op::Release => y && (x || !o),
+        Op::WeakNext => o.not(),
+        Op::Eventually => x.or(o),
+        Op::Always => x.and(o.not()),
+        Op::Until => y.or(x.and(o)),
+        Op::Release => y.and(x.or(o.not())),
     }
 }
 
 // What a part's obligation about a step is worth there, from its left operand's value and its own.
-pub(crate) fn owed_by(op: Op, x: bool, v: bool) -> bool
-    ensures { result ≡ owed op x v }
+pub fn owed_by<T: Truth>(op: Op, x: T, v: T) -> T
+    ensures { (j : ℕ) → j < T.width → T.value result j ≡ owed op (T.value x j) (T.value v j) }
 {
     match op {
-        Op::Signal => false,
-        Op::True => false,
-        Op::False => false,
-        Op::Not => false,
-        Op::And => false,
-        Op::Or => false,
-        Op::Implies => false,
         Op::Next => x,
-        Op::WeakNext => !x,
-        Op::Eventually => v,
-        Op::Always => !v,
-        Op::Until => v,
-        Op::Release => !v,
+        Op::WeakNext => x.not(),
+        Op::Eventually | Op::Until => v,
+        Op::Always | Op::Release => v.not(),
+        _ => T::all(false),
     }
 }
 
@@ -132,22 +109,14 @@ pub(crate) fn owed_by(op: Op, x: bool, v: bool) -> bool
 pub fn bit_of(letter: u16, k: u8) -> bool
     ensures { result ≡ bit letter k }
 {
-    if k < 16 {
-        (letter >> k) & 1 == 1
-    } else {
-        false
-    }
+    k < 16 && (letter >> k) & 1 == 1
 }
 
 // A part's value and obligation as one number.
 pub(crate) fn entry_of(v: bool, o: bool) -> u8
     ensures { result ≡ entry v o }
 {
-    if v {
-        if o { 3 } else { 1 }
-    } else {
-        if o { 2 } else { 0 }
-    }
+    v as u8 + 2 * o as u8
 }
 
 // The value in an entry.
@@ -168,5 +137,5 @@ pub(crate) fn owed_in(e: u8) -> bool
 pub fn is_temporal(kind: u8) -> bool
     ensures { result ≡ is_temporal kind }
 {
-    (kind == 88) | (kind == 78) | (kind == 70) | (kind == 71) | (kind == 85) | (kind == 82)
+    matches!(kind, b'X' | b'N' | b'F' | b'G' | b'U' | b'R')
 }

@@ -106,23 +106,23 @@ module _ (p : Problem) where
   pub states_due : (s : Solution) → Solving p s → ManyStates p → s ≡ too_many_states
   states_due s (states m) d = refl
   states_due s (beliefs f m) d = absurd (f d)
-  states_due s (none small u) d = absurd (small.0 d)
-  states_due s (table small n r cells c one) d = absurd (small.0 d)
+  states_due s (none within u) d = absurd (within.0 d)
+  states_due s (table within n r cells c one) d = absurd (within.0 d)
 
   pub beliefs_due : (s : Solution) → Solving p s → (¬ ManyStates p) → ManyBeliefs p → s ≡ too_many_beliefs
   beliefs_due s (states m) f d = absurd (f m)
   beliefs_due s (beliefs f' m) f d = refl
-  beliefs_due s (none small u) f d = absurd (small.1 d)
-  beliefs_due s (table small n r cells c one) f d = absurd (small.1 d)
+  beliefs_due s (none within u) f d = absurd (within.1 d)
+  beliefs_due s (table within n r cells c one) f d = absurd (within.1 d)
 
   pub none_due : (s : Solution) → Solving p s → Small p → Unrealizable (game_of p) p.order → s ≡ verdict unrealizable
-  none_due s (states m) small u = absurd (small.0 m)
-  none_due s (beliefs f m) small u = absurd (small.1 m)
-  none_due s (none small' u') small u = refl
-  none_due s (table small' n r cells c one) small u = absurd (u _ c.solves.optimal.is_strategy c.solves.optimal.wins)
+  none_due s (states m) within u = absurd (within.0 m)
+  none_due s (beliefs f m) within u = absurd (within.1 m)
+  none_due s (none within' u') within u = refl
+  none_due s (table within' n r cells c one) within u = absurd (u _ c.solves.optimal.is_strategy c.solves.optimal.wins)
 
   pub table_due : (s : Solution) → Solving p s → Small p → (n r : ℕ) (cells : List ℕ) → Controller p n r cells → s ≡ verdict (solved n r cells)
-  table_due s (states m) small n r cells c = absurd (small.0 m)
-  table_due s (beliefs f m) small n r cells c = absurd (small.1 m)
-  table_due s (none small' u) small n r cells c = absurd (u _ c.solves.optimal.is_strategy c.solves.optimal.wins)
-  table_due s (table small' m q t c' one) small n r cells c = let (a, b, d) = one n r cells c in rw (a, b, d) refl
+  table_due s (states m) within n r cells c = absurd (within.0 m)
+  table_due s (beliefs f m) within n r cells c = absurd (within.1 m)
+  table_due s (none within' u) within n r cells c = absurd (u _ c.solves.optimal.is_strategy c.solves.optimal.wins)
+  table_due s (table within' m q t c' one) within n r cells c = let (a, b, d) = one n r cells c in rw (a, b, d) refl

@@ -1,5 +1,8 @@
 -- What is answered is what is due: demand 3, both ways.
 -- Assumes nothing.
+use Rattle.tables.specs.declared.shape.Table.{Table}
+use Rattle.lines.specs.declared.refusal.Refusal.{Refusal}
+use Rattle.std.specs.Prelude.{Ok, Err, Result}
 use Prim.Native.Nat.{ℕ, ◌*◌}
 use mathlib.Core.Path.{◌≡◌, refl, sym, ap, ◌∙◌, subst}
 use mathlib.Core.Logic.{◌↔◌, inl, inr}
@@ -23,8 +26,6 @@ use Rattle.basics.specs.declared.order.Order.{Order}
 use Rattle.basics.specs.Order.{order_number}
 use Rattle.basics.proofs.OrderLaws.{one_order}
 use Rattle.play.specs.Cells.{row_size, table_size}
-use Rattle.game.specs.declared.solving.Solved.{Solved}
-use Rattle.game.specs.declared.solving.Solved.TheVariants.{Table, Refused}
 use Rattle.game.specs.Solution.{Solution, solution}
 use Rattle.game.specs.SolvedAs.{solved_of, solved_from, solved_by, told_solved, is_short, cells_of, cells_from, cells_by}
 use Rattle.game.specs.SolvedAs.{Short, SolvedAs, short_memory, bad_source, too_many_states_lem, too_many_beliefs_lem, unrealizable, table}
@@ -128,16 +129,16 @@ due_cells work room source a cells (table f p d small n r t c) =
 
 -- ---- an answer is known by its numbers and values
 
-pub same_solved : (s q : Solved) → told_solved s ≡ told_solved q → s ≡ q
-same_solved (Table shape r) (Table shape' r') e =
-    let rows : shape.rows ≡ shape'.rows = cc in
-    let observed : shape.observed ≡ shape'.observed = cc in
-    let order = one_order shape.order shape'.order cc in
-    let worst : r ≡ r' = cc in
+pub same_solved : (s q : Result Table Refusal) → told_solved s ≡ told_solved q → s ≡ q
+same_solved (Ok t) (Ok t') e =
+    let rows : t.shape.rows ≡ t'.shape.rows = cc in
+    let observed : t.shape.observed ≡ t'.shape.observed = cc in
+    let order = one_order t.shape.order t'.shape.order cc in
+    let worst : t.worst_case ≡ t'.worst_case = cc in
     rw (worst, rows, observed, order) refl
-same_solved (Table shape r) (Refused x) e = told_apart (sym e)
-same_solved (Refused x) (Table shape r) e = told_apart e
-same_solved (Refused x) (Refused y) e =
+same_solved (Ok t) (Err x) e = told_apart (sym e)
+same_solved (Err x) (Ok t) e = told_apart e
+same_solved (Err x) (Err y) e =
     let number : number_of x ≡ number_of y = cc in
     let place : place_of x ≡ place_of y = cc in
-    ap Refused (same_told x y number place)
+    ap Err (same_told x y number place)

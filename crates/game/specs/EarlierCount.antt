@@ -1,7 +1,9 @@
 -- What was answered while beliefs behind a final one counted too. It is here to be compared with (`answers_kept` in `proofs/Main`); no code
 -- follows it.
 -- Assumes nothing.
-use Rattle.std.specs.Prelude.{ℕ, suc, cond, List, []}
+use Rattle.tables.specs.declared.shape.Table.{Table}
+use Rattle.lines.specs.declared.refusal.Refusal.{Refusal}
+use Rattle.std.specs.Prelude.{ℕ, suc, cond, List, [], Err, Result}
 use Rattle.basics.specs.Reach.{Listing, closed, over}
 use Rattle.lines.specs.declared.refusal.Refusal.TheVariants as refusal
 use Rattle.lines.specs.Refusal.{Told}
@@ -11,8 +13,6 @@ use Rattle.search.specs.ReachableSets.{same_set}
 use Rattle.play.specs.Limits.{belief_limit}
 use Rattle.play.specs.History.{Possible, AtLeastBeliefs}
 use Rattle.play.specs.EarlierCount.{earlier_positions}
-use Rattle.game.specs.declared.solving.Solved.{Solved}
-use Rattle.game.specs.declared.solving.Solved.TheVariants.{Refused}
 use Rattle.game.specs.Solution.{game_of, problem_states, beliefs_of, Solution, too_many_states, solution_of}
 use Rattle.game.specs.Believed.{SameBelief}
 use Rattle.game.specs.SolvedAs.{solved_of, told_solved, is_short, cells_of}
@@ -33,12 +33,12 @@ module _ (p : Problem) where
   earlier_solution = earlier_from (problem_states p)
 
 -- for a text, with so much memory lent: the answer ..
-abbrev pub earlier_read : Reading → Solved
+abbrev pub earlier_read : Reading → Result Table Refusal
 earlier_read (accepted p) = solved_of p.order p.signals.observed (earlier_solution p)
-earlier_read (refused r) = Refused r
+earlier_read (refused r) = Err r
 
 unfoldable pub earlier_told : ℕ → ℕ → List ℕ → Told
-earlier_told work table source = told_solved (cond (is_short work table) (Refused refusal.ShortMemory) (earlier_read (read_problem source)))
+earlier_told work table source = told_solved (cond (is_short work table) (Err refusal.ShortMemory) (earlier_read (read_problem source)))
 
 -- .. and what was written to the table
 abbrev pub earlier_rows : Reading → List ℕ

@@ -1,6 +1,9 @@
 -- What the whole call answers and leaves in lent memory, and what is due: demand 3 (GLOSSARY.md), from a source's bytes to whole plays.
 -- Assumes nothing.
-use Rattle.std.specs.Prelude.{ℕ, ◌*◌, ◌<◌, ◌⊎◌, Bool, cond, ◌||◌, List, [], ◌∷◌, ltb, length, take, replicate}
+use Rattle.tables.specs.declared.answering.Outcome.{Outcome}
+use Rattle.lines.specs.declared.refusal.Refusal.{Refusal}
+use Rattle.tables.specs.declared.shape.Table.{Table}
+use Rattle.std.specs.Prelude.{ℕ, ◌*◌, ◌<◌, ◌⊎◌, Bool, cond, ◌||◌, List, [], ◌∷◌, ltb, length, take, replicate, Err, None, Ok, Option, Result, Some}
 use Rattle.basics.specs.Lists.{written}
 use Rattle.basics.specs.declared.order.Order.{Order}
 use Rattle.basics.specs.Order.{order_number}
@@ -11,47 +14,43 @@ use Rattle.rules.specs.Problem.{Problem, Outcome as Reading, accepted, read_prob
 use Rattle.rules.specs.Problem as reading
 use Rattle.rules.specs.Denotes.{Denotes}
 use Rattle.rules.specs.Refuses.{Refuses}
-use Rattle.tables.specs.declared.answering.Outcome.{Outcome}
-use Rattle.tables.specs.declared.answering.Outcome.TheVariants as outcome
-use Rattle.tables.specs.Outcome.{outcome_of}
+use Rattle.tables.specs.Outcome.{outcome_of, table_with}
 use Rattle.play.specs.Limits.{belief_limit}
 use Rattle.play.specs.Cells.{row_size, table_size}
 use Rattle.play.specs.Game.{Unrealizable}
 use Rattle.play.specs.IsTable.{RankIs, IsTable}
 use Rattle.play.specs.Answer.{cells_of as verdict_cells, Solves}
-use Rattle.game.specs.declared.solving.Solved.{Solved}
-use Rattle.game.specs.declared.solving.Solved.TheVariants.{Table, Refused}
 use Rattle.game.specs.Solution.{game_of, Solution, too_many_states, too_many_beliefs, verdict, solution}
 use Rattle.game.specs.Believed.{SameBelief, FinalBelief, ManyStates, ManyBeliefs, Small}
 
 -- ---- the answer
 
 -- for an outcome, for a solution, each with the order of a step and the number of observed signals, for a text
-abbrev pub solved_with : Order → ℕ → Outcome → Solved
-solved_with o observed (outcome.Table n r) = Table (record { rows = n; observed = observed; order = o }) r
-solved_with o observed outcome.Unrealizable = Refused refusal.Unrealizable
+abbrev pub solved_with : Order → ℕ → Option Outcome → Result Table Refusal
+solved_with o observed (Some x) = Ok (table_with (record { rows = x.rows; observed = observed; order = o }) x.worst_case)
+solved_with o observed None = Err refusal.Unrealizable
 
-abbrev pub solved_of : Order → ℕ → Solution → Solved
+abbrev pub solved_of : Order → ℕ → Solution → Result Table Refusal
 solved_of o observed (verdict v) = solved_with o observed (outcome_of v)
-solved_of o observed too_many_beliefs = Refused refusal.TooManyBeliefs
-solved_of o observed too_many_states = Refused refusal.TooManyStates
+solved_of o observed too_many_beliefs = Err refusal.TooManyBeliefs
+solved_of o observed too_many_states = Err refusal.TooManyStates
 
-abbrev pub solved_from : Reading → Solved
+abbrev pub solved_from : Reading → Result Table Refusal
 solved_from (accepted p) = solved_of p.order p.signals.observed (solution p)
-solved_from (reading.refused r) = Refused r
+solved_from (reading.refused r) = Err r
 
 -- lent memory that is too short
 abbrev pub is_short : ℕ → ℕ → Bool
 is_short work table = ltb work work_size || ltb table table_size
 
-unfoldable pub solved_by : ℕ → ℕ → List ℕ → Solved
-solved_by work table source = cond (is_short work table) (Refused refusal.ShortMemory) (solved_from (read_problem source))
+unfoldable pub solved_by : ℕ → ℕ → List ℕ → Result Table Refusal
+solved_by work table source = cond (is_short work table) (Err refusal.ShortMemory) (solved_from (read_problem source))
 
 -- in the reference's terms: the row count, the number of observed signals, the order's number and the worst case; or a refusal's number
 -- and place
-abbrev pub told_solved : Solved → Told
-told_solved (Table shape r) = values (shape.rows ∷ shape.observed ∷ order_number shape.order ∷ r ∷ [])
-told_solved (Refused x) = told_refusal x
+abbrev pub told_solved : Result Table Refusal → Told
+told_solved (Ok t) = values (t.shape.rows ∷ t.shape.observed ∷ order_number t.shape.order ∷ t.worst_case ∷ [])
+told_solved (Err x) = told_refusal x
 
 abbrev pub told_by : ℕ → ℕ → List ℕ → Told
 told_by work table source = told_solved (solved_by work table source)
@@ -79,9 +78,9 @@ unfoldable pub work_after : ℕ → List ℕ → List ℕ
 work_after table work = cond (is_short (length work) table) work (replicate (length work) 0)
 
 -- the used rows of a table, by the answer
-abbrev pub used_rows : Solved → List ℕ → List ℕ
-used_rows (Table shape r) table = take (shape.rows * row_size shape.order) table
-used_rows (Refused x) table = []
+abbrev pub used_rows : Result Table Refusal → List ℕ → List ℕ
+used_rows (Ok t) table = take (t.shape.rows * row_size t.shape.order) table
+used_rows (Err x) table = []
 
 -- ---- what is due
 

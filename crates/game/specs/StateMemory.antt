@@ -1,12 +1,10 @@
 -- The states in memory: their sets, where they are kept; their tables as an automaton, and what is answered from them.
 -- Assumes nothing.
-use Rattle.std.specs.Prelude.{ℕ, ◌+◌, ◌*◌, ◌≤◌, ◌<◌, List, length}
+use Rattle.std.specs.Prelude.{ℕ, ◌+◌, ◌*◌, List, length}
 use Rattle.basics.specs.declared.order.Order.{Order}
 use Rattle.basics.specs.Lists.{padded}
 use Rattle.rules.specs.Problem.{Outcome, accepted, refused}
-use Rattle.search.specs.Limits.{letter_limit}
 use Rattle.search.specs.Memory.{sets_of}
-use Rattle.play.specs.Limits.{side_limit}
 use Rattle.play.specs.Belief.{Automaton}
 use Rattle.beliefs.specs.BeliefMemory.{successor_in, accepts_in}
 use Rattle.game.specs.Solution.{problem_states, Solution, belief_solution}
@@ -16,14 +14,6 @@ use Rattle.game.specs.Solution.{problem_states, Solution, belief_solution}
 abbrev pub sets_from : Outcome → List ℕ → List ℕ
 sets_from (accepted p) work = padded (length work) (sets_of (problem_states p))
 sets_from (refused r) work = work
-
--- choices and observations of at most four signals each, and letters of at most nine
-pub record Widths (choices observations hiddens : ℕ) : Type 0 where
-  pub some_choice : 0 < choices
-  pub few_choices : choices ≤ side_limit
-  pub some_observation : 0 < observations
-  pub few_observations : observations ≤ side_limit
-  pub few_letters : hiddens * (choices * observations) ≤ letter_limit
 
 -- n states, each with its row of successors, letters going by their numbers
 abbrev pub automaton_in : (sets successors : List ℕ) → ℕ → Automaton

@@ -4,5 +4,5 @@
 
 mod solving;
 
-pub use solving::{Solved, solve};
-pub use tables::{Shape, TABLE_SIZE};
+pub use solving::solve;
+pub use tables::{Shape, TABLE_SIZE, Table};

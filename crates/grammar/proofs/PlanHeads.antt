@@ -1,6 +1,6 @@
 -- The head of a plan word is read exactly as the grammar writes it. Assumes nothing.
 use mathlib.Core.Path.{◌≡◌, refl, sym, ap, subst, ◌∙◌}
-use mathlib.Core.Bool.{Bool, true, false, ◌&&◌, cond}
+use mathlib.Core.Bool.{Bool, true, false, ◌&&◌}
 use mathlib.Core.List.{List, [], ◌∷◌, ◌++◌}
 use Prim.Native.Nat.{ℕ, ◌+◌, ◌-◌, ◌≤◌, ◌<◌}
 use native.Mathlib.Omega.{arith}
@@ -15,10 +15,9 @@ use Rattle.syntax.specs.Lex.{token_at, tokens}
 use Rattle.syntax.specs.Plans.{InRange, steps_limit, last_limit}
 use Rattle.syntax.proofs.LexLaws.{ends}
 use Rattle.syntax.proofs.Spelt.{tokens_test, head_is, tail_is}
-use Rattle.grammar.specs.declared.heads.Number.{Number}
-use Rattle.grammar.specs.declared.heads.Number.TheVariants as number
+use Rattle.std.specs.Prelude.{Option, Some, None}
+use Rattle.grammar.specs.declared.heads.Digit.{Digit}
 use Rattle.grammar.specs.declared.heads.Head.{Head}
-use Rattle.grammar.specs.declared.heads.Head.TheVariants as head
 use Rattle.grammar.specs.Grammar.{is_pre, is_leaf, PlanHead, once, before, after, within, during}
 use Rattle.grammar.specs.PlanParse.{number_at, within_head, during_head, during_from, head_of, head_at}
 use Rattle.grammar.proofs.ParseCases.{is_kind}
@@ -55,14 +54,14 @@ module _ (text : List ℕ) where
       }
 
   -- a number
-  record Numeral (at v next : ℕ) : Type 0 where
-    digit : (token_at text at).kind ≡ digit_kind v
+  record Numeral (at : ℕ) (d : Digit) : Type 0 where
+    digit : (token_at text at).kind ≡ digit_kind d.value
     comma : (second_of at).kind ≡ comma_kind
-    both : Two at next
+    both : Two at d.next
 
-  abbrev NumberRead : ℕ → Number → Type 0
-  NumberRead at number.Bad = Unit {0}
-  NumberRead at (number.At v next) = Numeral at v next
+  abbrev NumberRead : ℕ → Option Digit → Type 0
+  NumberRead at None = Unit {0}
+  NumberRead at (Some d) = Numeral at d
 
   number_read : (at : ℕ) → at ≤ length text → NumberRead at (number_at text at)
   unfolding number_at
@@ -80,17 +79,17 @@ module _ (text : List ℕ) where
       (λ _. tt)
 
   -- a word up to its first operand
-  pub record Headed (at : ℕ) (w : PlanWord) (first : ℕ) : Type 0 where
+  pub record Headed (at : ℕ) (h : Head) : Type 0 where
     pub hs : List Token
-    pub begins : PlanHead hs w
-    pub numbered : InRange w
-    pub spells : tokens text at ≡ hs ++ tokens text first
-    pub later : at + 1 < first
-    pub high : first ≤ length text
+    pub begins : PlanHead hs h.word
+    pub numbered : InRange h.word
+    pub spells : tokens text at ≡ hs ++ tokens text h.operand
+    pub later : at + 1 < h.operand
+    pub high : h.operand ≤ length text
 
-  abbrev pub HeadRead : ℕ → Head → Type 0
-  HeadRead at head.Bad = Unit {0}
-  HeadRead at (head.At w first) = Headed at w first
+  abbrev pub HeadRead : ℕ → Option Head → Type 0
+  HeadRead at None = Unit {0}
+  HeadRead at (Some h) = Headed at h
 
   module _ (at : ℕ) (h : at ≤ length text) (o : (second_of at).kind ≡ open_kind) where
     abbrev K : ℕ
@@ -100,19 +99,20 @@ module _ (text : List ℕ) where
     opened : (c : ℕ) → eqb end_kind c ≡ false → K ≡ c → Two at (behind at)
     opened c z k = two at h (is_kind c) (is_kind open_kind) z refl (eq-eqb _ _ k) (eq-eqb _ _ o)
 
-    short : (c : ℕ) → eqb end_kind c ≡ false → K ≡ c → {w : PlanWord} → PlanHead (pair at []) w → InRange w → Headed at w (behind at)
+    short : (c : ℕ) → eqb end_kind c ≡ false → K ≡ c → {w : PlanWord} → PlanHead (pair at []) w → InRange w
+        → Headed at (record { word = w; operand = behind at })
     short c z k b n =
         let t = opened c z k in
         record { hs = pair at []; begins = b; numbered = n; spells = t.spells; later = t.later; high = t.high }
 
-    within_read : K ≡ within_kind → (n : Number) → NumberRead (behind at) n → HeadRead at (within_head n)
-    within_read k number.Bad r = tt
-    within_read k (number.At steps next) r =
+    within_read : K ≡ within_kind → (n : Option Digit) → NumberRead (behind at) n → HeadRead at (within_head n)
+    within_read k None r = tt
+    within_read k (Some steps) r =
         let t = opened within_kind refl k in
-        cond_elim (HeadRead at) (leb steps steps_limit) _ _
+        cond_elim (HeadRead at) (leb steps.value steps_limit) _ _
         (λ l. record {
           hs = pair at (pair (behind at) []);
-          begins = within _ _ _ _ steps k o r.digit r.comma;
+          begins = within _ _ _ _ steps.value k o r.digit r.comma;
           numbered = leb-true _ _ l;
           spells = t.spells ∙ ap (pair at) r.both.spells;
           later = omega (arith, t.later, r.both.later);
@@ -120,27 +120,28 @@ module _ (text : List ℕ) where
         })
         (λ _. tt)
 
-    during_read : K ≡ during_kind → (first next : ℕ) → Numeral (behind at) first next → (n : Number) → NumberRead next n
-        → HeadRead at (during_head first n)
-    during_read k first next r number.Bad s = tt
-    during_read k first next r (number.At last end) s =
+    during_read : K ≡ during_kind → (first : Digit) → Numeral (behind at) first → (n : Option Digit) → NumberRead first.next n
+        → HeadRead at (during_head first.value n)
+    during_read k first r None s = tt
+    during_read k first r (Some last) s =
         let t = opened during_kind refl k in
-        cond_elim (HeadRead at) (leb 1 first && (leb first last && leb last last_limit)) _ _
-        (λ l. let m = and_right (leb 1 first) _ l in
-        let low = leb-true _ _ (and_left (leb 1 first) _ l) in
+        cond_elim (HeadRead at) (leb 1 first.value && (leb first.value last.value && leb last.value last_limit)) _ _
+        (λ l. let m = and_right (leb 1 first.value) _ l in
+        let low = leb-true _ _ (and_left (leb 1 first.value) _ l) in
         record {
-          hs = pair at (pair (behind at) (pair next []));
-          begins = during _ _ _ _ _ _ first last k o r.digit r.comma s.digit s.comma;
-          numbered = (low, leb-true _ _ (and_left (leb first last) _ m), leb-true _ _ (and_right (leb first last) _ m));
+          hs = pair at (pair (behind at) (pair first.next []));
+          begins = during _ _ _ _ _ _ first.value last.value k o r.digit r.comma s.digit s.comma;
+          numbered = (low, leb-true _ _ (and_left (leb first.value last.value) _ m), leb-true _ _ (and_right (leb first.value last.value) _ m));
           spells = t.spells ∙ ap (pair at) (r.both.spells ∙ ap (pair (behind at)) s.both.spells);
           later = omega (arith, t.later, r.both.later, s.both.later);
           high = s.both.high;
         })
         (λ _. tt)
 
-    during_from_lem : K ≡ during_kind → (n : Number) → NumberRead (behind at) n → HeadRead at (during_from text n)
-    during_from_lem k number.Bad r = tt
-    during_from_lem k (number.At first next) r = during_read k first next r (number_at text next) (number_read next r.both.high)
+    during_from_lem : K ≡ during_kind → (n : Option Digit) → NumberRead (behind at) n → HeadRead at (during_from text n)
+    during_from_lem k None r = tt
+    during_from_lem k (Some first) r =
+        during_read k first r (number_at text first.next) (number_read first.next r.both.high)
 
     head_of_lem : HeadRead at (head_of K text (behind at))
     unfolding head_of
@@ -192,14 +193,15 @@ module _ (text : List ℕ) where
   -- a head that is found, with what comes after it
   pub record HeadFound (at : ℕ) (w : PlanWord) (rest : List Token) : Type 0 where
     pub first : ℕ
-    pub found : head_at text at ≡ head.At w first
+    pub found : head_at text at ≡ Some (record { word = w; operand = first })
     pub inside : first ≤ length text
     pub after : tokens text first ≡ rest
     pub own : Foreign (token_at text at).kind
 
   module _ {at : ℕ} {t u : Token} {rest : List Token} (p : Written at t u rest) where
     -- a number
-    number_found : (v : ℕ) → v ≤ 9 → t.kind ≡ digit_kind v → u.kind ≡ comma_kind → number_at text at ≡ number.At v (behind text at)
+    number_found : (v : ℕ) → v ≤ 9 → t.kind ≡ digit_kind v → u.kind ≡ comma_kind
+        → number_at text at ≡ Some (record { value = v; next = behind text at })
     unfolding number_at
     number_found v few d i =
         let k : (token_at text at).kind ≡ digit_kind v = ap (λ (x : Token). x.kind) p.one ∙ d in
@@ -207,12 +209,12 @@ module _ (text : List ℕ) where
         let g = and_true (le-leb (digit_kind 0) (token_at text at).kind (omega arith))
         (and_true (le-leb (token_at text at).kind (digit_kind 9) (omega arith)) (eq-eqb _ _ c)) in
         let z : (token_at text at).kind - digit_kind 0 ≡ v = omega arith in
-        ap (λ b. cond b (number.At ((token_at text at).kind - digit_kind 0) (behind text at)) number.Bad) g
-        ∙ ap (λ n. number.At n (behind text at)) z
+        rw g (ap (λ n. Some (record { value = n; next = behind text at })) z)
 
     -- a word of kind c and its `(`, and then what is read of its numbers
     word_found : (c : ℕ) → Foreign c → t.kind ≡ c → u.kind ≡ open_kind → {w : PlanWord} {first : ℕ} {ts : List Token}
-        → head_of c text (behind text at) ≡ head.At w first → first ≤ length text → tokens text first ≡ ts → HeadFound at w ts
+        → head_of c text (behind text at) ≡ Some (record { word = w; operand = first }) → first ≤ length text → tokens text first ≡ ts
+        → HeadFound at w ts
     unfolding head_at
     word_found c f k o {first = first} e i a =
         let r : (token_at text at).kind ≡ c = ap (λ (x : Token). x.kind) p.one ∙ k in

@@ -20,10 +20,9 @@ use Rattle.syntax.specs.Plans.{InRange, plan_size}
 use Rattle.syntax.specs.Tree.{Tree, plan, size}
 use Rattle.syntax.proofs.LexLaws.{ends}
 use Rattle.syntax.proofs.Spelt.{first, tokens_test, head_is, tail_is}
+use Rattle.std.specs.Prelude.{Option, Some, None}
+use Rattle.std.proofs.lemmas.Option.{none-some, same_Some}
 use Rattle.grammar.specs.declared.heads.Head.{Head}
-use Rattle.grammar.specs.declared.heads.Head.TheVariants as head
-use Rattle.grammar.specs.declared.heads.Place.{Place}
-use Rattle.grammar.specs.declared.heads.Place.TheVariants as place
 use Rattle.grammar.specs.Grammar.{propositional, Derives, takes_two, Plan, over_one, over_two}
 use Rattle.grammar.specs.Parse.{some, close, parse}
 use Rattle.grammar.specs.PlanParse.{head_at, second_at, propositions, plan_second, plan_from, plan_at, others_at, reader}
@@ -66,23 +65,17 @@ abbrev eight : ℕ → ℕ
 eight x = 8 * x
 
 -- where the second operand stands: behind a comma, or where the first stands
-module _ (text : List ℕ) (w : PlanWord) (start q s : ℕ) (z : second_at w text start q ≡ place.At s) where
-  at_one : (m n : ℕ) → place.At m ≡ place.At n → m ≡ n
-  at_one m n e = cc
-
-  no_place : {C : Type 0} (n : ℕ) → place.Bad ≡ place.At n → C
-  no_place n e = let z : ◌≡◌ {A = ℕ} 0 1 = cc in absurd (omega arith)
-
+module _ (text : List ℕ) (w : PlanWord) (start q s : ℕ) (z : second_at w text start q ≡ Some s) where
   second_cases : {C : Type 0} → (takes_two w ≡ true → (token_at text q).kind ≡ comma_kind → s ≡ (token_at text q).next → C)
       → (takes_two w ≡ false → s ≡ start → C) → C
   unfolding second_at
   second_cases {C} f g = go (takes_two w) refl (eqb (token_at text q).kind comma_kind) refl z
     where
       go : (b : Bool) → takes_two w ≡ b → (c : Bool) → eqb (token_at text q).kind comma_kind ≡ c
-          → cond b (cond c (place.At (token_at text q).next) place.Bad) (place.At start) ≡ place.At s → C
-      go true t true k e = f t (eqb-true _ _ k) (sym (at_one _ _ e))
-      go true t false k e = no_place s e
-      go false t c k e = g t (sym (at_one _ _ e))
+          → cond b (cond c (Some (token_at text q).next) None) (Some start) ≡ Some s → C
+      go true t true k e = f t (eqb-true _ _ k) (sym (same_Some _ _ e))
+      go true t false k e = absurd (none-some s e)
+      go false t c k e = g t (sym (same_Some _ _ e))
 
   -- not before the first, and within the text
   pub second_in : start ≤ length text → {a : Tree} → In (λ y. y) text start a q → (start ≤ s) × (s ≤ length text)
@@ -93,37 +86,35 @@ module _ (text : List ℕ) (w : PlanWord) (start q s : ℕ) (z : second_at w tex
 
 module _ (text : List ℕ) (at : ℕ) (h : at ≤ length text) where
   record PlanRead (x : Tree) (next : ℕ) : Type 0 where
-    w : PlanWord
-    start : ℕ
-    headed : Headed text at w start
+    hd : Head
+    headed : Headed text at hd
     a : Tree
     q : ℕ
-    first_read : parse propositions text 4 start ≡ some a q
+    first_read : parse propositions text 4 hd.operand ≡ some a q
     s : ℕ
-    second_is : second_at w text start q ≡ place.At s
+    second_is : second_at hd.word text hd.operand q ≡ Some s
     b : Tree
     e : ℕ
     second_read : parse propositions text 4 s ≡ some b e
     closed : (token_at text e).kind ≡ close_kind
-    is : some (plan w a b) (token_at text e).next ≡ some x next
+    is : some (plan hd.word a b) (token_at text e).next ≡ some x next
 
   plan_read : (x : Tree) (next : ℕ) → plan_at text at ≡ some x next → PlanRead x next
   unfolding plan_at close
   plan_read x next eq = go (head_at text at) (head_read text at h) eq
     where
-      go : (hd : Head) → HeadRead text at hd → plan_from text hd ≡ some x next → PlanRead x next
-      go head.Bad r eq = none_some x next eq
-      go (head.At w start) r eq =
-          bind_elim _ _ _ _ eq (λ a q ea e₁. second w start r a q ea (second_at w text start q) refl e₁)
+      go : (o : Option Head) → HeadRead text at o → plan_from text o ≡ some x next → PlanRead x next
+      go None r eq = none_some x next eq
+      go (Some hd) r eq =
+          bind_elim _ _ _ _ eq (λ a q ea e₁. second hd r a q ea (second_at hd.word text hd.operand q) refl e₁)
         where
-          second : (w : PlanWord) (start : ℕ) → Headed text at w start → (a : Tree) (q : ℕ) → parse propositions text 4 start ≡ some a q
-              → (p : Place) → second_at w text start q ≡ p → plan_second w text a p ≡ some x next → PlanRead x next
-          second w start r a q ea place.Bad z eq = none_some x next eq
-          second w start r a q ea (place.At s) z eq =
+          second : (hd : Head) → Headed text at hd → (a : Tree) (q : ℕ) → parse propositions text 4 hd.operand ≡ some a q
+              → (p : Option ℕ) → second_at hd.word text hd.operand q ≡ p → plan_second hd.word text a p ≡ some x next → PlanRead x next
+          second hd r a q ea None z eq = none_some x next eq
+          second hd r a q ea (Some s) z eq =
               bind_elim _ _ _ _ eq (λ b e eb e₂.
               on_elim _ _ _ _ e₂ (λ k e₃. record {
-                w = w;
-                start = start;
+                hd = hd;
                 headed = r;
                 a = a;
                 q = q;
@@ -139,20 +130,20 @@ module _ (text : List ℕ) (at : ℕ) (h : at ≤ length text) where
               (λ _ e₃. none_some x next e₃))
 
   module _ {x : Tree} {next : ℕ} (r : PlanRead x next) where
-    inside₁ : In (λ y. y) text r.start r.a r.q
-    inside₁ = parse_inside propositions_laws text r.start r.headed.high 4 r.a r.q r.first_read
+    inside₁ : In (λ y. y) text r.hd.operand r.a r.q
+    inside₁ = parse_inside propositions_laws text r.hd.operand r.headed.high 4 r.a r.q r.first_read
 
     second_high : r.s ≤ length text
-    second_high = (second_in text r.w r.start r.q r.s r.second_is r.headed.high inside₁).1
+    second_high = (second_in text r.hd.word r.hd.operand r.q r.s r.second_is r.headed.high inside₁).1
 
     inside₂ : In (λ y. y) text r.s r.b r.e
     inside₂ = parse_inside propositions_laws text r.s second_high 4 r.b r.e r.second_read
 
     -- a word over one operand reads it twice
-    same_read : r.s ≡ r.start → some r.a r.q ≡ some r.b r.e
+    same_read : r.s ≡ r.hd.operand → some r.a r.q ≡ some r.b r.e
     same_read e = sym r.first_read ∙ ap (parse propositions text 4) (sym e) ∙ r.second_read
 
-    plan_inside : In eight text at (plan r.w r.a r.b) (token_at text r.e).next
+    plan_inside : In eight text at (plan r.hd.word r.a r.b) (token_at text r.e).next
     unfolding size
     plan_inside =
         let u = ends text r.e inside₂.high in
@@ -160,28 +151,28 @@ module _ (text : List ℕ) (at : ℕ) (h : at ≤ length text) where
         let i = inside₁ in
         let j = inside₂ in
         let hd = r.headed in
-        second_cases text r.w r.start r.q r.s r.second_is
-        (λ t c e. let m = two_few (size r.a) (size r.b) r.w hd.numbered t in
+        second_cases text r.hd.word r.hd.operand r.q r.s r.second_is
+        (λ t c e. let m = two_few (size r.a) (size r.b) r.hd.word hd.numbered t in
         let l = (ends text r.q i.high).real (is_kind comma_kind) refl (eq-eqb _ _ c) in
         record {
           low = omega (arith, m, l, v, e, hd.later, i.low, j.low);
           later = omega (arith, l, v, e, hd.later, i.later, j.later);
           high = u.high;
         })
-        (λ t e. let m = one_few (size r.a) (size r.b) r.w hd.numbered t in
+        (λ t e. let m = one_few (size r.a) (size r.b) r.hd.word hd.numbered t in
         let q = some_two r.a r.b r.q r.e (same_read e) in
         record { low = omega (arith, m, v, q, hd.later, i.low); later = omega (arith, v, q, hd.later, i.later); high = u.high })
 
-    plan_derives : (us : List Token) × Plan us (plan r.w r.a r.b)
+    plan_derives : (us : List Token) × Plan us (plan r.hd.word r.a r.b)
         × (tokens text at ≡ us ++ tokens text (token_at text r.e).next)
     unfolding parse
     plan_derives =
         let hd = r.headed in
-        let p = parse_sound propositions_laws propositions_exact text _ 4 r.start r.a r.q hd.high r.first_read in
+        let p = parse_sound propositions_laws propositions_exact text _ 4 r.hd.operand r.a r.q hd.high r.first_read in
         let last = tokens_test text r.e inside₂.high (is_kind close_kind) refl (eq-eqb _ _ r.closed) in
         let C = token_at text r.e in
         let end = tokens text C.next in
-        second_cases text r.w r.start r.q r.s r.second_is
+        second_cases text r.hd.word r.hd.operand r.q r.s r.second_is
         (λ t c e.
         let I = token_at text r.q in
         let p₂ = parse_sound propositions_laws propositions_exact text _ 4 r.s r.b r.e second_high r.second_read in
@@ -198,7 +189,7 @@ module _ (text : List ℕ) (at : ℕ) (h : at ≤ length text) where
         let f = same_read e in
         let q = some_two r.a r.b r.q r.e f in (
           hd.hs ++ (p.us ++ (C ∷ [])),
-          subst (λ y. Plan (hd.hs ++ (p.us ++ (C ∷ []))) (plan r.w r.a y)) (some_one r.a r.b r.q r.e f)
+          subst (λ y. Plan (hd.hs ++ (p.us ++ (C ∷ []))) (plan r.hd.word r.a y)) (some_one r.a r.b r.q r.e f)
               (over_one C hd.begins hd.numbered t p.derives r.closed),
           hd.spells
               ∙ ap (λ ts. hd.hs ++ ts) (p.spells ∙ ap (λ k. p.us ++ tokens text k) q ∙ ap (λ ts. p.us ++ ts) last
@@ -209,15 +200,15 @@ module _ (text : List ℕ) (at : ℕ) (h : at ≤ length text) where
   plan_in : (x : Tree) (next : ℕ) → plan_at text at ≡ some x next → In eight text at x next
   plan_in x next e =
       let r = plan_read x next e in
-      in_to text at (plan r.w r.a r.b) x (token_at text r.e).next next r.is (plan_inside r)
+      in_to text at (plan r.hd.word r.a r.b) x (token_at text r.e).next next r.is (plan_inside r)
 
   plan_sound : (x : Tree) (next : ℕ) → plan_at text at ≡ some x next
       → (us : List Token) × Plan us x × (tokens text at ≡ us ++ tokens text next)
   plan_sound x next e =
       let r = plan_read x next e in
       subst₂ (λ y k. (us : List Token) × Plan us y × (tokens text at ≡ us ++ tokens text k))
-      (some_one (plan r.w r.a r.b) x (token_at text r.e).next next r.is)
-      (some_two (plan r.w r.a r.b) x (token_at text r.e).next next r.is) (plan_derives r)
+      (some_one (plan r.hd.word r.a r.b) x (token_at text r.e).next next r.is)
+      (some_two (plan r.hd.word r.a r.b) x (token_at text r.e).next next r.is) (plan_derives r)
 
 -- ---- a word that is derived is read
 
@@ -233,17 +224,17 @@ module _ (text : List ℕ) where
   stops t c o k = ap (goes_on propositional 4) k ∙ o
 
   second_two : (w : PlanWord) (start q : ℕ) → takes_two w ≡ true → (token_at text q).kind ≡ comma_kind
-      → second_at w text start q ≡ place.At (token_at text q).next
+      → second_at w text start q ≡ Some (token_at text q).next
   unfolding second_at
   second_two w start q t c = rw (t, eq-eqb _ _ c)
 
-  second_one : (w : PlanWord) (start q : ℕ) → takes_two w ≡ false → second_at w text start q ≡ place.At start
+  second_one : (w : PlanWord) (start q : ℕ) → takes_two w ≡ false → second_at w text start q ≡ Some start
   unfolding second_at
   second_one w start q t = rw t
 
   -- a word from its head, its operands and its `)`
   word_found : {at : ℕ} {w : PlanWord} {ts rest : List Token} (hd : HeadFound text at w ts) {a b : Tree} {q s e : ℕ} (c : Token)
-      → parse propositions text 4 hd.first ≡ some a q → second_at w text hd.first q ≡ place.At s
+      → parse propositions text 4 hd.first ≡ some a q → second_at w text hd.first q ≡ Some s
       → parse propositions text 4 s ≡ some b e → e ≤ length text → tokens text e ≡ c ∷ rest → c.kind ≡ close_kind
       → OtherFound (reader true) text at (plan w a b) rest
   unfolding plan_at close

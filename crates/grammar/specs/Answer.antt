@@ -1,25 +1,24 @@
 -- What the functions that read a phrase answer.
 -- Assumes nothing.
-use Rattle.std.specs.Prelude.{◌≡◌, ℕ, ◌+◌, ◌*◌, ◌≤◌, List, length, replicate}
+use Rattle.std.specs.Prelude.{◌≡◌, ℕ, ◌+◌, ◌*◌, ◌≤◌, List, length, replicate, Option, Some, None}
 use Rattle.std.proofs.lemmas.List.Edits.{sets}
 use Rattle.syntax.specs.declared.lex.Token.{Token}
 use Rattle.syntax.specs.Tree.{size, cells}
-use Rattle.grammar.specs.declared.phrase.Read.{Read}
-use Rattle.grammar.specs.declared.phrase.Read.TheVariants.{At, Bad}
+use Rattle.grammar.specs.declared.phrase.Phrase.{Phrase}
 use Rattle.grammar.specs.Limits.{text_limit}
 use Rattle.grammar.specs.Parse.{Res, none, some}
 
 -- the place behind the phrase and the count of parts after it
-abbrev pub answer : Res → ℕ → Read
-answer none n = Bad
-answer (some a next) n = At next (n + size a)
+abbrev pub answer : Res → ℕ → Option Phrase
+answer none n = None
+answer (some a next) n = Some (record { next = next; count = n + size a })
 
 -- the cells after a phrase was read; where there is none, what is written is left open, and callers do not use it
 abbrev pub Left : (Token → ℕ) → Res → ℕ → List ℕ → List ℕ → Type 0
 Left val none n p q = Unit {0}
 Left val (some a next) n p q = q ≡ sets p n (cells val a)
 
-pub record Reads (val : Token → ℕ) (res : Res) (n : ℕ) (p q : List ℕ) (r : Read) : Type 0 where
+pub record Reads (val : Token → ℕ) (res : Res) (n : ℕ) (p q : List ℕ) (r : Option Phrase) : Type 0 where
   pub is : r ≡ answer res n
   pub left : Left val res n p q
 

@@ -1,6 +1,6 @@
 // The head of a plan word: the word, its `(` and its numbers; and where its second operand stands.
-ghost use Rattle.std.specs.Prelude.{◌≡◌};
-ghost use Rattle.grammar.specs.PlanParse.{number_at, within_head, during_head, during_from, head_of, head_at, second_at};
+ghost use Rattle.std.specs.Prelude.{◌≡◌, Some};
+ghost use Rattle.grammar.specs.PlanParse.{number_at, within_head, during_from, head_of, head_at, second_at};
 ghost use Rattle.grammar.specs.Grammar.{takes_two};
 
 use syntax::{AFTER, BEFORE, COMMA, DURING, ONCE, OPEN, PlanWord, WITHIN, ZERO, token_at};
@@ -12,151 +12,108 @@ const LAST_LIMIT: usize = 7;
 
 // A digit with a comma behind it, and the place behind both.
 #[derive(Clone, Copy)]
-pub enum Number {
-    At { value: usize, next: usize },
-    Bad,
+pub struct Digit {
+    pub value: usize,
+    pub next: usize,
 }
 
 // A word with its numbers, and where its first operand is looked for.
 #[derive(Clone, Copy)]
-pub enum Head {
-    At { word: PlanWord, operand: usize },
-    Bad,
+pub struct Head {
+    pub word: PlanWord,
+    pub operand: usize,
 }
 
-// Where an operand is looked for.
-#[derive(Clone, Copy)]
-pub enum Place {
-    At { at: usize },
-    Bad,
-}
-
-fn number_at(text: &[u8], at: usize) -> Number
+#[tactic(auto, unfolding(crate::specs::PlanParse::number_at))]
+fn number_at(text: &[u8], at: usize) -> Option<Digit>
     ensures { result ≡ number_at text.now at }
 {
-    let d = token_at(text, at);
-    let digit = d.kind;
-    let after = d.next;
-    let c = token_at(text, after);
-    let comma = c.kind;
-    let next = c.next;
-    if (ZERO <= digit) & ((digit <= ZERO + 9) & (comma == COMMA)) {
-        return Number::At {
-            value: (digit - ZERO) as usize,
-            next,
-        };
+    let digit = token_at(text, at);
+    let comma = token_at(text, digit.next);
+    if ZERO <= digit.kind && digit.kind <= ZERO + 9 && comma.kind == COMMA {
+        return Some(Digit {
+            value: (digit.kind - ZERO) as usize,
+            next: comma.next,
+        });
     }
-    Number::Bad
+    None
 }
 
-fn within_head(n: Number) -> Head
-    ensures { result ≡ within_head n }
+fn within_head(steps: Digit) -> Option<Head>
+    ensures { result ≡ within_head (Some steps) }
 {
-    let Number::At { value: steps, next } = n else {
-        return Head::Bad;
-    };
-    if steps <= STEPS_LIMIT {
-        return Head::At {
-            word: PlanWord::Within { steps },
-            operand: next,
-        };
+    if steps.value <= STEPS_LIMIT {
+        return Some(Head {
+            word: PlanWord::Within { steps: steps.value },
+            operand: steps.next,
+        });
     }
-    Head::Bad
+    None
 }
 
-fn during_head(first: usize, n: Number) -> Head
-    ensures { result ≡ during_head first n }
+fn during_from(text: &[u8], first: Digit) -> Option<Head>
+    ensures { result ≡ during_from text.now (Some first) }
 {
-    let Number::At { value: last, next } = n else {
-        return Head::Bad;
-    };
-    if (1 <= first) & ((first <= last) & (last <= LAST_LIMIT)) {
-        return Head::At {
-            word: PlanWord::During { first, last },
-            operand: next,
-        };
+    let last = number_at(text, first.next)?;
+    if 1 <= first.value && first.value <= last.value && last.value <= LAST_LIMIT {
+        return Some(Head {
+            word: PlanWord::During {
+                first: first.value,
+                last: last.value,
+            },
+            operand: last.next,
+        });
     }
-    Head::Bad
+    None
 }
 
-fn during_from(text: &[u8], n: Number) -> Head
-    ensures { result ≡ during_from text.now n }
-{
-    let Number::At { value: first, next } = n else {
-        return Head::Bad;
-    };
-    during_head(first, number_at(text, next))
-}
-
-fn head_of(k: u8, text: &[u8], at: usize) -> Head
+#[tactic(auto, unfolding(crate::specs::PlanParse::head_of))]
+fn head_of(k: u8, text: &[u8], at: usize) -> Option<Head>
     ensures { result ≡ head_of k text.now at }
 {
-    if k == ONCE {
-        return Head::At {
-            word: PlanWord::Once,
-            operand: at,
-        };
-    }
-    if k == BEFORE {
-        return Head::At {
-            word: PlanWord::Before,
-            operand: at,
-        };
-    }
-    if k == AFTER {
-        return Head::At {
-            word: PlanWord::After,
-            operand: at,
-        };
-    }
-    if k == WITHIN {
-        return within_head(number_at(text, at));
-    }
-    if k == DURING {
-        return during_from(text, number_at(text, at));
-    }
-    Head::Bad
+    let word = match k {
+        ONCE => PlanWord::Once,
+        BEFORE => PlanWord::Before,
+        AFTER => PlanWord::After,
+        WITHIN => return within_head(number_at(text, at)?),
+        DURING => return during_from(text, number_at(text, at)?),
+        _ => return None,
+    };
+    Some(Head { word, operand: at })
 }
 
-pub(crate) fn head_at(text: &[u8], at: usize) -> Head
+#[tactic(auto, unfolding(crate::specs::PlanParse::head_at))]
+pub(crate) fn head_at(text: &[u8], at: usize) -> Option<Head>
     ensures { result ≡ head_at text.now at }
 {
-    let w = token_at(text, at);
-    let k = w.kind;
-    let after = w.next;
-    let o = token_at(text, after);
-    let open = o.kind;
-    let next = o.next;
-    if open != OPEN {
-        return Head::Bad;
+    let word = token_at(text, at);
+    let open = token_at(text, word.next);
+    if open.kind != OPEN {
+        return None;
     }
-    head_of(k, text, next)
+    head_of(word.kind, text, open.next)
 }
 
 fn takes_two(w: PlanWord) -> bool
     ensures { result ≡ takes_two w }
 {
-    match w {
-        PlanWord::Once => false,
-        PlanWord::Before => true,
-        PlanWord::After => true,
-        PlanWord::Within { steps: _ } => true,
-        PlanWord::During { first: _, last: _ } => false,
-    }
+    matches!(
+        w,
+        PlanWord::Before | PlanWord::After | PlanWord::Within { .. }
+    )
 }
 
 // Where the second operand stands: behind a comma, or where the first stands if the word takes one.
-pub(crate) fn second_at(w: PlanWord, text: &[u8], first: usize, at: usize) -> Place
+#[tactic(auto, unfolding(crate::specs::PlanParse::second_at))]
+pub(crate) fn second_at(w: PlanWord, text: &[u8], first: usize, at: usize) -> Option<usize>
     ensures { result ≡ second_at w text.now first at }
 {
     if !takes_two(w) {
-        return Place::At { at: first };
+        return Some(first);
     }
-    let c = token_at(text, at);
-    let comma = c.kind;
-    let next = c.next;
-    if comma != COMMA {
-        return Place::Bad;
+    let comma = token_at(text, at);
+    if comma.kind != COMMA {
+        return None;
     }
-    Place::At { at: next }
+    Some(comma.next)
 }

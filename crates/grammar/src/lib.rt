@@ -6,5 +6,5 @@ mod heads;
 mod names;
 mod phrase;
 
-pub use names::{BITS, lookup};
-pub use phrase::{Read, TEXT_LIMIT, read_formula};
+pub use names::{BITS, Names, lookup};
+pub use phrase::{Phrase, TEXT_LIMIT, read_formula};

@@ -8,7 +8,7 @@ use mathlib.Core.Logic.{inl, inr}
 use mathlib.Core.Bool.{Bool, true, false, cond}
 use mathlib.Core.List.Memᴰ
 use mathlib.Core.List.{List, [], ◌∷◌}
-use borrow.Author.Tests.{eq-eqb, ne_eqb, lt-ltb, le-ltb}
+use borrow.Author.Tests.{eq-eqb, ne_eqb}
 use lib.Dec.{eqb}
 use lib.ListN.{length, get_or, set}
 use Rattle.basics.specs.Limits.{index_limit}
@@ -17,24 +17,17 @@ use Rattle.syntax.specs.declared.lex.Token.{Token}
 use Rattle.basics.specs.Bytes.{between, same_bytes}
 use Rattle.syntax.specs.Kinds.{name_kind}
 use Rattle.syntax.specs.Lex.{token_at, tokens}
-use Rattle.grammar.specs.Names.{Name, bits, index_of, names_in, leaf_value}
+use Rattle.grammar.specs.Names.{Name, bits, index_of, bit_of, leaf_value}
 use Rattle.syntax.proofs.Spelt.{tokens_end, tokens_more, falls}
-use Rattle.lines.specs.Effect.{Signals, all_declared}
+use Rattle.lines.specs.Effect.{Signals, is_declared, all_declared}
 use Rattle.basics.proofs.Booleans.{test}
 use Rattle.basics.proofs.BytesLaws.{same_bytes_lem, same_refl}
-use Rattle.lines.proofs.SignalSpans.{length_names}
+use Rattle.std.specs.Prelude.{Option, Some, None}
+use Rattle.std.specs.Option.{is_some}
+use Rattle.grammar.proofs.NamesLaws.{index_of_le}
 use Rattle.lines.proofs.TreeCodes.{Values}
 
 -- ---- the number of a name
-
-index_of_le : (name : Name) (xs : List Name) → index_of name xs ≤ length xs
-unfolding index_of
-index_of_le name [] = omega arith
-index_of_le name (x ∷ xs) = go (same_bytes x name) (index_of_le name xs)
-  where
-    go : (b : Bool) → index_of name xs ≤ length xs → cond b 0 (suc (index_of name xs)) ≤ suc (length xs)
-    go true h = omega arith
-    go false h = omega arith
 
 -- a name has a number exactly where it is an entry
 pub index_in_lem : (name : Name) (xs : List Name) → index_of name xs < length xs → name ∈ xs
@@ -93,8 +86,13 @@ index_kept x new (y ∷ xs) zero free some other =
     unlike z n = elim (test (same_bytes z x)) [ inl e ↦ absurd (n (same_bytes_lem z x e)) | inr e ↦ e ]
 index_kept x new (y ∷ xs) (suc i) free some other = ap (λ n. cond (same_bytes y x) 0 (suc n)) (index_kept x new xs i free some other)
 
-pub index_below : (source spans : List ℕ) (name : Name) (i : ℕ) → i ≡ index_of name (names_in source spans) → (i ≡ bits → ⊥) → i < bits
-index_below source spans name i e n = omega (arith, index_of_le name (names_in source spans), length_names source spans)
+-- a signal with a name is declared where the name has a bit
+pub declared_some : (g : Signals) (name : Name) {r : Option ℕ} → r ≡ bit_of name g.names → is_some r ≡ is_declared g name
+declared_some g name e = ap is_some e ∙ go (is_declared g name)
+  where
+    go : (b : Bool) → is_some (cond b (Some (index_of name g.names)) None) ≡ b
+    go true = refl
+    go false = refl
 
 -- what leaves hold
 pub leaf_values : (names : List Name) (text : List ℕ) → length names ≡ bits → Values (leaf_value names text)
@@ -125,11 +123,12 @@ module _ (text : List ℕ) (at : ℕ) (h : at ≤ length text) (tok : Token) (it
       unfolding all_declared
       declared_other n = rw (here, ne_eqb tok.kind name_kind n)
 
-      module _ (i : ℕ) (e : i ≡ index_of (between text tok.from tok.next) g.names) (k : tok.kind ≡ name_kind) where
-        pub declared_name : i < bits → all_declared g text (tokens text at) ≡ all_declared g text (tokens text tok.next)
+      module _ (k : tok.kind ≡ name_kind) where
+        pub declared_name : is_declared g (between text tok.from tok.next) ≡ true
+            → all_declared g text (tokens text at) ≡ all_declared g text (tokens text tok.next)
         unfolding all_declared
-        declared_name l = rw (here, eq-eqb tok.kind name_kind k, ← e, lt-ltb i bits l)
+        declared_name d = rw (here, eq-eqb tok.kind name_kind k, d)
 
-        pub declared_none : i ≡ bits → all_declared g text (tokens text at) ≡ false
+        pub declared_none : is_declared g (between text tok.from tok.next) ≡ false → all_declared g text (tokens text at) ≡ false
         unfolding all_declared
-        declared_none b = rw (here, eq-eqb tok.kind name_kind k, ← e, le-ltb i bits (omega arith))
+        declared_none d = rw (here, eq-eqb tok.kind name_kind k, d)

@@ -7,7 +7,6 @@ pub mod EffectLaws
 pub mod LineFields
 -- names and signals
 pub mod DeclaredNames
-pub mod SignalSpans
 pub mod UsedNames
 -- from cells to the parts in memory
 pub mod MemoryLaws

@@ -1,5 +1,6 @@
 -- Every line is one that declares, one that states, one that says an order, or none of these, and its effect goes by that. Assumes
 -- nothing.
+use Rattle.std.specs.Prelude.{None, Option, Some}
 use Prim.Native.Nat.{ℕ, zero, suc, ◌+◌, ◌<◌}
 use native.Mathlib.Nat.{le_of_suc-le-suc, suc-add}
 use native.Mathlib.Omega.{arith}
@@ -19,8 +20,6 @@ use Rattle.lines.specs.declared.problem.Word.{Word}
 use Rattle.lines.specs.declared.problem.Word.TheVariants.{Declare, Rule, Order as OrderWord, Unknown}
 use Rattle.basics.specs.declared.order.Order.{Order}
 use Rattle.basics.specs.declared.order.Order.TheVariants.{Set, Read}
-use Rattle.lines.specs.declared.problem.OrderSoFar.{OrderSoFar}
-use Rattle.lines.specs.declared.problem.OrderSoFar.TheVariants.{Open, Fixed}
 use Rattle.lines.specs.Lines.{kind_word, declare_line, rule_line, order_word, order_line, tab_place, has_tab, first_field, second_field}
 use Rattle.lines.specs.Lines.{word_of, order_named}
 use Rattle.lines.specs.Effect.{Signals, refuses, declare_effect, state_effect, order_effect, effect_of}
@@ -53,7 +52,7 @@ unfolding tab_place run word_of same_bytes
 rule_fields text = (lt-ltb 4 (suc (suc (suc (suc (suc (length text)))))) (omega arith), refl, refl)
 
 pub order_fields : (o : Order)
-    → (has_tab (order_line o) ≡ true) × (word_of (first_field (order_line o)) ≡ OrderWord) × (order_named (second_field (order_line o)) ≡ Fixed o)
+    → (has_tab (order_line o) ≡ true) × (word_of (first_field (order_line o)) ≡ OrderWord) × (order_named (second_field (order_line o)) ≡ Some o)
 unfolding tab_place run word_of same_bytes order_named
 order_fields Set = (refl, refl, refl)
 order_fields Read = (refl, refl, refl)
@@ -68,7 +67,7 @@ same_text text other e = sym (rule_fields text).2 ∙ ap second_field e ∙ (rul
 pub same_order : (o x : Order) → order_line o ≡ order_line x → o ≡ x
 same_order o x e = go (sym (order_fields o).2 ∙ ap (λ l. order_named (second_field l)) e ∙ (order_fields x).2)
   where
-    go : Fixed o ≡ Fixed x → o ≡ x
+    go : Some o ≡ Some x → o ≡ x
     go z = cc
 
 -- lines with different words differ
@@ -109,9 +108,9 @@ spelt w =
     (λ _. cond_elim (Spelt w) (same_bytes w (bytes_of "order")) _ _ (same_bytes_lem w (bytes_of "order")) (λ _. tt)))))
 
 -- and of an order
-abbrev Named : List ℕ → OrderSoFar → Type 0
-Named s Open = Unit {0}
-Named s (Fixed o) = s ≡ order_word o
+abbrev Named : List ℕ → Option Order → Type 0
+Named s None = Unit {0}
+Named s (Some o) = s ≡ order_word o
 
 named : (s : List ℕ) → Named s (order_named s)
 unfolding order_named
@@ -127,15 +126,15 @@ pub data LineCase (bytes : List ℕ) : Type 0 where
   orders : (o : Order) → bytes ≡ order_line o → LineCase bytes
   neither : ((k : Kind) (name : List ℕ) → ¬ (bytes ≡ declare_line k name)) → ((text : List ℕ) → ¬ (bytes ≡ rule_line text))
       → ((o : Order) → ¬ (bytes ≡ order_line o))
-      → ((line : ℕ) (g : Signals) (n m : ℕ) (o : OrderSoFar) → effect_of line bytes g n m o ≡ refuses (BadLine line)) → LineCase bytes
+      → ((line : ℕ) (g : Signals) (n m : ℕ) (o : Option Order) → effect_of line bytes g n m o ≡ refuses (BadLine line)) → LineCase bytes
 
-pub open_fixed : {o : Order} → ¬ (Open ≡ Fixed o)
+pub open_fixed : {o : Order} → ¬ (None ≡ Some o)
 open_fixed e = let x : ◌≡◌ {A = ℕ} 0 1 = cc in omega arith
 
 -- a field that names no order is refused, whatever was said before
-unnamed : (line : ℕ) (o : OrderSoFar) → order_effect line o Open ≡ refuses (BadLine line)
-unnamed line Open = refl
-unnamed line (Fixed o) = refl
+unnamed : (line : ℕ) (o : Option Order) → order_effect line o None ≡ refuses (BadLine line)
+unnamed line None = refl
+unnamed line (Some o) = refl
 
 pub line_case : (bytes : List ℕ) → LineCase bytes
 unfolding effect_of tab_place
@@ -147,11 +146,11 @@ line_case bytes = by_tab (has_tab bytes) refl
     split : has_tab bytes ≡ true → bytes ≡ first_field bytes ++ 9 ∷ second_field bytes
     split t = fields bytes (ltb-true _ _ t)
 
-    by_order : has_tab bytes ≡ true → word_of (first_field bytes) ≡ OrderWord → (x : OrderSoFar) → order_named (second_field bytes) ≡ x → LineCase bytes
-    by_order t e (Fixed o) i =
+    by_order : has_tab bytes ≡ true → word_of (first_field bytes) ≡ OrderWord → (x : Option Order) → order_named (second_field bytes) ≡ x → LineCase bytes
+    by_order t e (Some o) i =
         orders o
         (split t ∙ ap₂ (λ w s. w ++ 9 ∷ s) (first OrderWord e) (subst (Named (second_field bytes)) i (named (second_field bytes))))
-    by_order t e Open i =
+    by_order t e None i =
         neither (λ k name q. apart OrderWord (Declare k) e (declare_fields k name).1 (λ z. omega arith) q)
         (λ text q. apart OrderWord Rule e (rule_fields text).1 (λ z. omega arith) q)
         (λ o q. open_fixed (sym i ∙ ap (λ l. order_named (second_field l)) q ∙ (order_fields o).2)) (λ line g n m o. rw (t, e, i) (unnamed line o))
@@ -172,7 +171,7 @@ line_case bytes = by_tab (has_tab bytes) refl
         (λ o q. clash (order_fields o).0 (sym (ap has_tab q) ∙ e)) (λ line g n m o. rw e)
 
 -- the effect of a line that declares, of one that states, and of one that says an order
-module _ (line : ℕ) (g : Signals) (n m : ℕ) (o : OrderSoFar) where
+module _ (line : ℕ) (g : Signals) (n m : ℕ) (o : Option Order) where
   pub declare_line_lem : (k : Kind) (name : List ℕ) → effect_of line (declare_line k name) g n m o ≡ declare_effect line k name g
   unfolding effect_of
   declare_line_lem k name = let f = declare_fields k name in rw (f.0, f.1, f.2)
@@ -181,6 +180,6 @@ module _ (line : ℕ) (g : Signals) (n m : ℕ) (o : OrderSoFar) where
   unfolding effect_of
   rule_line_lem text = let f = rule_fields text in rw (f.0, f.1, f.2)
 
-  pub order_line_lem : (x : Order) → effect_of line (order_line x) g n m o ≡ order_effect line o (Fixed x)
+  pub order_line_lem : (x : Order) → effect_of line (order_line x) g n m o ≡ order_effect line o (Some x)
   unfolding effect_of
   order_line_lem x = let f = order_fields x in rw (f.0, f.1, f.2)

@@ -1,7 +1,7 @@
 -- What one line of a problem says: it declares a signal, states a formula, says the order of a step, or is refused, by the tests in
 -- their order (REFERENCE.md, A problem and Refusals).
 -- Assumes nothing.
-use Rattle.std.specs.Prelude.{ℕ, zero, suc, ◌+◌, ◌*◌, Bool, true, not, ◌&&◌, ◌||◌, cond, List, [], ◌∷◌, eqb, ltb, set, replicate}
+use Rattle.std.specs.Prelude.{ℕ, zero, suc, ◌+◌, ◌*◌, Bool, true, not, ◌&&◌, ◌||◌, cond, List, [], ◌∷◌, eqb, ltb, set, replicate, None, Option, Some}
 use Rattle.syntax.specs.declared.lex.Token.{Token}
 use Rattle.basics.specs.Bytes.{between}
 use Rattle.syntax.specs.declared.plans.PlanWord.{PlanWord}
@@ -20,8 +20,6 @@ use Rattle.lines.specs.declared.problem.Kind.TheVariants.{Output, Observed, Hidd
 use Rattle.lines.specs.declared.problem.Word.{Word}
 use Rattle.lines.specs.declared.problem.Word.TheVariants.{Declare, Rule, Order as OrderWord, Unknown}
 use Rattle.basics.specs.declared.order.Order.{Order}
-use Rattle.lines.specs.declared.problem.OrderSoFar.{OrderSoFar}
-use Rattle.lines.specs.declared.problem.OrderSoFar.TheVariants.{Open, Fixed}
 use Rattle.basics.specs.Limits.{kind_limit, signal_limit, operator_limit}
 use Rattle.formula.specs.Limits.{part_limit}
 use Rattle.formula.specs.Formula.{Formula, False, size, operators}
@@ -128,17 +126,17 @@ unfoldable pub state_effect : ℕ → List ℕ → Signals → ℕ → ℕ → E
 state_effect line text g n m = cond (not (is_text text)) (refuses (BadLine line)) (read_effect line text (parse_formula text) g n m)
 
 -- from what was said before, and what the line names
-abbrev pub order_effect : ℕ → OrderSoFar → OrderSoFar → Effect
-order_effect line (Fixed o) named = refuses (BadLine line)
-order_effect line Open Open = refuses (BadLine line)
-order_effect line Open (Fixed o) = orders o
+abbrev pub order_effect : ℕ → Option Order → Option Order → Effect
+order_effect line (Some o) named = refuses (BadLine line)
+order_effect line None None = refuses (BadLine line)
+order_effect line None (Some o) = orders o
 
-abbrev pub by_word : Word → ℕ → List ℕ → Signals → ℕ → ℕ → OrderSoFar → Effect
+abbrev pub by_word : Word → ℕ → List ℕ → Signals → ℕ → ℕ → Option Order → Effect
 by_word (Declare k) line second g n m o = declare_effect line k second g
 by_word Rule line second g n m o = state_effect line second g n m
 by_word OrderWord line second g n m o = order_effect line o (order_named second)
 by_word Unknown line second g n m o = refuses (BadLine line)
 
-unfoldable pub effect_of : ℕ → List ℕ → Signals → ℕ → ℕ → OrderSoFar → Effect
+unfoldable pub effect_of : ℕ → List ℕ → Signals → ℕ → ℕ → Option Order → Effect
 effect_of line bytes g n m o =
     cond (has_tab bytes) (by_word (word_of (first_field bytes)) line (second_field bytes) g n m o) (refuses (BadLine line))

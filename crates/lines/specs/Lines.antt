@@ -1,6 +1,6 @@
 -- The lines of a problem's text (a sheet in the trade's words) and their two fields (REFERENCE.md, A problem).
 -- Assumes nothing.
-use Rattle.std.specs.Prelude.{ℕ, ◌+◌, Bool, true, false, not, ◌&&◌, cond, List, [], ◌∷◌, ◌++◌, eqb, leb, ltb, length, take, drop}
+use Rattle.std.specs.Prelude.{ℕ, ◌+◌, Bool, true, false, not, ◌&&◌, cond, List, [], ◌∷◌, ◌++◌, eqb, leb, ltb, length, take, drop, None, Option, Some}
 use Rattle.basics.specs.Bytes.{lower, word_byte, not_tab, run, bytes_of, same_bytes}
 use Rattle.lines.specs.declared.problem.Kind.{Kind}
 use Rattle.lines.specs.declared.problem.Kind.TheVariants.{Output, Observed, Hidden}
@@ -8,8 +8,6 @@ use Rattle.lines.specs.declared.problem.Word.{Word}
 use Rattle.lines.specs.declared.problem.Word.TheVariants.{Declare, Rule, Order as OrderWord, Unknown}
 use Rattle.basics.specs.declared.order.Order.{Order}
 use Rattle.basics.specs.declared.order.Order.TheVariants.{Set, Read}
-use Rattle.lines.specs.declared.problem.OrderSoFar.{OrderSoFar}
-use Rattle.lines.specs.declared.problem.OrderSoFar.TheVariants.{Open, Fixed}
 use Rattle.syntax.specs.Lex.{is_reserved}
 use Rattle.grammar.specs.Limits.{text_limit}
 use Rattle.lines.specs.Limits.{name_limit}
@@ -89,7 +87,7 @@ unfoldable pub is_text : List ℕ → Bool
 is_text s = ltb 0 (length s) && (leb (length s) text_limit && eqb (tab_place s) (length s))
 
 -- the order that it names, open where it names none
-unfoldable pub order_named : List ℕ → OrderSoFar
+unfoldable pub order_named : List ℕ → Option Order
 order_named s =
-    cond (same_bytes s (bytes_of "set")) (Fixed Set)
-    (cond (same_bytes s (bytes_of "read")) (Fixed Read) Open)
+    cond (same_bytes s (bytes_of "set")) (Some Set)
+    (cond (same_bytes s (bytes_of "read")) (Some Read) None)

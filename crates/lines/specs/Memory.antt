@@ -1,34 +1,29 @@
--- What the code that reads a problem keeps: counts, the order of a step, the spans of names, and the numbers of the formula's parts so
+-- What the code that reads a problem keeps: counts, the order of a step, the signals' names, and the numbers of the formula's parts so
 -- far.
 -- Assumes nothing.
-use Rattle.std.specs.Prelude.{ℕ, zero, suc, ◌+◌, ◌*◌, ◌≤◌, ◌≡◌, Bool, not, cond, List, [], ◌∷◌, ◌++◌, length, set}
+use Rattle.lines.specs.declared.refusal.Refusal.{Refusal}
+use Rattle.std.specs.Prelude.{ℕ, zero, suc, ◌+◌, ◌≤◌, ◌≡◌, Bool, not, cond, List, [], ◌∷◌, ◌++◌, length, Err, Ok, Result, Some}
 use Rattle.std.proofs.lemmas.List.Edits.{sets}
-use Rattle.basics.specs.Bytes.{between}
-use Rattle.grammar.specs.Names.{Spans, names_in}
+use Rattle.grammar.specs.Names.{Name}
 use Rattle.formula.specs.declared.formula.Op.TheVariants as op
 use Rattle.lines.specs.declared.refusal.Refusal.TheVariants.{TooManyParts}
 use Rattle.lines.specs.declared.problem.Kind.{Kind}
 use Rattle.lines.specs.declared.problem.Kind.TheVariants.{Output, Observed, Hidden}
 use Rattle.basics.specs.declared.order.Order.{Order}
-use Rattle.lines.specs.declared.problem.OrderSoFar.TheVariants.{Fixed}
 use Rattle.lines.specs.declared.problem.Sizes.{Sizes}
-use Rattle.lines.specs.declared.problem.Reading.{Reading}
-use Rattle.lines.specs.declared.problem.Reading.TheVariants.{Accepted, Refused}
 use Rattle.basics.specs.Limits.{kind_limit, operator_limit}
 use Rattle.formula.specs.Limits.{part_limit}
-use Rattle.lines.specs.Lines.{tab_place}
 use Rattle.formula.specs.Formula.{Formula, size, operators}
 use Rattle.formula.specs.Parts.{parts_from, temporals}
 use Rattle.formula.specs.declared.parts.Part.{Part}
 use Rattle.formula.specs.Codes.{codes_of}
 use Rattle.syntax.specs.Cells.{codes_from, kinds_in}
 use Rattle.lines.specs.StepOrder.{order_or}
-use Rattle.lines.specs.Effect.{Signals, joint, exceeds, Effect, declares, states, orders, refuses, first_bit, effect_of}
+use Rattle.lines.specs.Effect.{Signals, joint, exceeds, Effect, declares, states, orders, refuses, with_name, effect_of}
 
 -- the signals that are kept
-abbrev pub signals_in : List ℕ → Sizes → List ℕ → Signals
-signals_in source s spans =
-    record { outputs = s.outputs; observed = s.observed; hidden = s.hidden; names = names_in source spans }
+abbrev pub signals_in : Sizes → List Name → Signals
+signals_in s names = record { outputs = s.outputs; observed = s.observed; hidden = s.hidden; names = names }
 
 abbrev pub count_in : Kind → Sizes → ℕ
 count_in Output s = s.outputs
@@ -62,7 +57,7 @@ order_in s = order_or s.order
 
 abbrev pub fix_order : Order → Sizes → Sizes
 fix_order o s =
-    record { outputs = s.outputs; observed = s.observed; hidden = s.hidden; parts = s.parts; operators = s.operators; order = Fixed o }
+    record { outputs = s.outputs; observed = s.observed; hidden = s.hidden; parts = s.parts; operators = s.operators; order = Some o }
 
 -- the part that joins a formula of k parts to the n before it
 abbrev pub join_part : ℕ → ℕ → List Part
@@ -77,24 +72,19 @@ added_parts φ n = parts_from φ n ++ join_part n (size φ)
 abbrev pub stored_from : List Part → ℕ → List ℕ → List ℕ
 stored_from ps n p = sets p n (codes_of ps)
 
--- the span of one more signal
-abbrev pub spanned : Kind → Sizes → ℕ → ℕ → List ℕ → List ℕ
-spanned k s start end spans =
-    set (set spans (2 * (first_bit k + count_in k s)) start) (2 * (first_bit k + count_in k s) + 1) end
-
 -- ---- what a line leaves
 
-abbrev pub reading_after : Effect → Sizes → Reading
-reading_after (declares k name) s = Accepted (more_signals k s)
-reading_after (states φ) s = Accepted (more_parts (size φ) (operators φ) s)
-reading_after (orders o) s = Accepted (fix_order o s)
-reading_after (refuses r) s = Refused r
+abbrev pub reading_after : Effect → Sizes → Result Sizes Refusal
+reading_after (declares k name) s = Ok (more_signals k s)
+reading_after (states φ) s = Ok (more_parts (size φ) (operators φ) s)
+reading_after (orders o) s = Ok (fix_order o s)
+reading_after (refuses r) s = Err r
 
-abbrev pub spans_after : Effect → Sizes → ℕ → ℕ → List ℕ → List ℕ
-spans_after (declares k name) s start end spans = spanned k s start end spans
-spans_after (states φ) s start end spans = spans
-spans_after (orders o) s start end spans = spans
-spans_after (refuses r) s start end spans = spans
+abbrev pub names_after : Effect → Sizes → List Name → List Name
+names_after (declares k name) s names = with_name k name (signals_in s names)
+names_after (states φ) s names = names
+names_after (orders o) s names = names
+names_after (refuses r) s names = names
 
 abbrev pub parts_after : Effect → Sizes → List ℕ → List ℕ
 parts_after (declares k name) s p = p
@@ -106,15 +96,14 @@ parts_after (refuses r) s p = p
 abbrev pub cells_fit : List ℕ → Sizes → Bool
 cells_fit cs s = not (exceeds s.parts s.operators (length cs) (temporals (kinds_in cs)))
 
-abbrev pub cells_reading : List ℕ → ℕ → Sizes → Reading
-cells_reading cs line s = cond (cells_fit cs s) (Accepted (more_parts (length cs) (temporals (kinds_in cs)) s)) (Refused (TooManyParts line))
+abbrev pub cells_reading : List ℕ → ℕ → Sizes → Result Sizes Refusal
+cells_reading cs line s = cond (cells_fit cs s) (Ok (more_parts (length cs) (temporals (kinds_in cs)) s)) (Err (TooManyParts line))
 
 abbrev pub cells_stored : List ℕ → Sizes → List ℕ → List ℕ
 cells_stored cs s p = cond (cells_fit cs s) (sets p s.parts (codes_from s.parts cs ++ codes_of (join_part s.parts (length cs)))) p
 
 -- what holds between lines
-pub record Kept (source : List ℕ) (s : Sizes) (spans p : List ℕ) : Type 0 where
-  pub spans_in : Spans source spans
+pub record Kept (s : Sizes) (p : List ℕ) : Type 0 where
   pub outputs_few : s.outputs ≤ kind_limit
   pub observed_few : s.observed ≤ kind_limit
   pub hidden_few : s.hidden ≤ kind_limit
@@ -122,11 +111,12 @@ pub record Kept (source : List ℕ) (s : Sizes) (spans p : List ℕ) : Type 0 wh
   pub operators_few : s.operators ≤ operator_limit
   pub parts_long : length p ≡ part_limit
 
-abbrev pub line_effect : List ℕ → ℕ → ℕ → ℕ → Sizes → List ℕ → Effect
-line_effect source at end line s spans = effect_of line (between source at end) (signals_in source s spans) s.parts s.operators s.order
+abbrev pub line_effect : List ℕ → ℕ → Sizes → List Name → Effect
+line_effect bytes line s names = effect_of line bytes (signals_in s names) s.parts s.operators s.order
 
--- what reading line `line`, the source's bytes from at up to end, leaves
-pub record LineRead (source : List ℕ) (at end line : ℕ) (s : Sizes) (spans p spans' p' : List ℕ) (r : Reading) : Type 0 where
-  pub reading : r ≡ reading_after (line_effect source at end line s spans) s
-  pub spans_left : spans' ≡ spans_after (line_effect source at end line s spans) s (at + tab_place (between source at end) + 1) end spans
-  pub parts_left : p' ≡ parts_after (line_effect source at end line s spans) s p
+-- what reading line `line`, which has these bytes, leaves
+pub record LineRead (bytes : List ℕ) (line : ℕ) (s : Sizes) (names : List Name) (p : List ℕ) (names' : List Name) (p' : List ℕ)
+    (r : Result Sizes Refusal) : Type 0 where
+  pub reading : r ≡ reading_after (line_effect bytes line s names) s
+  pub names_left : names' ≡ names_after (line_effect bytes line s names) s names
+  pub parts_left : p' ≡ parts_after (line_effect bytes line s names) s p

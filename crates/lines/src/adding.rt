@@ -1,7 +1,7 @@
 // A line that states a formula.
 ghost use Rattle.std.specs.Prelude.{◌≡◌, ◌+◌, ◌-◌, ◌≤◌, ◌<◌, length};
 ghost use Rattle.syntax.specs.Lex.{tokens};
-ghost use Rattle.grammar.specs.Names.{Spans};
+ghost use Rattle.grammar.specs.Names.{names_in};
 ghost use Rattle.basics.specs.Limits.{operator_limit, index_limit};
 ghost use Rattle.formula.specs.Limits.{part_limit};
 ghost use Rattle.formula.specs.Parts.{temporals};
@@ -10,11 +10,11 @@ ghost use Rattle.lines.specs.Effect.{joint, all_declared, state_effect};
 ghost use Rattle.syntax.specs.Cells.{kinds_in};
 ghost use Rattle.lines.specs.Memory.{signals_in, join_part, stored_from, reading_after, parts_after, cells_reading, cells_stored, Kept};
 
-use crate::problem::{Reading, Sizes};
+use crate::problem::Sizes;
 use crate::refusal::Refusal;
 use basics::{Class, OPERATOR_LIMIT, past};
 use formula::is_temporal;
-use grammar::{BITS, Read, TEXT_LIMIT, lookup, read_formula};
+use grammar::{Names, TEXT_LIMIT, lookup, read_formula};
 use syntax::{END, NAME, put_codes, token_at};
 
 // The most parts of a problem.
@@ -34,25 +34,19 @@ fn is_text(text: &[u8]) -> bool
 }
 
 // Whether every name in a text is declared.
-fn all_declared(source: &[u8], spans: &[usize], text: &[u8], s: Sizes) -> bool
-    requires { Spans source.now spans.now }
-    ensures { result ≡ all_declared (signals_in source.now s spans.now) text.now (tokens text.now 0) }
+fn all_declared(names: &Names<'_>, text: &[u8]) -> bool
+    ensures { (s : Sizes) → result ≡ all_declared (signals_in s (names_in names.now)) text.now (tokens text.now 0) }
 {
     let mut at = 0;
     loop {
         let t = token_at(text, at);
-        let kind = t.kind;
-        let from = t.from;
-        let next = t.next;
-        if kind == END {
+        if t.kind == END {
             return true;
         }
-        if kind == NAME {
-            if lookup(source, spans, &text[from..next]) == BITS {
-                return false;
-            }
+        if t.kind == NAME && lookup(names, &text[t.from..t.next]).is_none() {
+            return false;
         }
-        at = next;
+        at = t.next;
     }
 }
 
@@ -61,12 +55,10 @@ fn temporals_in(cells: &[u32]) -> usize
     ensures { result ≡ temporals (kinds_in cells.now) }
 {
     let mut n: usize = 0;
-    let mut i = 0;
-    while i < cells.len() {
-        if is_temporal((cells[i] % 256) as u8) {
+    for &cell in cells {
+        if is_temporal((cell % 256) as u8) {
             n += 1;
         }
-        i += 1;
     }
     n
 }
@@ -91,7 +83,7 @@ fn join(n: usize, count: usize, parts: &mut [u32])
 }
 
 // Line `line` states the formula of these cells.
-fn add_cells(cells: &[u32], line: usize, s: Sizes, parts: &mut [u32]) -> Reading
+fn add_cells(cells: &[u32], line: usize, s: Sizes, parts: &mut [u32]) -> Result<Sizes, Refusal>
     requires cells_len_bound { length cells.now < index_limit }
     requires parts_le_part_limit { (s.parts ≤ part_limit) × (s.operators ≤ operator_limit) × (length parts.old ≡ part_limit) }
     ensures value { result ≡ cells_reading cells.now line s }
@@ -101,47 +93,45 @@ fn add_cells(cells: &[u32], line: usize, s: Sizes, parts: &mut [u32]) -> Reading
     let count = n + cells.len();
     let all = with_joint(n, count);
     if PART_LIMIT < all {
-        return Reading::Refused(Refusal::TooManyParts(line));
+        return Err(Refusal::TooManyParts(line));
     }
     let m = s.operators + temporals_in(cells);
     if OPERATOR_LIMIT < m {
-        return Reading::Refused(Refusal::TooManyParts(line));
+        return Err(Refusal::TooManyParts(line));
     }
     put_codes(cells, n, parts);
     join(n, count, parts);
-    let mut t = s;
-    t.parts = all;
-    t.operators = m;
-    Reading::Accepted(t)
+    Ok(Sizes {
+        parts: all,
+        operators: m,
+        ..s
+    })
 }
 
 // Line `line` states the formula of a text: its parts behind those so far, or a refusal, and they stay as they were.
 pub fn add_formula(
-    source: &[u8],
-    spans: &[usize],
+    names: &Names<'_>,
     text: &[u8],
     line: usize,
     s: Sizes,
     parts: &mut [u32],
-) -> Reading
-    requires { Kept source.now s spans.now parts.old }
+) -> Result<Sizes, Refusal>
+    requires { Kept s parts.old }
     ensures value { result ≡ reading_after
-        (state_effect line text.now (signals_in source.now s spans.now) s.parts s.operators) s }
+        (state_effect line text.now (signals_in s (names_in names.now)) s.parts s.operators) s }
     ensures parts_after { parts.new ≡ parts_after
-        (state_effect line text.now (signals_in source.now s spans.now) s.parts s.operators) s parts.old }
+        (state_effect line text.now (signals_in s (names_in names.now)) s.parts s.operators) s parts.old }
 {
     if !is_text(text) {
-        return Reading::Refused(Refusal::BadLine(line));
+        return Err(Refusal::BadLine(line));
     }
     let mut cells = [0u32; PART_LIMIT];
-    let Read::At { next: _, count } = read_formula(source, spans, text, &mut cells) else {
-        return Reading::Refused(Refusal::BadFormula(line));
-    };
-    if !all_declared(source, spans, text, s) {
-        return Reading::Refused(Refusal::UnknownName(line));
+    let formula = read_formula(names, text, &mut cells).ok_or(Refusal::BadFormula(line))?;
+    if !all_declared(names, text) {
+        return Err(Refusal::UnknownName(line));
     }
-    if PART_LIMIT < count {
-        return Reading::Refused(Refusal::TooManyParts(line));
+    if PART_LIMIT < formula.count {
+        return Err(Refusal::TooManyParts(line));
     }
-    add_cells(&cells[..count], line, s, parts)
+    add_cells(&cells[..formula.count], line, s, parts)
 }

@@ -11,5 +11,5 @@ mod refusal;
 pub use adding::{PART_LIMIT, add_formula};
 pub use declaring::declare;
 pub use ordering::{add_order, order_of, ordered};
-pub use problem::{OrderSoFar, Reading, Sizes, Word, word_of};
+pub use problem::{Sizes, Word, word_of};
 pub use refusal::{Refusal, number, place};

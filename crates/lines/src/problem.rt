@@ -2,7 +2,6 @@
 ghost use Rattle.std.specs.Prelude.{◌≡◌};
 ghost use Rattle.lines.specs.Lines.{word_of};
 
-use crate::refusal::Refusal;
 use basics::{Order, same};
 
 // A kind of signal: set by the controller, read by it, or neither.
@@ -22,14 +21,8 @@ pub enum Word {
     Unknown,
 }
 
-// The order of a step, as far as a text has been read: open until a line says it. At the end of the text it is fixed.
-#[derive(Clone, Copy)]
-pub enum OrderSoFar {
-    Open,
-    Fixed(Order),
-}
-
-// How many signals of each kind, parts and temporal operators there are, and the order of a step.
+// How many signals of each kind, parts and temporal operators there are, and the order of a step: none until a line says it, and one at the
+// end of a text.
 #[derive(Clone, Copy)]
 pub struct Sizes {
     pub outputs: usize,
@@ -37,14 +30,7 @@ pub struct Sizes {
     pub hidden: usize,
     pub parts: usize,
     pub operators: usize,
-    pub order: OrderSoFar,
-}
-
-// What reading a problem, or one more line of it, gives.
-#[derive(Clone, Copy)]
-pub enum Reading {
-    Accepted(Sizes),
-    Refused(Refusal),
+    pub order: Option<Order>,
 }
 
 #[tactic(auto, unfolding(crate::specs::Lines::word_of))]

@@ -2,7 +2,7 @@
 ghost use Rattle.std.specs.Prelude.{◌≡◌};
 ghost use Rattle.lines.specs.Refusal.{number_of, place_of};
 
-#[derive(Clone, Copy)]
+#[derive(Clone, Copy, Debug, PartialEq, Eq)]
 pub enum Refusal {
     LongSource,
     BadLine(usize),
@@ -53,22 +53,14 @@ pub fn place(r: Refusal) -> usize
     ensures { result ≡ place_of r }
 {
     match r {
-        Refusal::LongSource => 0,
-        Refusal::BadLine(n) => n,
-        Refusal::NameTwice(n) => n,
-        Refusal::TooManySignals(n) => n,
-        Refusal::BadFormula(n) => n,
-        Refusal::UnknownName(n) => n,
-        Refusal::TooManyParts(n) => n,
-        Refusal::NoFormula => 0,
-        Refusal::TooManyStates => 0,
-        Refusal::TooManyBeliefs => 0,
-        Refusal::Unrealizable => 0,
-        Refusal::ShortMemory => 0,
-        Refusal::BadTable => 0,
-        Refusal::Stopped => 0,
-        Refusal::BadObservation => 0,
-        Refusal::BadTrace(n) => n,
-        Refusal::BadText(n) => n,
+        Refusal::BadLine(n)
+        | Refusal::NameTwice(n)
+        | Refusal::TooManySignals(n)
+        | Refusal::BadFormula(n)
+        | Refusal::UnknownName(n)
+        | Refusal::TooManyParts(n)
+        | Refusal::BadTrace(n)
+        | Refusal::BadText(n) => n,
+        _ => 0,
     }
 }

@@ -2,33 +2,30 @@
 -- Assumes nothing.
 use Prim.Native.Nat.{ℕ, zero, suc, ◌+◌, ◌-◌, ◌*◌, ◌%◌, ◌^◌, ◌≤◌, ◌<◌}
 use native.Mathlib.Omega.{arith}
-use mathlib.Core.Path.{◌≡◌, refl, sym, ap, ap₂, ◌∙◌}
-use mathlib.Core.Logic.{◌⊎◌, inl, inr}
-use mathlib.Core.Bool.{Bool, true, false, cond, ◌||◌}
+use mathlib.Core.Path.{◌≡◌, refl, sym, ap, ◌∙◌}
+use mathlib.Core.Bool.{true, false, cond}
 use mathlib.Core.List.{List, flat_map}
-use lib.Dec.{leb, ltb}
+use lib.Dec.{ltb}
 use lib.ListN.{length, get_or}
-use borrow.Author.Tests.{lt-ltb, le-ltb, ltb-true, ltb-false, leb-true, leb-false, ne_eqb}
-use Rattle.basics.specs.Bytes.{same_bytes}
+use borrow.Author.Tests.{lt-ltb, le-ltb}
 use Rattle.basics.specs.Limits.{kind_limit}
 use Rattle.basics.specs.Lists.{tabulate, below}
 use Rattle.basics.specs.Numbers.{number_below}
 use Rattle.basics.specs.Pieces.{field_at, line_at}
 use Rattle.basics.specs.declared.order.Order.{Order}
-use Rattle.basics.specs.declared.order.Order.TheVariants.{Set, Read}
 use Rattle.basics.proofs.BitsLaws.{shl_one}
-use Rattle.basics.proofs.Booleans.{cond_elim, or_cases, or_left, or_right}
+use Rattle.basics.proofs.Booleans.{cond_elim}
 use Rattle.basics.proofs.EqualRows.{length_rows}
 use Rattle.basics.proofs.ListsLaws.{length_tabulate, get_d_tabulate}
 use Rattle.basics.proofs.NumbersLaws.{below_lt, below_le}
 use Rattle.basics.proofs.SaysLaws.{says_false}
-use Rattle.play.specs.Limits.{belief_limit, side_limit}
+use Rattle.play.specs.Limits.{side_limit}
 use Rattle.play.specs.Cells.{rank_at, row_size, cell_limit, stop_cell, stop_row}
 use Rattle.play.proofs.CellsLaws.{rank_last, first_before, before_inside, stop_length, stop_first, stop_rest, rank_length, rank_there, rank_other}
-use Rattle.printer.specs.Text.{shown_from, shown_count, table_word}
+use Rattle.printer.specs.Text.{shown_from, shown_count}
 use Rattle.wellformed.proofs.WellFormedLaws.{side_le}
 use Rattle.tables.specs.declared.shape.Shape.{Shape}
-use Rattle.loader.specs.Candidate.{says_stop, rank_in, limit_at, move_in, row_in, observed_in, order_in, rows_in, cells_in}
+use Rattle.loader.specs.Candidate.{says_stop, rank_in, limit_at, move_in, row_in, observed_in, cells_in}
 use Rattle.loader.proofs.ShownCells.{Shown, shown_says}
 
 -- ---- a row, from its line
@@ -37,28 +34,6 @@ use Rattle.loader.proofs.ShownCells.{Shown, shown_says}
 pub in_cell : (limit : ℕ) (s : List ℕ) → limit ≤ cell_limit → number_below limit s < cell_limit
 in_cell zero s h = omega (arith, below_le 0 s)
 in_cell (suc k) s h = omega (arith, below_lt (suc k) s (omega arith))
-
-module _ (o : Order) (rows i : ℕ) where
-  pub set_first : o ≡ Set → i ≡ 0 → side_limit ≡ limit_at o rows i
-  set_first e z = rw (e, z) refl
-
-  pub set_next : o ≡ Set → (i ≡ 0 → ⊥) → rows ≡ limit_at o rows i
-  set_next e m = rw (e, ne_eqb i 0 m) refl
-
-  pub read_choice : o ≡ Read → i % 2 ≡ 1 → side_limit ≡ limit_at o rows i
-  read_choice e z = rw (e, z) refl
-
-  pub read_next : o ≡ Read → (i % 2 ≡ 1 → ⊥) → rows ≡ limit_at o rows i
-  read_next e m = rw (e, ne_eqb (i % 2) 1 m) refl
-
--- a row is not long
-pub size_small : (o : Order) → row_size o ≤ 2 + 2 * side_limit
-size_small Set = omega arith
-size_small Read = omega arith
-
-pub shown_small : (o : Order) (n : ℕ) → n ≤ side_limit → shown_from o + shown_count o n ≤ 1 + 2 * side_limit
-shown_small Set n h = omega arith
-shown_small Read n h = omega arith
 
 module _ (o : Order) (n rows : ℕ) (line : List ℕ) (i : ℕ) where
   -- a cell that is printed, and one that is not
@@ -69,26 +44,6 @@ module _ (o : Order) (n rows : ℕ) (line : List ℕ) (i : ℕ) where
   pub move_hidden : ¬ Shown o n i → move_in o n rows line i ≡ 0
   unfolding move_in
   move_hidden h = rw (says_false (shown_says o n i) h) refl
-
-  -- by the test of the code
-  module _ (from count : ℕ) (f : from ≡ shown_from o) (c : count ≡ shown_count o n) where
-    pub move_zero : (ltb i from || leb (from + count) i) ≡ true → 0 ≡ move_in o n rows line i
-    move_zero e = sym (move_hidden (out (or_cases (ltb i from) (leb (from + count) i) e)))
-      where
-        out : (ltb i from ≡ true) ⊎ (leb (from + count) i ≡ true) → ¬ Shown o n i
-        out (inl l) (a, b) = omega (arith, ltb-true i from l)
-        out (inr l) (a, b) = omega (arith, leb-true (from + count) i l)
-
-    pub move_inside : (ltb i from || leb (from + count) i) ≡ false → Shown o n i
-    move_inside e =
-        let a = ltb-false i from (or_left (ltb i from) (leb (from + count) i) e) in
-        let b = leb-false (from + count) i (or_right (ltb i from) (leb (from + count) i) e) in
-        (omega arith, omega arith)
-
-    pub move_number : (ltb i from || leb (from + count) i) ≡ false → (limit : ℕ) → limit ≡ limit_at o rows i
-        → number_below limit (field_at (3 + (i - from)) line) ≡ move_in o n rows line i
-    move_number e limit q =
-        ap₂ (λ (m k : ℕ). number_below m (field_at (3 + (i - k)) line)) q f ∙ sym (move_shown (move_inside e))
 
 module _ (shape : Shape) (line : List ℕ) where
   abbrev o : Order
@@ -141,13 +96,13 @@ module _ (shape : Shape) (line : List ℕ) where
 
 -- ---- the number of observed signals, tried from the greatest down
 
+pub tried_small : (k : ℕ) → k ≤ kind_limit → 1 * 2 ^ k % 18446744073709551616 ≤ side_limit
+tried_small k h = omega (arith, shl_one k (omega arith), side_le k h)
+
 module _ (o : Order) where
   field_tried : (k : ℕ) (line f : List ℕ) → k ≤ kind_limit → (m : ℕ) → m ≡ shown_count o (1 * 2 ^ k % 18446744073709551616)
       → f ≡ field_at (2 + m) line → f ≡ field_at (2 + shown_count o (2 ^ k)) line
   field_tried k line f h m q e = e ∙ ap (λ n. field_at (2 + n) line) (q ∙ ap (shown_count o) (shl_one k (omega arith)))
-
-  pub tried_small : (k : ℕ) → k ≤ kind_limit → 1 * 2 ^ k % 18446744073709551616 ≤ side_limit
-  tried_small k h = omega (arith, shl_one k (omega arith), side_le k h)
 
   pub observed_none : (k : ℕ) (line : List ℕ) → k ≤ 0 → 0 ≡ observed_in o k line
   unfolding observed_in
@@ -172,28 +127,6 @@ module _ (o : Order) where
       ap (λ u. ltb 0 (length u)) (sym (field_tried (suc k) line f h m q e)) ∙ le-ltb 0 (length f) l in
       let p : suc k - 1 ≡ k = omega arith in
       rw (t, p) refl
-
--- ---- the order
-
-module _ (line : List ℕ) (r : Bool) (e : r ≡ same_bytes (field_at 0 line) (table_word Read)) where
-  pub order_read : r ≡ true → Read ≡ order_in line
-  unfolding order_in
-  order_read t = rw (← e, t) refl
-
-  pub order_set : r ≡ false → Set ≡ order_in line
-  unfolding order_in
-  order_set f = rw (← e, f) refl
-
--- ---- the row count
-
-module _ (line : List ℕ) (n : ℕ) (e : n ≡ number_below (suc belief_limit) (field_at 1 line)) where
-  pub rows_none : n ≡ 0 → 1 ≡ rows_in line
-  unfolding rows_in
-  rows_none z = rw (← e, z) refl
-
-  pub rows_some : (n ≡ 0 → ⊥) → n ≡ rows_in line
-  unfolding rows_in
-  rows_some z = rw (← e, ne_eqb n 0 z) refl
 
 -- ---- the cells
 

@@ -48,20 +48,23 @@ cell_is shape s i h k b =
 
 -- ---- it is a table but for its ranks
 
-observed_le : (o : Order) (k : ℕ) (l : List ℕ) → observed_in o k l ≤ k
+pub observed_le : (o : Order) (k : ℕ) (l : List ℕ) → observed_in o k l ≤ k
 unfolding observed_in
 observed_le o zero l = omega arith
 observed_le o (suc k) l =
     cond_elim (λ n. n ≤ suc k) (ltb 0 (length (field_at (2 + shown_count o (2 ^ suc k)) l))) (suc k) (observed_in o k l) (λ e. omega arith)
     (λ e. omega (arith, observed_le o k l))
 
-rows_some : (l : List ℕ) → (0 < rows_in l) × (rows_in l ≤ belief_limit)
+pub rows_some : (l : List ℕ) → (0 < rows_in l) × (rows_in l ≤ belief_limit)
 unfolding rows_in
 rows_some l =
     let n = number_below (suc belief_limit) (field_at 1 l) in
     let m = below_lt (suc belief_limit) (field_at 1 l) (omega arith) in
     cond_elim (λ k. (0 < k) × (k ≤ belief_limit)) (eqb n 0) 1 n (λ e. (omega arith, omega arith))
     (λ e. let z = eqb-false n 0 e in (omega (arith, z), omega (arith, m)))
+
+pub rows_few : (l : List ℕ) → rows_in l ≤ belief_limit
+rows_few l = (rows_some l).1
 
 -- a row that goes on, from its line
 module _ (n rows : ℕ) (some : 0 < rows) (l : List ℕ) where

@@ -1,6 +1,7 @@
 -- What the first difference of two texts says: as many lines as stand before it are common to both, and no more.
 -- Assumes nothing.
 use Prim.Native.Nat.{ℕ, zero, suc, ◌+◌}
+use Rattle.std.specs.Prelude.{Some, None}
 use native.Mathlib.Omega.{arith}
 use mathlib.Core.Path.{◌≡◌, refl, sym, ap, ap₂, ◌∙◌, subst}
 use mathlib.Core.Logic.{◌⊎◌, inl, inr}
@@ -15,7 +16,7 @@ use Rattle.basics.specs.Pieces.{Unparted}
 use Rattle.loader.specs.LoadedAs.{Lines}
 use Rattle.loader.specs.Difference.{difference}
 
-pub no_difference : (n : ℕ) (s : List ℕ) → difference n s s ≡ 0
+pub no_difference : (n : ℕ) (s : List ℕ) → difference n s s ≡ None
 unfolding difference
 no_difference n [] = refl
 no_difference n (a ∷ s) = rw (eq-eqb a a refl) (no_difference (cond (eqb a 10) (suc n) n) s)
@@ -74,19 +75,19 @@ Differs n s t m = (k : ℕ) × (m ≡ n + k) × Common k s t × (Common (suc k) 
 here : (n : ℕ) (s t : List ℕ) (m : ℕ) → n ≡ m → (Common 1 s t → ⊥) → Differs n s t m
 here n s t m e most = (0, omega arith, none_common s t, most)
 
-pub first_difference : (n : ℕ) (s t : List ℕ) (m : ℕ) → difference n s t ≡ suc m → Differs n s t (suc m)
+pub first_difference : (n : ℕ) (s t : List ℕ) (m : ℕ) → difference n s t ≡ Some m → Differs n s t m
 unfolding difference
-first_difference n [] [] m e = absurd (omega arith)
-first_difference n [] (b ∷ t) m e = here n [] (b ∷ t) (suc m) e (empty_left 0 (b ∷ t))
-first_difference n (a ∷ s) [] m e = here n (a ∷ s) [] (suc m) e (λ c. empty_left 0 (a ∷ s) (common_sym 1 (a ∷ s) [] c))
+first_difference n [] [] m e = absurd cc
+first_difference n [] (b ∷ t) m e = here n [] (b ∷ t) m (cc) (empty_left 0 (b ∷ t))
+first_difference n (a ∷ s) [] m e = here n (a ∷ s) [] m (cc) (λ c. empty_left 0 (a ∷ s) (common_sym 1 (a ∷ s) [] c))
 first_difference n (a ∷ s) (b ∷ t) m e =
     elim (test (eqb a b)) [
       | inl q ↦ by_line (eqb-true a b q) (test (eqb a 10)) (rw q at e) (λ n. first_difference n s t m)
-      | inr q ↦ here n (a ∷ s) (b ∷ t) (suc m) (rw q at e) (λ c. eqb-false a b q (common_head 0 a b s t c).0)
+      | inr q ↦ let f : Some n ≡ Some m = rw q at e in here n (a ∷ s) (b ∷ t) m (cc) (λ c. eqb-false a b q (common_head 0 a b s t c).0)
     ]
   where
-    by_line : a ≡ b → (eqb a 10 ≡ true) ⊎ (eqb a 10 ≡ false) → difference (cond (eqb a 10) (suc n) n) s t ≡ suc m
-        → ((n : ℕ) → difference n s t ≡ suc m → Differs n s t (suc m)) → Differs n (a ∷ s) (b ∷ t) (suc m)
+    by_line : a ≡ b → (eqb a 10 ≡ true) ⊎ (eqb a 10 ≡ false) → difference (cond (eqb a 10) (suc n) n) s t ≡ Some m
+        → ((n : ℕ) → difference n s t ≡ Some m → Differs n s t m) → Differs n (a ∷ s) (b ∷ t) m
     by_line ab (inl l) e ih =
         let (k, h, c, most) = ih (suc n) (rw l at e) in
         let ten = eqb-true a 10 l in
@@ -108,18 +109,18 @@ first_difference n (a ∷ s) (b ∷ t) m e =
         )
 
 -- no difference
-pub same_text : (n : ℕ) (s t : List ℕ) → difference (suc n) s t ≡ 0 → s ≡ t
+pub same_text : (n : ℕ) (s t : List ℕ) → difference n s t ≡ None → s ≡ t
 unfolding difference
 same_text n [] [] e = refl
-same_text n [] (b ∷ t) e = absurd (omega arith)
-same_text n (a ∷ s) [] e = absurd (omega arith)
+same_text n [] (b ∷ t) e = absurd cc
+same_text n (a ∷ s) [] e = absurd cc
 same_text n (a ∷ s) (b ∷ t) e =
     elim (test (eqb a b)) [
       | inl q ↦ ap₂ (λ x y. x ∷ y) (eqb-true a b q) (by_line (test (eqb a 10)) (rw q at e) (λ n. same_text n s t))
-      | inr q ↦ absurd (let z : suc n ≡ 0 = rw q at e in omega arith)
+      | inr q ↦ absurd (let z : Some n ≡ None = rw q at e in cc)
     ]
   where
-    by_line : (eqb a 10 ≡ true) ⊎ (eqb a 10 ≡ false) → difference (cond (eqb a 10) (suc (suc n)) (suc n)) s t ≡ 0
-        → ((n : ℕ) → difference (suc n) s t ≡ 0 → s ≡ t) → s ≡ t
+    by_line : (eqb a 10 ≡ true) ⊎ (eqb a 10 ≡ false) → difference (cond (eqb a 10) (suc n) n) s t ≡ None
+        → ((n : ℕ) → difference n s t ≡ None → s ≡ t) → s ≡ t
     by_line (inl l) e ih = ih (suc n) (rw l at e)
     by_line (inr l) e ih = ih n (rw l at e)

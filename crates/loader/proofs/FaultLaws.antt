@@ -1,6 +1,7 @@
 -- What the tests of the ranks find, and where a text that is a table's is at fault by them.
 -- Assumes nothing.
-use Prim.Native.Nat.{ℕ, suc, ◌+◌, ◌<◌}
+use Prim.Native.Nat.{ℕ, ◌+◌, ◌<◌}
+use Rattle.std.specs.Prelude.{Option, Some, None}
 use native.Mathlib.Decide.{dec_lt}
 use native.Mathlib.Nat.{le_refl}
 use native.Mathlib.Omega.{arith}
@@ -26,11 +27,11 @@ use Rattle.loader.proofs.SameRows.{SameRanks}
 use Rattle.loader.proofs.ReadBack.{text_print, text_worst, text_ranks}
 
 -- all ranks of a table are as they must be, or a line is at fault
-pub data Ranks (t : List ℕ) (shape : Shape) (worst : ℕ) : ℕ → Type 0 where
-  all_right : rank_cell shape.order t 0 ≡ worst → ((i : ℕ) → i < shape.rows → RankedRow t shape i) → Ranks t shape worst 0
-  worst_wrong : (¬ (rank_cell shape.order t 0 ≡ worst)) → Ranks t shape worst 1
+pub data Ranks (t : List ℕ) (shape : Shape) (worst : ℕ) : Option ℕ → Type 0 where
+  all_right : rank_cell shape.order t 0 ≡ worst → ((i : ℕ) → i < shape.rows → RankedRow t shape i) → Ranks t shape worst None
+  worst_wrong : (¬ (rank_cell shape.order t 0 ≡ worst)) → Ranks t shape worst (Some 1)
   row_wrong : rank_cell shape.order t 0 ≡ worst → (i : ℕ) → i < shape.rows → (¬ RankedRow t shape i)
-      → ((j : ℕ) → j < i → RankedRow t shape j) → Ranks t shape worst (2 + i)
+      → ((j : ℕ) → j < i → RankedRow t shape j) → Ranks t shape worst (Some (2 + i))
 
 -- ---- the rows
 
@@ -38,11 +39,11 @@ module _ (t : List ℕ) (shape : Shape) where
   abbrev first : ℕ
   first = first_that (misranked t shape) shape.rows
 
-  pub row_here : (i : ℕ) → i < shape.rows → first ≡ i → row_fault t shape ≡ 2 + i
+  pub row_here : (i : ℕ) → i < shape.rows → first ≡ i → row_fault t shape ≡ Some (2 + i)
   unfolding row_fault
   row_here i h e = rw (e, lt-ltb i shape.rows h) refl
 
-  pub row_none : first ≡ shape.rows → row_fault t shape ≡ 0
+  pub row_none : first ≡ shape.rows → row_fault t shape ≡ None
   unfolding row_fault
   row_none e = rw (e, le-ltb shape.rows shape.rows (le_refl _)) refl
 
@@ -64,7 +65,7 @@ module _ (t : List ℕ) (shape : Shape) (worst : ℕ) where
   abbrev rank : ℕ
   rank = rank_cell shape.order t 0
 
-  pub rank_first : (¬ (rank ≡ worst)) → rank_fault t shape worst ≡ 1
+  pub rank_first : (¬ (rank ≡ worst)) → rank_fault t shape worst ≡ Some 1
   unfolding rank_fault
   rank_first m = rw (ne_eqb rank worst m) refl
 
@@ -72,7 +73,7 @@ module _ (t : List ℕ) (shape : Shape) (worst : ℕ) where
   unfolding rank_fault
   rank_rows e = rw (eq-eqb rank worst e) refl
 
-  ranks_are : (n : ℕ) → Ranks t shape worst n → rank_fault t shape worst ≡ n
+  ranks_are : (n : Option ℕ) → Ranks t shape worst n → rank_fault t shape worst ≡ n
   ranks_are n (all_right e f) =
       rank_rows e ∙ row_none t shape (none_first (misranked t shape) shape.rows (λ i h. right t shape i (f i h)))
   ranks_are n (worst_wrong m) = rank_first m
@@ -84,10 +85,10 @@ module _ (t : List ℕ) (shape : Shape) (worst : ℕ) where
   ranks_found =
       elim (test (eqb rank worst)) [
         | inl e ↦ rows (eqb-true rank worst e)
-        | inr e ↦ by 1 (worst_wrong (eqb-false rank worst e))
+        | inr e ↦ by (Some 1) (worst_wrong (eqb-false rank worst e))
       ]
     where
-      by : (n : ℕ) → Ranks t shape worst n → Ranks t shape worst (rank_fault t shape worst)
+      by : (n : Option ℕ) → Ranks t shape worst n → Ranks t shape worst (rank_fault t shape worst)
       by n r = subst (Ranks t shape worst) (sym (ranks_are n r)) r
 
       rows : rank ≡ worst → Ranks t shape worst (rank_fault t shape worst)
@@ -96,12 +97,12 @@ module _ (t : List ℕ) (shape : Shape) (worst : ℕ) where
           let before : (j : ℕ) → j < i → RankedRow t shape j = λ j l. is_right t shape j (first_least (misranked t shape) shape.rows j l) in
           elim (dec_lt i shape.rows) [
             | yes l ↦
-                by (2 + i) (row_wrong e i l (λ r. clash (first_passes (misranked t shape) shape.rows l) (right t shape i r)) before)
-            | no l ↦ by 0 (all_right e (λ j b. before j (omega arith)))
+                by (Some (2 + i)) (row_wrong e i l (λ r. clash (first_passes (misranked t shape) shape.rows l) (right t shape i r)) before)
+            | no l ↦ by None (all_right e (λ j b. before j (omega arith)))
           ]
 
 -- those of a table whose ranks pass the same tests
-ranks_same : (t u : List ℕ) (a b : Shape) (worst : ℕ) → SameRanks t a u b → (n : ℕ) → Ranks t a worst n → Ranks u b worst n
+ranks_same : (t u : List ℕ) (a b : Shape) (worst : ℕ) → SameRanks t a u b → (n : Option ℕ) → Ranks t a worst n → Ranks u b worst n
 ranks_same t u a b worst r n (all_right e f) = all_right (r.first ∙ e) (λ i h. let l = subst (λ k. i < k) r.rows h in (r.each i l).0 (f i l))
 ranks_same t u a b worst r n (worst_wrong m) = worst_wrong (λ e. m (sym r.first ∙ e))
 ranks_same t u a b worst r n (row_wrong e i h m before) =
@@ -111,19 +112,19 @@ ranks_same t u a b worst r n (row_wrong e i h m before) =
 -- ---- a text
 
 module _ (s : List ℕ) where
-  pub fault_line : (m : ℕ) → difference 1 s (print_in s) ≡ suc m → fault_in s ≡ suc m
+  pub fault_line : (m : ℕ) → difference 1 s (print_in s) ≡ Some m → fault_in s ≡ Some m
   unfolding fault_in
-  fault_line m e = rw (e, ne_eqb (suc m) 0 (λ z. omega arith)) refl
+  fault_line m e = rw e refl
 
-  pub fault_rank : difference 1 s (print_in s) ≡ 0 → fault_in s ≡ rank_fault (cells_in (shape_in s) s) (shape_in s) (worst_in (shape_in s).rows s)
+  pub fault_rank : difference 1 s (print_in s) ≡ None → fault_in s ≡ rank_fault (cells_in (shape_in s) s) (shape_in s) (worst_in (shape_in s).rows s)
   unfolding fault_in
   fault_rank e = rw e refl
 
   -- of some table
-  pub text_same : (t : List ℕ) (shape : Shape) (worst : ℕ) → TextOf s t shape worst → difference 1 s (print_in s) ≡ 0
+  pub text_same : (t : List ℕ) (shape : Shape) (worst : ℕ) → TextOf s t shape worst → difference 1 s (print_in s) ≡ None
   text_same t shape worst is = ap (difference 1 s) (text_print s t shape worst is) ∙ no_difference 1 s
 
-  pub fault_of : (t : List ℕ) (shape : Shape) (worst : ℕ) → TextOf s t shape worst → (n : ℕ) → Ranks t shape worst n → fault_in s ≡ n
+  pub fault_of : (t : List ℕ) (shape : Shape) (worst : ℕ) → TextOf s t shape worst → (n : Option ℕ) → Ranks t shape worst n → fault_in s ≡ n
   fault_of t shape worst is n r =
       let cells = cells_in (shape_in s) s in
       let said = worst_in (shape_in s).rows s in

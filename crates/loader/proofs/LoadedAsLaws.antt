@@ -1,29 +1,24 @@
 -- The loading call, in the shape in which the code makes it.
 -- Assumes nothing.
-use Prim.Native.Nat.{ℕ, zero, suc, ◌*◌, ◌≤◌, ◌<◌}
-use native.Mathlib.Nat.{le_refl}
+use Rattle.tables.specs.declared.shape.Table.{Table}
+use Rattle.lines.specs.declared.refusal.Refusal.{Refusal}
+use Rattle.std.specs.Prelude.{Err, Result, Option}
+use Prim.Native.Nat.{ℕ, ◌*◌, ◌≤◌, ◌<◌}
 use native.Mathlib.Omega.{arith}
 use mathlib.Core.Path.{◌≡◌, refl, sym, ap, subst, ◌∙◌}
-use mathlib.Core.Bool.{cond}
 use mathlib.Core.List.{List}
-use lib.Dec.{eqb}
 use lib.ListN.{length, take}
-use lib.Seq.{length-take-le}
-use borrow.Author.Tests.{lt-ltb, le-ltb, ne_eqb}
-use Rattle.basics.specs.Limits.{kind_limit}
+use borrow.Author.Tests.{lt-ltb, le-ltb}
 use Rattle.basics.specs.Lists.{written}
 use Rattle.basics.specs.declared.order.Order.{Order}
 use Rattle.basics.specs.declared.order.Order.TheVariants.{Set, Read}
-use Rattle.basics.proofs.Booleans.{cond_elim}
 use Rattle.basics.proofs.ListsLaws.{front_in, front_taken, taken_length}
-use Rattle.lines.specs.declared.refusal.Refusal.TheVariants.{ShortMemory, BadText}
+use Rattle.lines.specs.declared.refusal.Refusal.TheVariants.{ShortMemory}
 use Rattle.play.specs.Limits.{belief_limit}
 use Rattle.play.specs.Cells.{row_size, table_size}
 use Rattle.printer.specs.Text.{table_text}
 use Rattle.wellformed.specs.WellFormed.{Shaped}
 use Rattle.tables.specs.declared.shape.Shape.{Shape}
-use Rattle.loader.specs.declared.loading.Loaded.{Loaded}
-use Rattle.loader.specs.declared.loading.Loaded.TheVariants.{Table, Refused}
 use Rattle.loader.specs.Candidate.{shape_in, worst_in, cells_in, print_in}
 use Rattle.loader.specs.Difference.{difference}
 use Rattle.loader.specs.LoadedAs.{first_fault, fault_in, loaded_at, cells_at, loaded_by, cells_by, table_after, told_loaded, used_rows, LoadedAs}
@@ -33,38 +28,16 @@ use Rattle.loader.proofs.LoadedIffDue.{load_told}
 
 module _ (s table : List ℕ) where
   -- the answer r, with the table left as `after`, is what the call promises
-  abbrev pub Loads : Loaded → List ℕ → Type 0
+  abbrev pub Loads : Result Table Refusal → List ℕ → Type 0
   Loads r after =
       (r ≡ loaded_by (length table) s) × ((after ≡ table_after s table) × LoadedAs (length table) s (told_loaded r) (used_rows r after))
 
-  loads : (r : Loaded) (after : List ℕ) → r ≡ loaded_by (length table) s → after ≡ table_after s table → Loads r after
+  loads : (r : Result Table Refusal) (after : List ℕ) → r ≡ loaded_by (length table) s → after ≡ table_after s table → Loads r after
   loads r after p q = (p, (q, load_told s table r after (p, q)))
 
-  pub load_short : length table < table_size → Loads (Refused ShortMemory) table
+  pub load_short : length table < table_size → Loads (Err ShortMemory) table
   unfolding loaded_by cells_by
-  load_short h = let short = lt-ltb (length table) table_size h in loads (Refused ShortMemory) table (rw short refl) (rw short refl)
-
--- by the line of the first fault
-module _ (place : ℕ) (shape : Shape) (worst : ℕ) where
-  pub answer_bad : 0 < place → Refused (BadText place) ≡ loaded_at place shape worst
-  answer_bad h = by place h
-    where
-      by : (k : ℕ) → 0 < k → Refused (BadText k) ≡ loaded_at k shape worst
-      by zero h = absurd (omega arith)
-      by (suc k) h = refl
-
-  pub answer_good : place ≡ 0 → Table shape worst ≡ loaded_at place shape worst
-  answer_good z = ap (λ k. loaded_at k shape worst) (sym z)
-
-pub count_none : (place n : ℕ) → 0 < place → 0 ≡ cond (eqb place 0) n 0
-count_none place n h = rw (ne_eqb place 0 (λ e. omega arith)) refl
-
-pub count_all : (place n : ℕ) → place ≡ 0 → n ≡ cond (eqb place 0) n 0
-count_all place n z = rw z refl
-
--- the first k of some cells
-pub taken_long : (k : ℕ) (l : List ℕ) → k ≤ length l → k ≡ length (take k l)
-taken_long k l h = sym (length-take-le k l h)
+  load_short h = let short = lt-ltb (length table) table_size h in loads (Err ShortMemory) table (rw short refl) (rw short refl)
 
 -- the cells of all rows
 few_cells : (o : Order) (rows : ℕ) → rows ≤ belief_limit → rows * row_size o ≤ table_size
@@ -79,10 +52,8 @@ module _ (s : List ℕ) {shape : Shape} (is_shape : shape ≡ shape_in s) where
       (subst (λ h. Shaped (cells_in h s) h (worst_in h.rows s)) (sym is_shape) (candidate_shaped s))
 
   -- what the writing of its cells asks
-  pub cells_ask : (shape.observed ≤ kind_limit) × ((shape.rows ≤ belief_limit) × (shape.rows * row_size shape.order ≤ table_size))
-  cells_ask =
-      let z = (shaped (worst_in shape.rows s) refl).sized in
-      (z.seen, (z.few, few_cells shape.order shape.rows z.few))
+  pub cells_ask : shape.rows * row_size shape.order ≤ table_size
+  cells_ask = few_cells shape.order shape.rows (shaped (worst_in shape.rows s) refl).sized.few
 
   -- its cells stand in a memory, rows of k
   module _ (memory : List ℕ) {cells : List ℕ} (are_cells : cells ≡ written (cells_in shape s) memory) {k : ℕ} (is_row : k ≡ row_size shape.order) where
@@ -93,7 +64,7 @@ module _ (s : List ℕ) {shape : Shape} (is_shape : shape ≡ shape_in s) where
     size_is = ap (λ n. shape.rows * n) is_row ∙ sym (cells_length shape s)
 
     pub size_few : size ≤ table_size
-    size_few = omega (arith, size_is, cells_length shape s, cells_ask.1.1)
+    size_few = omega (arith, size_is, cells_length shape s, cells_ask)
 
     pub cells_in_lem : size ≤ length cells
     cells_in_lem = front_in (cells_in shape s) memory cells size size_is are_cells
@@ -104,26 +75,12 @@ module _ (s : List ℕ) {shape : Shape} (is_shape : shape ≡ shape_in s) where
     pub cells_long : size ≡ length (take size cells)
     cells_long = taken_length (cells_in shape s) memory cells size size_is are_cells
 
-    -- so many of them are copied, and these are the cells that are to be written
-    module _ (place : ℕ) {n : ℕ} (is_count : n ≡ cond (eqb place 0) size 0) where
-      pub count_le : n ≤ size
-      count_le =
-          subst (λ k. k ≤ size) (sym is_count)
-          (cond_elim (λ k. k ≤ size) (eqb place 0) size 0 (λ e. le_refl _) (λ e. omega arith))
-
-      copied : take n cells ≡ cells_at place (cells_in shape s)
-      copied = ap (λ k. take k cells) is_count ∙ at place
-        where
-          at : (k : ℕ) → take (cond (eqb k 0) size 0) cells ≡ cells_at k (cells_in shape s)
-          at zero = cells_taken
-          at (suc k) = rw (ne_eqb (suc k) 0 (λ e. omega arith)) refl
-
     module _ {worst : ℕ} (is_worst : worst ≡ worst_in shape.rows s) where
       -- what the search for the first fault asks
       pub fault_asks : Shaped (take size cells) shape worst
       fault_asks = subst (λ t. Shaped t shape worst) (sym cells_taken) (shaped worst is_worst)
 
-      module _ (table : List ℕ) (room : table_size ≤ length table) {place : ℕ}
+      module _ (table : List ℕ) (room : table_size ≤ length table) {place : Option ℕ}
           (is_place : place ≡ first_fault (difference 1 s (table_text (take size cells) shape worst)) (take size cells) shape worst) where
         place_is : fault_in s ≡ place
         unfolding fault_in print_in
@@ -133,13 +90,14 @@ module _ (s : List ℕ) {shape : Shape} (is_shape : shape ≡ shape_in s) where
             ∙ ap (λ w. first_fault (difference 1 s (table_text (cells_in shape s) shape w)) (cells_in shape s) shape w) is_worst
             ∙ ap (λ (h : Shape). let w = worst_in h.rows s in first_fault (difference 1 s (table_text (cells_in h s) h w)) (cells_in h s) h w) is_shape)
 
-        pub load_done : {n : ℕ} → n ≡ cond (eqb place 0) size 0 → (r : Loaded) → r ≡ loaded_at place shape worst
-            → (after : List ℕ) → after ≡ written (take n cells) table → Loads s table r after
+        pub load_done : (r : Result Table Refusal) → r ≡ loaded_at place shape worst
+            → (after : List ℕ) → after ≡ written (cells_at place (take size cells)) table → Loads s table r after
         unfolding loaded_by cells_by
-        load_done is_count r q after e =
+        load_done r q after e =
             let enough = le-ltb (length table) table_size room in
             let answer : loaded_by (length table) s ≡ loaded_at place (shape_in s) (worst_in (shape_in s).rows s) = rw (enough, place_is) refl in
             let due : cells_by (length table) s ≡ cells_at place (cells_in (shape_in s) s) = rw (enough, place_is) refl in
             loads s table r after
             (q ∙ ap (loaded_at place shape) is_worst ∙ ap (λ (h : Shape). loaded_at place h (worst_in h.rows s)) is_shape ∙ sym answer)
-            (e ∙ ap (λ c. written c table) (copied place is_count ∙ ap (λ (h : Shape). cells_at place (cells_in h s)) is_shape ∙ sym due))
+            (e
+            ∙ ap (λ c. written c table) (ap (cells_at place) cells_taken ∙ ap (λ (h : Shape). cells_at place (cells_in h s)) is_shape ∙ sym due))

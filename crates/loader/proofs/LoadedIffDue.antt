@@ -1,6 +1,10 @@
 -- What the loading call answers is what is due, and what is due is what it answers.
 -- Assumes nothing.
-use Prim.Native.Nat.{ℕ, zero, suc, ◌+◌, ◌*◌, ◌≤◌, ◌<◌}
+use Rattle.tables.specs.Outcome.{table_with}
+use Rattle.tables.specs.declared.shape.Table.{Table}
+use Rattle.lines.specs.declared.refusal.Refusal.{Refusal}
+use Rattle.std.specs.Prelude.{Err, Result, Ok, Option, Some, None}
+use Prim.Native.Nat.{ℕ, suc, ◌+◌, ◌*◌, ◌≤◌}
 use native.Mathlib.Decide.{dec_le}
 use native.Mathlib.Omega.{arith}
 use mathlib.Core.Path.{◌≡◌, refl, sym, ap, ap₂, ◌∙◌, subst}
@@ -21,25 +25,26 @@ use Rattle.lines.specs.Refusal.{Told, values, refused}
 use Rattle.lines.proofs.RefusalLaws.{told_apart, one_place as told_place}
 use Rattle.play.specs.Cells.{row_size, stop_cell, table_size, first_cell}
 use Rattle.tables.specs.declared.shape.Shape.{Shape}
-use Rattle.loader.specs.declared.loading.Loaded.{Loaded}
-use Rattle.loader.specs.declared.loading.Loaded.TheVariants.{Table, Refused}
 use Rattle.loader.specs.Candidate.{shape_in, worst_in, cells_in, print_in}
 use Rattle.loader.specs.Difference.{difference}
 use Rattle.loader.specs.LoadedAs.{fault_in, loaded_at, cells_at, loaded_by, cells_by, table_after, told_loaded, used_rows, IsPrint, TextOf, TableOf}
 use Rattle.loader.specs.LoadedAs.{Begins, FaultAt, bad_line, bad_worst, bad_rank, LoadedAs, short_memory, bad_text, table}
 use Rattle.loader.proofs.CandidateLaws.{cells_length}
 use Rattle.loader.proofs.CandidatePrint.{candidate_shaped}
-use Rattle.loader.proofs.DifferenceLaws.{Common, Differs, first_difference, same_text}
+use Rattle.loader.proofs.DifferenceLaws.{Common, first_difference, same_text}
 use Rattle.loader.proofs.SameRows.{Said, table_said, said_table}
 use Rattle.loader.proofs.WholeLines.{lines_fewer}
 use Rattle.loader.proofs.ReadBack.{begins_so, none_told, worst_is, shape_is, cells_are}
 use Rattle.loader.proofs.FaultLaws.{Ranks, all_right, worst_wrong, row_wrong, ranks_found, fault_line, fault_rank, text_same, fault_of}
 
+same_table : (t u : Table) → ◌≡◌ {A = Result Table Refusal} (Ok t) (Ok u) → t ≡ u
+same_table t u e = cc
+
 -- the answer and the cells to write, by the line of the first fault
-abbrev answer : List ℕ → ℕ → Loaded
+abbrev answer : List ℕ → Option ℕ → Result Table Refusal
 answer s d = loaded_at d (shape_in s) (worst_in (shape_in s).rows s)
 
-abbrev to_write : List ℕ → ℕ → List ℕ
+abbrev to_write : List ℕ → Option ℕ → List ℕ
 to_write s d = cells_at d (cells_in (shape_in s) s)
 
 module _ (s : List ℕ) where
@@ -56,9 +61,9 @@ module _ (s : List ℕ) where
   unfolding print_in
   candidate = record { shaped = candidate_shaped s; text = refl }
 
-  module _ (e : difference 1 s (print_in s) ≡ 0) where
+  module _ (e : difference 1 s (print_in s) ≡ None) where
     text_said : TextOf s cells' (shape_in s) worst'
-    text_said = subst (λ x. TextOf x cells' (shape_in s) worst') (sym (same_text 0 s (print_in s) e)) candidate
+    text_said = subst (λ x. TextOf x cells' (shape_in s) worst') (sym (same_text 1 s (print_in s) e)) candidate
 
     all_said : Said s (shape_in s) worst' cells'
     all_said =
@@ -95,80 +100,71 @@ module _ (s : List ℕ) where
       let (x, y, ks, e) = lines_fewer i j h u ls in
       (x, y ++ v, y ++ w, ks, es ∙ ap (λ a. a ++ v) e ∙ append_assoc x y v, et ∙ ap (λ a. a ++ w) e ∙ append_assoc x y w)
 
-  module _ (m : ℕ) (e : difference 1 s (print_in s) ≡ suc m) where
-    differs : Differs 1 s (print_in s) (suc m)
-    differs = first_difference 1 s (print_in s) m e
-
-    most : (j : ℕ) → Begins j s → j ≤ m
-    most j b =
-        let (k, line, c, last) = differs in
+  module _ (m : ℕ) (e : difference 1 s (print_in s) ≡ Some m) where
+    most : (k : ℕ) → (Common (suc k) s (print_in s) → ⊥) → (j : ℕ) → Begins j s → j ≤ k
+    most k last j b =
         elim (dec_le j k) [
-          | yes l ↦ omega arith
+          | yes l ↦ l
           | no l ↦ absurd (last (common_fewer (suc k) j (omega arith) (begins_common j b)))
         ]
 
-    begins_here : Begins m s
-    begins_here =
-        let (k, line, c, last) = differs in
-        let same : k ≡ m = omega arith in
-        subst (λ j. Begins j s) same (common_begins k c)
+    -- the lines before it begin the text of some table, and no more do
+    line_found : (good : ℕ) × (suc good ≡ m) × Begins good s × ((j : ℕ) → Begins j s → j ≤ good)
+    line_found =
+        let (k, line, c, last) = first_difference 1 s (print_in s) m e in
+        (k, omega arith, common_begins k c, most k last)
 
-    line_fault : FaultAt s (suc m)
-    line_fault = bad_line (λ (t, shape, worst, is). let z : 0 ≡ suc m = sym (text_same s t shape worst is) ∙ e in omega arith) m begins_here most
+    line_fault : FaultAt s m
+    line_fault =
+        let (good, is, begins, greatest) = line_found in
+        subst (FaultAt s) is
+        (bad_line (λ (t, shape, worst, is). let z : None ≡ Some m = sym (text_same s t shape worst is) ∙ e in cc) good begins greatest)
 
   -- ---- the first fault
 
   -- what is due by its line: the table where there is none
-  abbrev Due : ℕ → Type 0
-  Due zero = TableOf s (shape_in s) worst' cells'
-  Due (suc m) = FaultAt s (suc m)
+  abbrev Due : Option ℕ → Type 0
+  Due None = TableOf s (shape_in s) worst' cells'
+  Due (Some place) = FaultAt s place
 
-  due_fault : (place : ℕ) → 0 < place → FaultAt s place → Due place
-  due_fault zero h f = absurd (omega arith)
-  due_fault (suc m) h f = f
-
-  ranks_due : difference 1 s (print_in s) ≡ 0 → (n : ℕ) → Ranks cells' (shape_in s) worst' n → Due n
+  ranks_due : difference 1 s (print_in s) ≡ None → (n : Option ℕ) → Ranks cells' (shape_in s) worst' n → Due n
   ranks_due z n (all_right e f) =
       said_table s (shape_in s) worst' cells' (all_said z) (record { shaped = candidate_shaped s; first = e; ranked = f })
   ranks_due z n (worst_wrong m) = bad_worst cells' (shape_in s) worst' (text_said z) m
   ranks_due z n (row_wrong e i h m before) =
-      due_fault (2 + i) (omega arith) (bad_rank cells' (shape_in s) worst' (text_said z) e i h m before)
+      bad_rank cells' (shape_in s) worst' (text_said z) e i h m before
 
-  fault_due : (d : ℕ) → fault_in s ≡ d → Due d
+  fault_due : (d : Option ℕ) → fault_in s ≡ d → Due d
   fault_due d q = subst Due q (go (difference 1 s (print_in s)) refl)
     where
-      go : (k : ℕ) → difference 1 s (print_in s) ≡ k → Due (fault_in s)
-      go zero e = subst Due (sym (fault_rank s e)) (ranks_due e _ (ranks_found cells' (shape_in s) worst'))
-      go (suc m) e = subst Due (sym (fault_line s m e)) (line_fault m e)
+      go : (k : Option ℕ) → difference 1 s (print_in s) ≡ k → Due (fault_in s)
+      go None e = subst Due (sym (fault_rank s e)) (ranks_due e _ (ranks_found cells' (shape_in s) worst'))
+      go (Some m) e = subst Due (sym (fault_line s m e)) (line_fault m e)
 
-  no_fault : IsPrint s → fault_in s ≡ 0
-  no_fault (t, shape, worst, p, e) = fault_of s t shape worst (record { shaped = p.shaped; text = e }) 0 (all_right p.first p.ranked)
+  no_fault : IsPrint s → fault_in s ≡ None
+  no_fault (t, shape, worst, p, e) = fault_of s t shape worst (record { shaped = p.shaped; text = e }) None (all_right p.first p.ranked)
 
-  table_good : (shape : Shape) (worst : ℕ) (cells : List ℕ) → TableOf s shape worst cells → fault_in s ≡ 0
+  table_good : (shape : Shape) (worst : ℕ) (cells : List ℕ) → TableOf s shape worst cells → fault_in s ≡ None
   table_good shape worst cells is = no_fault (cells, shape, worst, is.printable, is.prints)
 
-  fault_some : (place : ℕ) → FaultAt s place → 0 < place
-  fault_some place (bad_line untold good begins greatest) = omega arith
-  fault_some place (bad_worst t shape worst is m) = omega arith
-  fault_some place (bad_rank t shape worst is e i h m before) = omega arith
-
-  fault_is : (place : ℕ) → FaultAt s place → fault_in s ≡ place
+  fault_is : (place : ℕ) → FaultAt s place → fault_in s ≡ Some place
   fault_is place (bad_line untold good begins greatest) = go (difference 1 s (print_in s)) refl
     where
-      go : (k : ℕ) → difference 1 s (print_in s) ≡ k → fault_in s ≡ suc good
-      go zero e = absurd (untold (cells', shape_in s, worst', text_said e))
-      go (suc m) e =
-          let same : m ≡ good = omega (arith, most m e good begins, greatest m (begins_here m e)) in
-          fault_line s m e ∙ ap suc same
-  fault_is place (bad_worst t shape worst is m) = fault_of s t shape worst is 1 (worst_wrong m)
-  fault_is place (bad_rank t shape worst is e i h m before) = fault_of s t shape worst is (2 + i) (row_wrong e i h m before)
+      go : (k : Option ℕ) → difference 1 s (print_in s) ≡ k → fault_in s ≡ Some (suc good)
+      go None e = absurd (untold (cells', shape_in s, worst', text_said e))
+      go (Some m) e =
+          let (k, line, here, most) = line_found m e in
+          let same : m ≡ suc good = omega (arith, line, most good begins, greatest k here) in
+          fault_line s m e ∙ ap Some same
+  fault_is place (bad_worst t shape worst is m) = fault_of s t shape worst is (Some 1) (worst_wrong m)
+  fault_is place (bad_rank t shape worst is e i h m before) = fault_of s t shape worst is (Some (2 + i)) (row_wrong e i h m before)
 
   -- ---- the answer
 
   module _ (room : ℕ) where
-    at_due : table_size ≤ room → (d : ℕ) → fault_in s ≡ d → LoadedAs room s (told_loaded (answer s d)) (to_write s d)
-    at_due h zero e = table h (shape_in s) worst' cells' (fault_due zero e)
-    at_due h (suc m) e = bad_text h (suc m) (fault_due (suc m) e)
+    at_due : table_size ≤ room → (d : Option ℕ) → fault_in s ≡ d → LoadedAs room s (told_loaded (answer s d)) (to_write s d)
+    at_due h None e = table h (shape_in s) worst' cells' (fault_due None e)
+    at_due h (Some m) e = bad_text h m (fault_due (Some m) e)
 
     pub load_due : LoadedAs room s (told_loaded (loaded_by room s)) (cells_by room s)
     unfolding loaded_by cells_by
@@ -181,15 +177,11 @@ module _ (s : List ℕ) where
     answered : (a : Told) (cells : List ℕ) → LoadedAs room s a cells → (told_loaded (loaded_by room s) ≡ a) × (cells_by room s ≡ cells)
     unfolding loaded_by cells_by
     answered a cells (short_memory h) = rw (lt-ltb room table_size h) (refl, refl)
-    answered a cells (bad_text h place f) = rw (le-ltb room table_size h, fault_is place f) (go place (fault_some place f))
-      where
-        go : (d : ℕ) → 0 < d → (told_loaded (answer s d) ≡ refused 17 d) × (to_write s d ≡ [])
-        go zero l = absurd (omega arith)
-        go (suc m) l = (refl, refl)
+    answered a cells (bad_text h place f) = rw (le-ltb room table_size h, fault_is place f) (refl, refl)
     answered a c (table h shape worst cells is) =
         let said = table_said s shape worst cells is in
         rw (le-ltb room table_size h, table_good shape worst cells is) (
-          ap₂ (λ (x : Shape) r. told_loaded (Table x r)) (shape_is s shape worst cells said) (worst_is s shape worst cells said),
+          ap₂ (λ (x : Shape) r. told_loaded (Ok (table_with x r))) (shape_is s shape worst cells said) (worst_is s shape worst cells said),
           cells_are s shape worst cells said,
         )
 
@@ -201,27 +193,28 @@ module _ (s : List ℕ) where
 
     -- in enough room: a table is loaded just where the text is its print
     module _ (h : table_size ≤ room) (shape : Shape) (worst : ℕ) (cells : List ℕ) where
-      loads : TableOf s shape worst cells → (loaded_by room s ≡ Table shape worst) × (cells_by room s ≡ cells)
+      loads : TableOf s shape worst cells → (loaded_by room s ≡ Ok (table_with shape worst)) × (cells_by room s ≡ cells)
       unfolding loaded_by cells_by
       loads is =
           let said = table_said s shape worst cells is in
           rw (le-ltb room table_size h, table_good shape worst cells is)
-          (ap₂ Table (shape_is s shape worst cells said) (worst_is s shape worst cells said), cells_are s shape worst cells said)
+          (ap₂ (λ x r. Ok (table_with x r)) (shape_is s shape worst cells said) (worst_is s shape worst cells said), cells_are s shape worst cells said)
 
-      is_loaded : (loaded_by room s ≡ Table shape worst) × (cells_by room s ≡ cells) → TableOf s shape worst cells
+      is_loaded : (loaded_by room s ≡ Ok (table_with shape worst)) × (cells_by room s ≡ cells) → TableOf s shape worst cells
       unfolding loaded_by cells_by
       is_loaded e = go (fault_in s) refl (rw (le-ltb room table_size h) at e)
         where
-          go : (d : ℕ) → fault_in s ≡ d → (answer s (fault_in s) ≡ Table shape worst) × (to_write s (fault_in s) ≡ cells) → TableOf s shape worst cells
-          go zero z q =
-              let (a, c) : (Table (shape_in s) worst' ≡ Table shape worst) × (cells' ≡ cells) = rw z at q in
-              let x : shape_in s ≡ shape = cc in
-              let y : worst' ≡ worst = cc in
+          go : (d : Option ℕ) → fault_in s ≡ d → (answer s (fault_in s) ≡ Ok (table_with shape worst)) × (to_write s (fault_in s) ≡ cells) → TableOf s shape worst cells
+          go None z q =
+              let (a, c) : (Ok (table_with (shape_in s) worst') ≡ Ok (table_with shape worst)) × (cells' ≡ cells) = rw z at q in
+              let t = same_table (table_with (shape_in s) worst') (table_with shape worst) a in
+              let x : shape_in s ≡ shape = ap (λ (t : Table). t.shape) t in
+              let y : worst' ≡ worst = ap (λ (t : Table). t.worst_case) t in
               subst (λ w. TableOf s shape w cells) y
-              (subst (λ b. TableOf s shape worst' b) c (subst (λ b. TableOf s b worst' cells') x (fault_due zero z)))
-          go (suc m) z q = let (a, c) : (Refused (BadText (suc m)) ≡ Table shape worst) × ([] ≡ cells) = rw z at q in told_apart (ap told_loaded a)
+              (subst (λ b. TableOf s shape worst' b) c (subst (λ b. TableOf s b worst' cells') x (fault_due None z)))
+          go (Some m) z q = let (a, c) : (Err (BadText m) ≡ Ok (table_with shape worst)) × ([] ≡ cells) = rw z at q in told_apart (ap told_loaded a)
 
-      pub loaded_iff : ((loaded_by room s ≡ Table shape worst) × (cells_by room s ≡ cells)) ↔ TableOf s shape worst cells
+      pub loaded_iff : ((loaded_by room s ≡ Ok (table_with shape worst)) × (cells_by room s ≡ cells)) ↔ TableOf s shape worst cells
       loaded_iff = (is_loaded, loads)
 
     -- a text is accepted just where it is a print, and is 17 at just the line that is at fault
@@ -230,7 +223,7 @@ module _ (s : List ℕ) where
       unfolding loaded_by
       told_at = rw (le-ltb room table_size h) refl
 
-      pub accepted_iff : ((shape : Shape) × (worst : ℕ) × (loaded_by room s ≡ Table shape worst)) ↔ IsPrint s
+      pub accepted_iff : ((shape : Shape) × (worst : ℕ) × (loaded_by room s ≡ Ok (table_with shape worst))) ↔ IsPrint s
       unfolding loaded_by
       accepted_iff = (
         λ (shape, worst, e). let is = (loaded_iff h shape worst (cells_by room s)).0 (e, refl) in (cells_by room s, shape, worst, is.printable, is.prints),
@@ -243,9 +236,9 @@ module _ (s : List ℕ) where
           to : told_loaded (loaded_by room s) ≡ refused 17 place → FaultAt s place
           to e = go (fault_in s) refl (sym told_at ∙ e)
             where
-              go : (d : ℕ) → fault_in s ≡ d → told_loaded (answer s (fault_in s)) ≡ refused 17 place → FaultAt s place
-              go zero z q = told_apart (sym (rw z at q))
-              go (suc m) z q = subst (FaultAt s) (told_place (rw z at q)) (fault_due (suc m) z)
+              go : (d : Option ℕ) → fault_in s ≡ d → told_loaded (answer s (fault_in s)) ≡ refused 17 place → FaultAt s place
+              go None z q = told_apart (sym (rw z at q))
+              go (Some m) z q = subst (FaultAt s) (told_place (rw z at q)) (fault_due (Some m) z)
 
 -- there is only one table
 pub one_table : (s : List ℕ) (a b : Shape) (v w : ℕ) (c d : List ℕ) → TableOf s a v c → TableOf s b w d → (a ≡ b) × (v ≡ w) × (c ≡ d)
@@ -278,11 +271,11 @@ module _ (s t : List ℕ) where
   room = length t
 
   -- what stands at the front of the table
-  used_at : (d : ℕ) → used_rows (answer s d) (written (to_write s d) t) ≡ to_write s d
-  used_at zero =
+  used_at : (d : Option ℕ) → used_rows (answer s d) (written (to_write s d) t) ≡ to_write s d
+  used_at None =
       let cells = cells_in (shape_in s) s in
       take_at cells (drop (length cells) t) ((shape_in s).rows * row_size (shape_in s).order) (cells_length (shape_in s) s)
-  used_at (suc m) = refl
+  used_at (Some m) = refl
 
   load_used : used_rows (loaded_by room s) (table_after s t) ≡ cells_by room s
   unfolding loaded_by cells_by
@@ -292,7 +285,7 @@ module _ (s t : List ℕ) where
         | inr e ↦ rw e (used_at (fault_in s))
       ]
 
-  pub load_told : (r : Loaded) (after : List ℕ) → (r ≡ loaded_by room s) × (after ≡ table_after s t)
+  pub load_told : (r : Result Table Refusal) (after : List ℕ) → (r ≡ loaded_by room s) × (after ≡ table_after s t)
       → LoadedAs room s (told_loaded r) (used_rows r after)
   load_told r after e = rw (e.0, e.1, load_used) (load_due s room)
 

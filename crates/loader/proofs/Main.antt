@@ -1,9 +1,11 @@
 -- The theorems of this crate: loading is the inverse of printing. Assumes nothing.
+use Rattle.std.specs.Prelude.{Ok}
 use Prim.Native.Nat.{ℕ, suc, ◌*◌, ◌≤◌, ◌<◌}
 use mathlib.Core.Path.{◌≡◌}
 use mathlib.Core.Logic.{◌↔◌}
 use mathlib.Core.List.{List, [], ◌∷◌}
 use lib.ListN.{length, take, drop}
+use Rattle.tables.specs.Outcome.{table_with}
 use Rattle.basics.specs.Order.{order_number}
 use Rattle.basics.specs.declared.order.Order.{Order}
 use Rattle.lines.specs.Refusal.{Told, values, refused}
@@ -12,7 +14,6 @@ use Rattle.printer.specs.Limits.{text_size}
 use Rattle.printer.specs.Text.{table_text}
 use Rattle.wellformed.specs.WellFormed.{Printable}
 use Rattle.tables.specs.declared.shape.Shape.{Shape}
-use Rattle.loader.specs.declared.loading.Loaded.TheVariants.{Table}
 use Rattle.loader.specs.LoadedAs.{loaded_by, cells_by, table_after, told_loaded, IsPrint, TableOf, told_shape, FaultAt, LoadedAs}
 use Rattle.loader.proofs.LoadedIffDue
 use Rattle.loader.proofs.LongerText
@@ -26,12 +27,12 @@ loading = LoadedIffDue.load_iff
 
 module _ (s : List ℕ) (room : ℕ) (enough : table_size ≤ room) where
   -- a text is accepted exactly where it is the print of some table that the printer does not refuse
-  pub accepted : ((shape : Shape) × (worst : ℕ) × (loaded_by room s ≡ Table shape worst)) ↔ IsPrint s
+  pub accepted : ((shape : Shape) × (worst : ℕ) × (loaded_by room s ≡ Ok (table_with shape worst))) ↔ IsPrint s
   accepted = LoadedIffDue.accepted_iff s room enough
 
   -- and what it is loaded as is the table that it is the print of
   pub loaded : (shape : Shape) (worst : ℕ) (cells : List ℕ)
-      → ((loaded_by room s ≡ Table shape worst) × (cells_by room s ≡ cells)) ↔ TableOf s shape worst cells
+      → ((loaded_by room s ≡ Ok (table_with shape worst)) × (cells_by room s ≡ cells)) ↔ TableOf s shape worst cells
   loaded = LoadedIffDue.loaded_iff s room enough
 
   -- 17 is at the line at fault: the first that no table's text has, else the first whose ranks are not as they must be

@@ -1,6 +1,9 @@
 -- What the loading call answers, what it leaves in the lent table, and what is due: it is the inverse of printing (REFERENCE.md, Loading).
 -- Assumes nothing.
-use Rattle.std.specs.Prelude.{ℕ, zero, suc, ◌+◌, ◌*◌, ◌≤◌, ◌<◌, ◌≡◌, Bool, cond, not, List, [], ◌∷◌, ◌++◌, eqb, ltb, length, take}
+use Rattle.tables.specs.Outcome.{table_with}
+use Rattle.tables.specs.declared.shape.Table.{Table}
+use Rattle.lines.specs.declared.refusal.Refusal.{Refusal}
+use Rattle.std.specs.Prelude.{ℕ, zero, suc, ◌+◌, ◌*◌, ◌≤◌, ◌<◌, ◌≡◌, Bool, cond, not, List, [], ◌∷◌, ◌++◌, eqb, ltb, length, take, Err, Result, Ok, Option, Some, None}
 use Rattle.basics.specs.Bounded.{all, first_that}
 use Rattle.basics.specs.Bytes.{not_line_end}
 use Rattle.basics.specs.Lists.{written}
@@ -12,8 +15,6 @@ use Rattle.play.specs.Cells.{row_size, stop_cell, table_size, first_cell, is_sto
 use Rattle.printer.specs.Text.{table_text}
 use Rattle.wellformed.specs.WellFormed.{RankedRow, Shaped, Printable, Leads, is_ranked}
 use Rattle.tables.specs.declared.shape.Shape.{Shape}
-use Rattle.loader.specs.declared.loading.Loaded.{Loaded}
-use Rattle.loader.specs.declared.loading.Loaded.TheVariants.{Table, Refused}
 use Rattle.loader.specs.Candidate.{shape_in, worst_in, cells_in, print_in}
 use Rattle.loader.specs.Difference.{difference}
 
@@ -27,36 +28,37 @@ Leading t shape = (i : ℕ) → i < shape.rows → Leads t shape i
 unfoldable pub misranked : List ℕ → Shape → ℕ → Bool
 misranked t shape i = not (is_ranked t shape i)
 
--- the line of the first such row; 0 where there is none
-unfoldable pub row_fault : List ℕ → Shape → ℕ
-row_fault t shape = let i = first_that (misranked t shape) shape.rows in cond (ltb i shape.rows) (2 + i) 0
+-- the line of the first such row; none where all are as they must be
+unfoldable pub row_fault : List ℕ → Shape → Option ℕ
+row_fault t shape = let i = first_that (misranked t shape) shape.rows in cond (ltb i shape.rows) (Some (2 + i)) None
 
 -- the worst case, which line 1 tells, is tested before the rows
-unfoldable pub rank_fault : List ℕ → Shape → ℕ → ℕ
-rank_fault t shape worst = cond (eqb (rank_cell shape.order t 0) worst) (row_fault t shape) 1
+unfoldable pub rank_fault : List ℕ → Shape → ℕ → Option ℕ
+rank_fault t shape worst = cond (eqb (rank_cell shape.order t 0) worst) (row_fault t shape) (Some 1)
 
 -- a line that differs goes before all ranks
-abbrev pub first_fault : (place : ℕ) → List ℕ → Shape → ℕ → ℕ
-first_fault place t shape worst = cond (eqb place 0) (rank_fault t shape worst) place
+abbrev pub first_fault : Option ℕ → List ℕ → Shape → ℕ → Option ℕ
+first_fault (Some place) t shape worst = Some place
+first_fault None t shape worst = rank_fault t shape worst
 
--- the line of the first fault; 0 where there is none
-unfoldable pub fault_in : List ℕ → ℕ
+-- the line of the first fault; none where the text is that of a table whose ranks are as they must be
+unfoldable pub fault_in : List ℕ → Option ℕ
 fault_in s = let shape = shape_in s in first_fault (difference 1 s (print_in s)) (cells_in shape s) shape (worst_in shape.rows s)
 
 -- the answer and the cells to write, by that line
-abbrev pub loaded_at : ℕ → Shape → ℕ → Loaded
-loaded_at zero shape worst = Table shape worst
-loaded_at (suc k) shape worst = Refused (BadText (suc k))
+abbrev pub loaded_at : Option ℕ → Shape → ℕ → Result Table Refusal
+loaded_at None shape worst = Ok (table_with shape worst)
+loaded_at (Some place) shape worst = Err (BadText place)
 
-abbrev pub cells_at : ℕ → List ℕ → List ℕ
-cells_at zero cells = cells
-cells_at (suc k) cells = []
+abbrev pub cells_at : Option ℕ → List ℕ → List ℕ
+cells_at None cells = cells
+cells_at (Some place) cells = []
 
 -- 12 is tested before 17
-unfoldable pub loaded_by : ℕ → List ℕ → Loaded
+unfoldable pub loaded_by : ℕ → List ℕ → Result Table Refusal
 loaded_by room s =
     let shape = shape_in s in
-    cond (ltb room table_size) (Refused ShortMemory) (loaded_at (fault_in s) shape (worst_in shape.rows s))
+    cond (ltb room table_size) (Err ShortMemory) (loaded_at (fault_in s) shape (worst_in shape.rows s))
 
 -- what is written, at the front of the table; a refusal writes nothing
 unfoldable pub cells_by : ℕ → List ℕ → List ℕ
@@ -67,14 +69,14 @@ table_after s table = written (cells_by (length table) s) table
 
 -- in the reference's terms: the row count, the number of observed signals, the order's number and the worst case; or a refusal's number and
 -- place
-abbrev pub told_loaded : Loaded → Told
-told_loaded (Table shape r) = values (shape.rows ∷ shape.observed ∷ order_number shape.order ∷ r ∷ [])
-told_loaded (Refused x) = told_refusal x
+abbrev pub told_loaded : Result Table Refusal → Told
+told_loaded (Ok t) = values (t.shape.rows ∷ t.shape.observed ∷ order_number t.shape.order ∷ t.worst_case ∷ [])
+told_loaded (Err x) = told_refusal x
 
 -- the used rows of a table, by the answer
-abbrev pub used_rows : Loaded → List ℕ → List ℕ
-used_rows (Table shape r) table = take (shape.rows * row_size shape.order) table
-used_rows (Refused x) table = []
+abbrev pub used_rows : Result Table Refusal → List ℕ → List ℕ
+used_rows (Ok t) table = take (t.shape.rows * row_size t.shape.order) table
+used_rows (Err x) table = []
 
 -- ---- what is due
 

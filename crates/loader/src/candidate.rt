@@ -1,6 +1,6 @@
 // The table that a text is compared with: what stands where a table's text has its numbers, brought within the limits. It is the text's own
 // table if the text has one, and one that can be written as text in any case.
-ghost use Rattle.std.specs.Prelude.{◌≡◌, suc, ◌+◌, ◌*◌, ◌≤◌, ◌<◌, length, get_or, drop};
+ghost use Rattle.std.specs.Prelude.{◌≡◌, suc, ◌+◌, ◌*◌, ◌^◌, ◌≤◌, ◌<◌, length, get_or, drop};
 ghost use Rattle.std.proofs.lemmas.List.Edits.{sets};
 ghost use Rattle.basics.specs.Bytes.{not_line_end};
 ghost use Rattle.basics.specs.Limits.{kind_limit};
@@ -8,7 +8,7 @@ ghost use Rattle.basics.specs.Lists.{written};
 ghost use Rattle.basics.specs.Numbers.{number_below};
 ghost use Rattle.basics.specs.Pieces.{behind_all, field_at};
 ghost use Rattle.basics.specs.Bounded.{first_that};
-ghost use Rattle.play.specs.Limits.{belief_limit, side_limit};
+ghost use Rattle.play.specs.Limits.{belief_limit};
 ghost use Rattle.play.specs.Cells.{row_size, cell_limit};
 ghost use Rattle.loader.specs.Candidate.{says_stop, limit_at, move_in, row_in, observed_in, order_in, rows_in, worst_in, shape_in, cells_in, goes_on};
 
@@ -27,6 +27,7 @@ const FIRST: usize = 3;
 const CELL_LIMIT: usize = 65536;
 
 // Whether it stops.
+#[tactic(auto, unfolding(crate::specs::Candidate::says_stop))]
 fn says_stop(line: &[u8]) -> bool
     ensures { result ≡ says_stop line.now }
 {
@@ -51,70 +52,86 @@ fn limit_at(order: Order, rows: usize, i: usize) -> usize
     }
 }
 
-// Cell i of a row that goes on, for n observations; a cell that is not printed is 0.
-fn move_in(line: &[u8], order: Order, n: usize, rows: usize, i: usize) -> u16
-    requires n_le_side_limit { n ≤ side_limit }
-    requires rows_le_belief_limit { rows ≤ belief_limit }
-    requires i_bound { i < row_size order }
-    ensures { result ≡ move_in order n rows line.now i }
-{
-    let from = shown_from(order);
-    let count = shown_count(order, n);
-    if (i < from) | (i >= from + count) {
-        return 0;
-    }
-    let limit = limit_at(order, rows, i);
-    number_at(line, FIRST + (i - from), limit)
+// The shape that a text tells, which is within the limits.
+#[derive(Clone, Copy)]
+pub(crate) struct ToldShape {
+    pub(crate) shape: Shape,
+    pub(crate) ghost few: { shape.rows ≤ belief_limit },
+    pub(crate) ghost seen: { shape.observed ≤ kind_limit },
 }
 
-// Its cell i, the rank among them.
-fn cell_in(line: &[u8], shape: Shape, i: usize) -> u16
-    requires observed_le_kind_limit { shape.observed ≤ kind_limit }
-    requires rows_le_belief_limit { shape.rows ≤ belief_limit }
-    requires i_bound { i < row_size shape.order }
-    ensures { result ≡ get_or (row_in shape line.now) i 0 }
-{
-    let order = shape.order;
-    if i == rank_at(order) {
-        return number_at(line, RANK, CELL_LIMIT);
-    }
-    if says_stop(line) {
-        if i == 0 {
-            return STOP;
+impl ToldShape {
+    // Cell i of a row that goes on; a cell that is not printed is 0.
+    #[tactic(auto, using(crate::proofs::CandidateLaws::tried_small), unfolding(crate::specs::Candidate::move_in))]
+    fn move_in(&self, line: &[u8], i: usize) -> u16
+        requires { i < row_size self.now.shape.order }
+        ensures { result ≡ move_in self.now.shape.order (2 ^ self.now.shape.observed) self.now.shape.rows line.now i }
+    {
+        let order = self.shape.order;
+        let from = shown_from(order);
+        let count = shown_count(order, 1 << self.shape.observed);
+        if (i < from) | (i >= from + count) {
+            return 0;
         }
-        return 0;
+        number_at(
+            line,
+            FIRST + (i - from),
+            limit_at(order, self.shape.rows, i),
+        )
     }
-    move_in(line, order, 1 << shape.observed, shape.rows, i)
-}
 
-// Writes its cells.
-fn put_row(line: &[u8], shape: Shape, row: usize, cells: &mut [u16])
-    requires observed_le_kind_limit { shape.observed ≤ kind_limit }
-    requires rows_le_belief_limit { shape.rows ≤ belief_limit }
-    requires order_in_bounds { row * row_size shape.order + row_size shape.order ≤ length cells.old }
-    ensures { cells.new ≡ sets cells.old (row * row_size shape.order) (row_in shape line.now) }
-{
-    let order = shape.order;
-    let size = row_size(order);
-    let at = row * size;
-    let mut i = 0;
-    while i < size {
-        cells[at + i] = cell_in(line, shape, i);
-        i += 1;
+    // Its cell i, the rank among them.
+    fn cell_in(&self, line: &[u8], i: usize) -> u16
+        requires { i < row_size self.now.shape.order }
+        ensures { result ≡ get_or (row_in self.now.shape line.now) i 0 }
+    {
+        if i == rank_at(self.shape.order) {
+            return number_at(line, RANK, CELL_LIMIT);
+        }
+        if says_stop(line) {
+            if i == 0 {
+                return STOP;
+            }
+            return 0;
+        }
+        self.move_in(line, i)
+    }
+
+    // Writes its cells.
+    fn put_row(&self, line: &[u8], row: usize, cells: &mut [u16])
+        requires { row * row_size self.now.shape.order + row_size self.now.shape.order ≤ length cells.old }
+        ensures { cells.new ≡ sets cells.old (row * row_size self.now.shape.order) (row_in self.now.shape line.now) }
+    {
+        let size = row_size(self.shape.order);
+        let at = row * size;
+        for i in 0..size {
+            cells[at + i] = self.cell_in(line, i);
+        }
+    }
+
+    // Writes the cells of all rows.
+    pub(crate) fn put_rows(&self, text: &[u8], cells: &mut [u16])
+        requires { self.now.shape.rows * row_size self.now.shape.order ≤ length cells.old }
+        ensures { cells.new ≡ written (cells_in self.now.shape text.now) cells.old }
+    {
+        let mut at = behind(text, 0, Class::Line);
+        for row in 0..self.shape.rows {
+            self.put_row(piece(text, at, Class::Line), row, cells);
+            at = behind(text, at, Class::Line);
+        }
     }
 }
 
 // The number of observed signals, by how many fields there are.
+#[tactic(auto, using(crate::proofs::CandidateLaws::tried_small))]
 fn observed_in(line: &[u8], order: Order) -> usize
     ensures { result ≡ observed_in order kind_limit line.now }
 {
-    let mut k = KIND_LIMIT;
-    while k > 0 {
+    for k in (1..=KIND_LIMIT).rev() {
         let last = 2 + shown_count(order, 1 << k);
         if field(line, last).len() > 0 {
             return k;
         }
-        k -= 1;
     }
     0
 }
@@ -122,6 +139,7 @@ fn observed_in(line: &[u8], order: Order) -> usize
 // ---- the table
 
 // The order, from the first line.
+#[tactic(auto, unfolding(crate::specs::Candidate::order_in))]
 fn order_in(line: &[u8]) -> Order
     ensures { result ≡ order_in line.now }
 {
@@ -132,6 +150,7 @@ fn order_in(line: &[u8]) -> Order
 }
 
 // The row count, from the first line.
+#[tactic(auto, unfolding(crate::specs::Candidate::rows_in))]
 fn rows_in(line: &[u8]) -> usize
     ensures { result ≡ rows_in line.now }
 {
@@ -148,53 +167,38 @@ fn first_move(text: &[u8], rows: usize) -> usize
     ensures text_value { drop result text.now ≡ behind_all not_line_end (suc (first_that (goes_on text.now) rows)) text.now }
 {
     let mut at = behind(text, 0, Class::Line);
-    let mut row = 0;
-    while row < rows {
+    for row in 0..rows {
         if !says_stop(piece(text, at, Class::Line)) {
             return at;
         }
         at = behind(text, at, Class::Line);
-        row += 1;
     }
     at
 }
 
 // The row count and the order, and the number of observed signals by the first row that goes on.
-pub(crate) fn shape_in(text: &[u8]) -> Shape
-    ensures { result ≡ shape_in text.now }
+#[tactic(auto, using(crate::proofs::CandidatePrint::observed_le, crate::proofs::CandidatePrint::rows_few), unfolding(crate::specs::Candidate::shape_in))]
+pub(crate) fn shape_in(text: &[u8]) -> ToldShape
+    ensures { result.shape ≡ shape_in text.now }
 {
     let head = piece(text, 0, Class::Line);
     let rows = rows_in(head);
     let order = order_in(head);
     let at = first_move(text, rows);
     let observed = observed_in(piece(text, at, Class::Line), order);
-    Shape {
-        rows,
-        observed,
-        order,
+    ToldShape {
+        shape: Shape {
+            rows,
+            observed,
+            order,
+        },
     }
 }
 
 // The worst case, from the first line.
+#[tactic(auto, unfolding(crate::specs::Candidate::worst_in))]
 pub(crate) fn worst_in(text: &[u8], rows: usize) -> usize
     ensures { result ≡ worst_in rows text.now }
 {
     number_below(field(piece(text, 0, Class::Line), 2), rows)
-}
-
-// Writes the cells of all rows.
-pub(crate) fn put_rows(text: &[u8], shape: Shape, cells: &mut [u16])
-    requires observed_le_kind_limit { shape.observed ≤ kind_limit }
-    requires rows_le_belief_limit { shape.rows ≤ belief_limit }
-    requires order_in_bounds { shape.rows * row_size shape.order ≤ length cells.old }
-    ensures { cells.new ≡ written (cells_in shape text.now) cells.old }
-{
-    let rows = shape.rows;
-    let mut at = behind(text, 0, Class::Line);
-    let mut row = 0;
-    while row < rows {
-        put_row(piece(text, at, Class::Line), shape, row, cells);
-        at = behind(text, at, Class::Line);
-        row += 1;
-    }
 }

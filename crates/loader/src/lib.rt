@@ -8,4 +8,4 @@ mod comparing;
 mod faults;
 mod loading;
 
-pub use loading::{Loaded, load};
+pub use loading::load;

@@ -1,6 +1,7 @@
 -- What code keeps of a formula: its parts, a number for each, and for a block of letters the values of all parts.
 -- Assumes nothing.
 use Rattle.std.specs.Prelude.{ℕ, zero, suc, ◌+◌, ◌*◌, ◌≤◌, ◌<◌, List, length, get_or}
+use Rattle.std.proofs.Props.{props}
 use Rattle.std.proofs.lemmas.List.Edits.{sets}
 use Rattle.basics.specs.Bits.{bit}
 use Rattle.formula.specs.Codes.{parts_in}
@@ -21,6 +22,14 @@ pub record Stored (codes : List ℕ) : Type 0 where
   pub some : 0 < length codes
   pub few : length codes ≤ part_limit
   pub operators : operators_of (parts_in codes) ≤ operator_limit
+
+-- which is said in one way at most, so that a struct may keep it
+ready_prop : (ps : List Part) → IsProp (AllReady ps)
+unfolding AllReady
+ready_prop ps = Prim.hlevel props
+
+pub stored_prop : (codes : List ℕ) → IsProp (Stored codes)
+stored_prop codes = Prim.hlevel (props, ready_prop)
 
 -- for each part how many temporal operators stand before it
 unfoldable pub numbers_of : List Part → List ℕ

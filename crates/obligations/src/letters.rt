@@ -30,10 +30,8 @@ pub fn list_letters(outputs: usize, observed: usize, hidden: usize, letters: &mu
         letters.old }
 {
     let count = 1 << (outputs + observed + hidden);
-    let mut i = 0;
-    while i < count {
+    for i in 0..count {
         letters[i] = letter_of(outputs, observed, hidden, i);
-        i += 1;
     }
     count
 }

@@ -15,14 +15,12 @@ pub fn number_parts(parts: &[u32], numbers: &mut [u8], spots: &mut [u8])
     ensures numbers_after { numbers.new ≡ numbers_of (parts_in parts.now) ++ drop (length parts.now) numbers.old }
     ensures spots_after { spots.new ≡ spots_of (parts_in parts.now) ++ drop (operators_of (parts_in parts.now)) spots.old }
 {
-    let mut k: usize = 0;
-    let mut i: usize = 0;
-    while i < parts.len() {
+    let mut k = 0;
+    for i in 0..parts.len() {
         numbers[i] = k as u8;
         if is_temporal_at(parts, i) {
             spots[k] = i as u8;
             k += 1;
         }
-        i += 1;
     }
 }

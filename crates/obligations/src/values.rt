@@ -4,8 +4,8 @@ ghost use Rattle.formula.specs.Codes.{parts_in};
 ghost use Rattle.basics.specs.Limits.{index_limit};
 ghost use Rattle.obligations.specs.Values.{Stored, numbers_of, block_size, with_part, values_to};
 
-use crate::lanes::{all_lanes, combined_lanes, obligation_lanes};
-use formula::{Part, bit_of, part_at};
+use crate::lanes::obligation_lanes;
+use formula::{Part, Truth, bit_of, combined, part_at};
 
 // Letters that are evaluated together.
 pub const BLOCK: usize = 16;
@@ -17,22 +17,12 @@ fn put_part(part: Part, o: u64, letters: &[u16], i: usize, v: &mut [u64])
     requires v_len { length v.old ≡ index_limit * block_size }
     ensures { v.new ≡ with_part part o letters.now i v.old }
 {
-    let op = part.kind;
-    let left = part.left;
-    let right = part.right;
-    let l = (left as usize) * BLOCK;
-    let r = (right as usize) * BLOCK;
+    let left = part.left as usize * BLOCK;
+    let right = part.right as usize * BLOCK;
     let at = i * BLOCK;
-    let mut x = 0;
-    while x < BLOCK {
-        v[at + x] = combined_lanes(
-            op,
-            all_lanes(bit_of(letters[x], left)),
-            o,
-            v[l + x],
-            v[r + x],
-        );
-        x += 1;
+    for x in 0..BLOCK {
+        let s = u64::all(bit_of(letters[x], part.left));
+        v[at + x] = combined(part.kind, s, o, v[left + x], v[right + x]);
     }
 }
 
@@ -50,11 +40,6 @@ pub fn put_values(parts: &[u32], numbers: &[u8], letters: &[u16], w: usize, n: u
     }
     let i = n - 1;
     put_values(parts, numbers, letters, w, i, v);
-    put_part(
-        part_at(parts, i),
-        obligation_lanes(numbers[i], w),
-        letters,
-        i,
-        v,
-    );
+    let o = obligation_lanes(numbers[i], w);
+    put_part(part_at(parts, i), o, letters, i, v);
 }

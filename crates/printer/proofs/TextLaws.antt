@@ -1,13 +1,13 @@
 -- The text of a table: its parts in the order in which they are put, and how long it can be.
 -- Assumes nothing.
 use Prim.Native.Nat.{ℕ, zero, suc, ◌+◌, ◌*◌, ◌^◌, ◌≤◌, ◌<◌}
-use native.Mathlib.Nat.{suc-mul, add_assoc}
+use native.Mathlib.Nat.{suc-mul}
 use native.Mathlib.Omega.{arith}
 use mathlib.Core.Path.{◌≡◌, refl, sym, ap, ◌∙◌, subst}
 use mathlib.Core.Logic.{inl, inr}
 use mathlib.Core.Bool.{Bool, true, false, cond}
 use mathlib.Core.List.{List, [], ◌∷◌, ◌++◌, flat_map, append_assoc}
-use lib.ListN.{length, length-append, get_or}
+use lib.ListN.{length, length-append}
 use borrow.Author.Tests.{eqb-false}
 use Rattle.basics.specs.Bytes.{bytes_of}
 use Rattle.basics.specs.Limits.{kind_limit}
@@ -21,8 +21,7 @@ use Rattle.printer.specs.Limits.{text_size}
 use Rattle.wellformed.specs.WellFormed.{IsFirst, FormedRow, Shaped}
 use Rattle.basics.specs.Text.{decimal, field, line}
 use Rattle.printer.specs.Text.{shown_from, shown_count, shown_fields, row_fields, row_text, rows_text, table_word, table_text}
-use Rattle.basics.proofs.ListsLaws.{tabulate_ext}
-use Rattle.basics.proofs.Stores.{Put, put_same, Rest, Parts}
+use Rattle.basics.proofs.Stores.{Put, Rest, Parts}
 use Rattle.basics.proofs.TextLaws.{turn, flat_length, line_parts, field_length, two_length}
 use Rattle.wellformed.proofs.WellFormedLaws.{side_le, stops, moves}
 
@@ -33,53 +32,27 @@ module _ (t : List ℕ) (shape : Shape) (row x : ℕ) (first : x ≡ first_cell 
   unfolding flat_map
   stop_field e = rw (stops shape.order t row x first e) refl
 
-  -- the printed cells of n observations
-  pub move_fields : (x ≡ stop_cell → ⊥) → (n : ℕ) → n ≡ 2 ^ shape.observed
-      → flat_map field (row_fields t shape row) ≡ flat_map field (shown_fields shape.order t row n)
-  move_fields goes n e = rw (moves shape.order t row x first goes, e) refl
+  pub move_fields : (x ≡ stop_cell → ⊥)
+      → flat_map field (row_fields t shape row) ≡ flat_map field (shown_fields shape.order t row (2 ^ shape.observed))
+  move_fields goes = rw (moves shape.order t row x first goes) refl
 
 -- ---- the printed cells of a row
 
--- thing i of a run of cells
-abbrev pub run : List ℕ → ℕ → ℕ → List ℕ
-run t from i = decimal (get_or t (from + i) 0)
+-- printed cell i
+abbrev pub shown : Order → List ℕ → ℕ → ℕ → List ℕ
+shown o t row i = decimal (cell o t row (shown_from o + i))
 
 pub shown_inside : (o : Order) (n i : ℕ) → n ≤ side_limit → i < shown_count o n → shown_from o + i < row_size o
 shown_inside Set n i h l = omega arith
 shown_inside Read n i h l = omega arith
 
-from_inside : (o : Order) → shown_from o < row_size o
-from_inside Set = omega arith
-from_inside Read = omega arith
-
--- as the code finds them: so many from a place on
-module _ (o : Order) (t : List ℕ) (row size from : ℕ) (e : size ≡ row_size o) (f : from ≡ shown_from o) where
-  pub from_in : row * row_size o + row_size o ≤ length t → row * size + from < length t
-  from_in room = rw (e, f) (omega (arith, from_inside o))
-
-  module _ (n count : ℕ) (g : count ≡ shown_count o n) where
-    pub shown_in : n ≤ side_limit → row * row_size o + row_size o ≤ length t → (i : ℕ) → i < count → row * size + from + i < length t
-    shown_in h room i l = rw (e, f) (omega (arith, shown_inside o n i h (rw g at l)))
-
-    abbrev start : ℕ
-    start = row * size + from
-
-    shown_is : flat_map field (shown_fields o t row n) ≡ flat_map field (tabulate count (run t start))
-    shown_is =
-        rw (e, f, g)
-        (ap (flat_map field) (tabulate_ext (shown_count o n) _ _ (λ i l.
-        ap (λ (k : ℕ). decimal (get_or t k 0)) (sym (add_assoc (row * row_size o) (shown_from o) i)))))
-
-    -- a loop that puts them comes to cell i, and at last to the end
-    module _ (at : ℕ) (text : List ℕ) where
-      pub shown_turn : at + length (flat_map field (shown_fields o t row n)) ≤ length text → (i : ℕ) → i < count
-          → {last : ℕ} {y : List ℕ} → Put at (flat_map field (tabulate i (run t start))) text last y
-          → Rest at (flat_map field (tabulate (i + 1) (run t start))) text last (field (run t start i)) y
-      shown_turn room i l p = turn field (run t start) at count text (subst (λ b. at + length b ≤ length text) shown_is room) i l p
-
-      pub shown_put : (i : ℕ) → i ≡ count → {end : ℕ} {y : List ℕ} → Put at (flat_map field (tabulate i (run t start))) text end y
-          → Put at (flat_map field (shown_fields o t row n)) text end y
-      shown_put i q p = put_same at _ _ text (shown_is ∙ ap (λ k. flat_map field (tabulate k (run t start))) (sym q)) _ _ p
+-- a loop that puts them comes to cell i
+pub shown_turn : (o : Order) (t : List ℕ) (row n at : ℕ) (text : List ℕ) → at + length (flat_map field (shown_fields o t row n)) ≤ length text
+    → (count : ℕ) → count ≡ shown_count o n → (i : ℕ) → i < count → (from x : ℕ) → from ≡ shown_from o → x ≡ cell o t row (from + i)
+    → {last : ℕ} {y : List ℕ} → Put at (flat_map field (tabulate i (shown o t row))) text last y
+    → Rest at (flat_map field (tabulate (i + 1) (shown o t row))) text last (field (decimal x)) y
+shown_turn o t row n at text room count g i l from x f e p =
+    rw (e, f) (turn field (shown o t row) at (shown_count o n) text room i (rw (← g) l) p)
 
 -- ---- lines in the order of their parts
 
@@ -122,10 +95,6 @@ pairs_length (suc n) w f h =
       h 0 (omega arith),
       rest,
     ))
-
--- printed cell i
-abbrev shown : Order → List ℕ → ℕ → ℕ → List ℕ
-shown o t row i = decimal (cell o t row (shown_from o + i))
 
 -- a row that goes on: up to 2 digits for a choice, up to 3 for a next row, and a tab before each
 module _ (t : List ℕ) (row rows n : ℕ) (few : rows ≤ belief_limit) (seen : n ≤ side_limit) where

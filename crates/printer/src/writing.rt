@@ -1,5 +1,5 @@
 // The text of a table, and that of a refusal, put into lent bytes. Each function answers the place behind what it has put.
-ghost use Rattle.std.specs.Prelude.{◌≡◌, ◌+◌, ◌*◌, ◌≤◌, length};
+ghost use Rattle.std.specs.Prelude.{◌≡◌, ◌+◌, ◌*◌, ◌^◌, ◌≤◌, ◌<◌, length};
 ghost use mathlib.Core.List.{[], ◌∷◌, ◌++◌, flat_map};
 ghost use Rattle.std.proofs.lemmas.List.Edits.{sets};
 ghost use Rattle.basics.specs.Limits.{kind_limit};
@@ -12,7 +12,8 @@ ghost use Rattle.basics.specs.Text.{decimal, field, line};
 
 use basics::{LINE_END, Order, put_byte, put_bytes, put_field, put_line};
 use lines::{Refusal, number, place};
-use tables::{STOP, Shape, first_cell, rank_cell, row_size};
+use tables::{STOP, Shape};
+use wellformed::SizedTable;
 
 // Where the printed cells of a row begin.
 pub fn shown_from(order: Order) -> usize
@@ -35,38 +36,32 @@ pub fn shown_count(order: Order, n: usize) -> usize
     }
 }
 
-// A field for each of them.
-fn put_shown(text: &mut [u8], at: usize, table: &[u16], order: Order, row: usize, n: usize) -> usize
-    requires n_le_side_limit { n ≤ side_limit }
-    requires order_in_bounds { row * row_size order + row_size order ≤ length table.now }
-    requires n_in_bounds { at + length (flat_map field (shown_fields order table.now row n)) ≤ length text.old }
-    ensures value { result ≡ at + length (flat_map field (shown_fields order table.now row n)) }
-    ensures text_after { text.new ≡ sets text.old at (flat_map field (shown_fields order table.now row n)) }
+// A field for each of those of a row.
+fn put_shown(text: &mut [u8], at: usize, table: &SizedTable, row: usize) -> usize
+    requires row_lt_rows { row < table.now.shape.rows }
+    requires row_in_bounds { at + length (flat_map field (shown_fields table.now.shape.order table.now.cells.now row (2 ^ table.now.shape.observed))) ≤ length text.old }
+    ensures value { result ≡ at + length (flat_map field (shown_fields table.now.shape.order table.now.cells.now row (2 ^ table.now.shape.observed))) }
+    ensures text_after { text.new ≡ sets text.old at (flat_map field (shown_fields table.now.shape.order table.now.cells.now row (2 ^ table.now.shape.observed))) }
 {
-    let from = row * row_size(order) + shown_from(order);
-    let count = shown_count(order, n);
+    let from = shown_from(table.shape.order);
     let mut end = at;
-    let mut i = 0;
-    while i < count {
-        end = put_field(text, end, table[from + i] as usize);
-        i += 1;
+    for i in 0..shown_count(table.shape.order, table.observations()) {
+        end = put_field(text, end, table.cell(row, from + i) as usize);
     }
     end
 }
 
 // What a row does: `stop`, or its printed cells.
-fn put_moves(text: &mut [u8], at: usize, table: &[u16], shape: Shape, row: usize) -> usize
-    requires observed_le_kind_limit { shape.observed ≤ kind_limit }
-    requires order_in_bounds { row * row_size shape.order + row_size shape.order ≤ length table.now }
-    requires row_in_bounds { at + length (flat_map field (row_fields table.now shape row)) ≤ length text.old }
-    ensures value { result ≡ at + length (flat_map field (row_fields table.now shape row)) }
-    ensures text_after { text.new ≡ sets text.old at (flat_map field (row_fields table.now shape row)) }
+fn put_moves(text: &mut [u8], at: usize, table: &SizedTable, row: usize) -> usize
+    requires row_lt_rows { row < table.now.shape.rows }
+    requires row_in_bounds { at + length (flat_map field (row_fields table.now.cells.now table.now.shape row)) ≤ length text.old }
+    ensures value { result ≡ at + length (flat_map field (row_fields table.now.cells.now table.now.shape row)) }
+    ensures text_after { text.new ≡ sets text.old at (flat_map field (row_fields table.now.cells.now table.now.shape row)) }
 {
-    let order = shape.order;
-    if first_cell(table, order, row) == STOP {
+    if table.first(row) == STOP {
         return put_bytes(text, at, b"\tstop");
     }
-    put_shown(text, at, table, order, row, 1 << shape.observed)
+    put_shown(text, at, table, row)
 }
 
 // Two fields.
@@ -80,35 +75,28 @@ fn put_fields(text: &mut [u8], at: usize, a: usize, b: usize) -> usize
 }
 
 // A row's line.
-fn put_row(text: &mut [u8], at: usize, table: &[u16], shape: Shape, row: usize) -> usize
-    requires observed_le_kind_limit { shape.observed ≤ kind_limit }
-    requires order_in_bounds { row * row_size shape.order + row_size shape.order ≤ length table.now }
-    requires row_in_bounds { at + length (row_text table.now shape row) ≤ length text.old }
-    ensures value { result ≡ at + length (row_text table.now shape row) }
-    ensures text_after { text.new ≡ sets text.old at (row_text table.now shape row) }
+fn put_row(text: &mut [u8], at: usize, table: &SizedTable, row: usize) -> usize
+    requires row_lt_rows { row < table.now.shape.rows }
+    requires row_in_bounds { at + length (row_text table.now.cells.now table.now.shape row) ≤ length text.old }
+    ensures value { result ≡ at + length (row_text table.now.cells.now table.now.shape row) }
+    ensures text_after { text.new ≡ sets text.old at (row_text table.now.cells.now table.now.shape row) }
 {
-    let order = shape.order;
-    let rank = rank_cell(table, order, row) as usize;
+    let rank = table.rank(row) as usize;
     let word = put_bytes(text, at, b"row");
     let numbers = put_fields(text, word, row, rank);
-    let moves = put_moves(text, numbers, table, shape, row);
+    let moves = put_moves(text, numbers, table, row);
     put_byte(text, moves, LINE_END)
 }
 
 // The lines of all rows.
-fn put_rows(text: &mut [u8], at: usize, table: &[u16], shape: Shape) -> usize
-    requires observed_le_kind_limit { shape.observed ≤ kind_limit }
-    requires order_in_bounds { shape.rows * row_size shape.order ≤ length table.now }
-    requires rows_in_bounds { at + length (rows_text table.now shape shape.rows) ≤ length text.old }
-    ensures value { result ≡ at + length (rows_text table.now shape shape.rows) }
-    ensures text_after { text.new ≡ sets text.old at (rows_text table.now shape shape.rows) }
+fn put_rows(text: &mut [u8], at: usize, table: &SizedTable) -> usize
+    requires { at + length (rows_text table.now.cells.now table.now.shape table.now.shape.rows) ≤ length text.old }
+    ensures value { result ≡ at + length (rows_text table.now.cells.now table.now.shape table.now.shape.rows) }
+    ensures text_after { text.new ≡ sets text.old at (rows_text table.now.cells.now table.now.shape table.now.shape.rows) }
 {
     let mut end = at;
-    let rows = shape.rows;
-    let mut row = 0;
-    while row < rows {
-        end = put_row(text, end, table, shape, row);
-        row += 1;
+    for row in 0..table.shape.rows {
+        end = put_row(text, end, table, row);
     }
     end
 }
@@ -119,23 +107,20 @@ fn put_head(text: &mut [u8], shape: Shape, worst: usize) -> usize
     ensures value { result ≡ length (line (table_word shape.order) (decimal shape.rows ∷ decimal worst ∷ [])) }
     ensures text_after { text.new ≡ sets text.old 0 (line (table_word shape.order) (decimal shape.rows ∷ decimal worst ∷ [])) }
 {
-    let order = shape.order;
-    match order {
+    match shape.order {
         Order::Set => put_line(text, b"table", shape.rows, worst),
         Order::Read => put_line(text, b"rtable", shape.rows, worst),
     }
 }
 
 // A table.
-pub fn put_table(text: &mut [u8], table: &[u16], shape: Shape, worst: usize) -> usize
-    requires observed_le_kind_limit { shape.observed ≤ kind_limit }
-    requires order_in_bounds { shape.rows * row_size shape.order ≤ length table.now }
-    requires worst_in_bounds { length (table_text table.now shape worst) ≤ length text.old }
-    ensures value { result ≡ length (table_text table.now shape worst) }
-    ensures text_after { text.new ≡ written (table_text table.now shape worst) text.old }
+pub fn put_table(text: &mut [u8], table: &SizedTable, worst: usize) -> usize
+    requires { length (table_text table.now.cells.now table.now.shape worst) ≤ length text.old }
+    ensures value { result ≡ length (table_text table.now.cells.now table.now.shape worst) }
+    ensures text_after { text.new ≡ written (table_text table.now.cells.now table.now.shape worst) text.old }
 {
-    let head = put_head(text, shape, worst);
-    put_rows(text, head, table, shape)
+    let head = put_head(text, table.shape, worst);
+    put_rows(text, head, table)
 }
 
 // A refusal.
@@ -144,7 +129,5 @@ pub fn put_refusal(text: &mut [u8], r: Refusal) -> usize
     ensures value { result ≡ length (refusal_text r) }
     ensures text_after { text.new ≡ written (refusal_text r) text.old }
 {
-    let n = number(r);
-    let p = place(r);
-    put_line(text, b"refused", n, p)
+    put_line(text, b"refused", number(r), place(r))
 }

@@ -1,5 +1,7 @@
 -- What judging by records answers is what is due.
 -- Assumes nothing.
+use Rattle.lines.specs.declared.refusal.Refusal.{Refusal}
+use Rattle.std.specs.Prelude.{Bool, Ok, Result}
 use Prim.Native.Nat.{ℕ, ◌≤◌}
 use native.Mathlib.Omega.{arith}
 use mathlib.Core.Path.{◌≡◌, sym, ap, ◌∙◌, subst}
@@ -16,8 +18,6 @@ use Rattle.formula.specs.Semantics.{Trace}
 use Rattle.formula.specs.declared.parts.Part.{Part}
 use Rattle.lines.specs.declared.problem.Sizes.{Sizes}
 use Rattle.lines.specs.Refusal.{Told}
-use Rattle.rules.specs.declared.judging.Verdict.{Verdict}
-use Rattle.rules.specs.declared.judging.Verdict.TheVariants.{True, False}
 use Rattle.rules.specs.Judge.{told_verdict}
 use Rattle.rules.specs.Trace.{IsTrace, counts_of, verdict_on}
 use Rattle.rules.proofs.VerdictCases.{verdict_cases, length_verdict, step_verdict, value_verdict}
@@ -34,7 +34,7 @@ module _ (room : ℕ) (s : Sizes) (ps : List Part) (π : Trace) where
   c = counts_of s
 
   -- an answer is due, by what it is equal to
-  due_by : {v : Verdict} → judged_in room s ps π ≡ v → Due (told_verdict v) → Due (told_verdict (judged_in room s ps π))
+  due_by : {v : Result Bool Refusal} → judged_in room s ps π ≡ v → Due (told_verdict v) → Due (told_verdict (judged_in room s ps π))
   due_by e d = subst (λ v. Due (told_verdict v)) (sym e) d
 
   few_of : Usable room s → (c.outputs ≤ kind_limit) × (c.observed ≤ kind_limit) × (c.hidden ≤ kind_limit)
@@ -43,7 +43,7 @@ module _ (room : ℕ) (s : Sizes) (ps : List Part) (π : Trace) where
   is_value : (u : Usable room s) → judged_in room s ps π ≡ verdict_on c π (last_value ps π)
   is_value u = value_is room s ps π u.lent ((few_iff c).1 u.few_signals) u.few_parts (λ e. omega (arith, u.some_parts))
 
-  value_due : Usable room s → IsTrace c π → Due (told_verdict (cond (last_value ps π) True False))
+  value_due : Usable room s → IsTrace c π → Due (told_verdict (Ok (last_value ps π)))
   value_due u t = elim (test (last_value ps π)) [ inl e ↦ rw e (is_true u t e) | inr e ↦ rw e (is_false u t e) ]
 
   usable_due : Usable room s → Due (told_verdict (judged_in room s ps π))
@@ -75,7 +75,7 @@ module _ (room : ℕ) (s : Sizes) (ps : List Part) (π : Trace) where
       ]
 
   -- as the call has it
-  pub judged_by_lem : (r : Verdict) → r ≡ judged_in room s ps π → Due (told_verdict r)
+  pub judged_by_lem : (r : Result Bool Refusal) → r ≡ judged_in room s ps π → Due (told_verdict r)
   judged_by_lem r e = subst (λ v. Due (told_verdict v)) (sym e) judged_due
 
   not_few : ¬ FewCounted c → few_counted c ≡ false

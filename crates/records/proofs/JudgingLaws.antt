@@ -1,5 +1,6 @@
 -- What the code answers where it judges by a list of parts.
 -- Assumes nothing.
+use Rattle.std.specs.Prelude.{Err}
 use Prim.Native.Nat.{ℕ, ◌+◌, ◌≤◌, ◌<◌}
 use native.Mathlib.Numerals.{add-one}
 use native.Mathlib.Omega.{arith}
@@ -7,7 +8,7 @@ use mathlib.Core.Path.{◌≡◌, refl, sym, ap, ◌∙◌, subst}
 use mathlib.Core.Logic.{◌↔◌, inl, inr}
 use mathlib.Core.Bool.{Bool, true, false, ◌&&◌}
 use mathlib.Core.List.{List, [], ◌∷◌, ◌++◌, map-append}
-use borrow.Author.Tests.{leb-true, ltb-true, ltb-false, lt-ltb, le-ltb, lt-leb, le-leb, eq-eqb, ne_eqb}
+use borrow.Author.Tests.{leb-true, ltb-true, ltb-false, lt-ltb, le-ltb, le-leb, eq-eqb, ne_eqb}
 use lib.Dec.{leb, ltb}
 use lib.ListN.{length, get_or, set, take, drop, replicate, length-map, length-replicate}
 use lib.Seq.{take-suc, take_at, length-take-le}
@@ -23,32 +24,12 @@ use Rattle.formula.specs.Codes.{code_of, codes_of, parts_in}
 use Rattle.formula.proofs.CodesLaws.{Bytes, Held, part_coded, held_append}
 use Rattle.lines.specs.declared.problem.Sizes.{Sizes}
 use Rattle.lines.specs.declared.refusal.Refusal.TheVariants.{ShortMemory, TooManySignals, TooManyParts, NoFormula}
-use Rattle.rules.specs.declared.judging.Verdict.TheVariants.{Refused}
 use Rattle.rules.specs.Trace.{counts_of, verdict_on}
 use Rattle.records.specs.declared.listing.PartList.{PartList}
 use Rattle.rules.specs.Within.{FewCounted}
 use Rattle.records.specs.Judging.{few_counted, last_value, judged_in, count_taken, list_to}
 
 -- ---- few enough signals
-
-module _ (c : Counts) where
-  pub many_outputs : kind_limit < c.outputs → false ≡ few_counted c
-  unfolding few_counted
-  many_outputs h = rw (lt-leb c.outputs kind_limit h) refl
-
-  module _ (o : c.outputs ≤ kind_limit) where
-    pub many_observed : kind_limit < c.observed → false ≡ few_counted c
-    unfolding few_counted
-    many_observed h = rw (le-leb c.outputs kind_limit o, lt-leb c.observed kind_limit h) refl
-
-    module _ (s : c.observed ≤ kind_limit) where
-      pub many_hidden : kind_limit < c.hidden → false ≡ few_counted c
-      unfolding few_counted
-      many_hidden h = rw (le-leb c.outputs kind_limit o, le-leb c.observed kind_limit s, lt-leb c.hidden kind_limit h) refl
-
-      pub in_all : c.hidden ≤ kind_limit → leb (c.outputs + c.observed + c.hidden) signal_limit ≡ few_counted c
-      unfolding few_counted
-      in_all h = rw (le-leb c.outputs kind_limit o, le-leb c.observed kind_limit s, le-leb c.hidden kind_limit h) refl
 
 -- four tests at once
 all_four : (a b c d : Bool) → a && (b && (c && d)) ≡ true → (a ≡ true) × (b ≡ true) × (c ≡ true) × (d ≡ true)
@@ -76,22 +57,22 @@ few_iff c = (
 -- ---- the answer, test by test
 
 module _ (room : ℕ) (s : Sizes) (ps : List Part) (π : Trace) where
-  pub short_is : room < s.parts → judged_in room s ps π ≡ Refused ShortMemory
+  pub short_is : room < s.parts → judged_in room s ps π ≡ Err ShortMemory
   unfolding judged_in
   short_is h = rw (lt-ltb room s.parts h)
 
   module _ (lent : s.parts ≤ room) where
-    pub signals_is : few_counted (counts_of s) ≡ false → judged_in room s ps π ≡ Refused (TooManySignals 0)
+    pub signals_is : few_counted (counts_of s) ≡ false → judged_in room s ps π ≡ Err (TooManySignals 0)
     unfolding judged_in
     signals_is e = rw (le-ltb room s.parts lent, e)
 
     module _ (few : few_counted (counts_of s) ≡ true) where
-      pub many_is : part_limit < s.parts → judged_in room s ps π ≡ Refused (TooManyParts 0)
+      pub many_is : part_limit < s.parts → judged_in room s ps π ≡ Err (TooManyParts 0)
       unfolding judged_in
       many_is h = rw (le-ltb room s.parts lent, few, lt-ltb part_limit s.parts h)
 
       module _ (fits : s.parts ≤ part_limit) where
-        pub none_is : s.parts ≡ 0 → judged_in room s ps π ≡ Refused NoFormula
+        pub none_is : s.parts ≡ 0 → judged_in room s ps π ≡ Err NoFormula
         unfolding judged_in
         none_is e = rw (le-ltb room s.parts lent, few, le-ltb part_limit s.parts fits, eq-eqb s.parts 0 e)
 
@@ -102,13 +83,7 @@ module _ (room : ℕ) (s : Sizes) (ps : List Part) (π : Trace) where
 -- ---- how many records are listed
 
 module _ (room : ℕ) (s : Sizes) where
-  pub count_short : room < s.parts → 0 ≡ count_taken room s
-  count_short h = rw (lt-ltb room s.parts h) refl
-
-  pub count_many : s.parts ≤ room → part_limit < s.parts → 0 ≡ count_taken room s
-  count_many l h = rw (le-ltb room s.parts l, lt-ltb part_limit s.parts h) refl
-
-  pub count_all : s.parts ≤ room → s.parts ≤ part_limit → s.parts ≡ count_taken room s
+  count_all : s.parts ≤ room → s.parts ≤ part_limit → s.parts ≡ count_taken room s
   count_all l h = rw (le-ltb room s.parts l, le-ltb part_limit s.parts h) refl
 
 -- ---- the records as a list of numbers

@@ -1,5 +1,8 @@
 -- What reading into records answers and leaves is what is due.
 -- Assumes nothing.
+use Rattle.lines.specs.declared.refusal.Refusal.{Refusal}
+use Rattle.lines.specs.declared.problem.Sizes.{Sizes}
+use Rattle.std.specs.Prelude.{Result}
 use Prim.Native.Nat.{ℕ, ◌≤◌, ◌<◌}
 use native.Mathlib.Omega.{arith}
 use mathlib.Core.Path.{◌≡◌, refl, sym, ap₂, subst}
@@ -12,7 +15,6 @@ use Rattle.basics.specs.Lists.{written}
 use Rattle.basics.proofs.Booleans.{test}
 use Rattle.formula.specs.Limits.{part_limit}
 use Rattle.formula.specs.declared.parts.Part.{Part}
-use Rattle.lines.specs.declared.problem.Reading.{Reading}
 use Rattle.lines.specs.Refusal.{Told}
 use Rattle.lines.specs.Refusal as told
 use Rattle.lines.proofs.RefusalLaws.{told_apart, one_number, one_place}
@@ -39,7 +41,7 @@ module _ (source : List ℕ) (old : List Part) where
       at h (refused r) e = bad_source h _ _ ((refusal.refused_iff source r).0 e)
 
   -- as the call has it
-  pub listed_as : (r : Reading) (new : List Part) → r ≡ reading_of (read_into (length old) source) → new ≡ records_after source old
+  pub listed_as : (r : Result Sizes Refusal) (new : List Part) → r ≡ reading_of (read_into (length old) source) → new ≡ records_after source old
       → ListedAs source old (told_reading r) new
   listed_as r new e f = subst (λ x. ListedAs source old (told_reading x) new) (sym e)
       (subst (ListedAs source old (told_read source old)) (sym f) listed_due)

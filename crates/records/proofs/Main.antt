@@ -1,4 +1,5 @@
 -- The theorems of this crate. Assumes nothing.
+use Rattle.std.specs.Prelude.{Err, Ok, false}
 use Prim.Native.Nat.{ℕ, ◌≤◌, ◌<◌}
 use mathlib.Core.Path.{◌≡◌}
 use mathlib.Core.Logic.{◌↔◌, ◌⊎◌}
@@ -12,10 +13,8 @@ use Rattle.formula.specs.Semantics.{Trace}
 use Rattle.formula.specs.declared.parts.Part.{Part}
 use Rattle.formula.specs.Parts.{last_of, Earlier, formula_at}
 use Rattle.lines.specs.declared.problem.Sizes.{Sizes}
-use Rattle.lines.specs.declared.problem.Reading.TheVariants.{Accepted}
 use Rattle.lines.specs.declared.refusal.Refusal.TheVariants.{BadTrace}
 use Rattle.lines.specs.Refusal.{Told, refused}
-use Rattle.rules.specs.declared.judging.Verdict.TheVariants.{True, False, Refused}
 use Rattle.rules.specs.Limits.{work_size}
 use Rattle.rules.specs.Problem.{Problem, formula_in, problem_parts}
 use Rattle.rules.specs.Satisfies.{Satisfies}
@@ -53,7 +52,7 @@ module _ (source : List ℕ) (old : List Part) where
   records_kept = ListedIffDue.records_kept source old
 
   -- otherwise the sizes of the problem that the text denotes
-  pub answered : (s : Sizes) → (reading_of (read_into (length old) source) ≡ Accepted s)
+  pub answered : (s : Sizes) → (reading_of (read_into (length old) source) ≡ Ok s)
       ↔ ((part_limit ≤ length old) × ((p : Problem) × Denotes source p × (s ≡ sizes_of p)))
   answered = ReadOnce.read_iff source old
 
@@ -89,7 +88,7 @@ few_counted_lem = JudgingLaws.few_iff
 -- ---- read once, judge many: a text was read into records, and these sizes were answered. `verdict_once` is what
 -- `judge_parts` answers to the records that were left and to these sizes
 
-module _ (source : List ℕ) (old : List Part) (s : Sizes) (read : reading_of (read_into (length old) source) ≡ Accepted s) (π : Trace) where
+module _ (source : List ℕ) (old : List Part) (s : Sizes) (read : reading_of (read_into (length old) source) ≡ Ok s) (π : Trace) where
   -- it is what `judge` answers to the text, in enough work memory, and what is due for the text
   pub as_judged : (work : ℕ) → work_size ≤ work → verdict_once source old s π ≡ judged work source π
   as_judged work enough = ReadOnce.as_judged source old s read work enough π
@@ -98,14 +97,14 @@ module _ (source : List ℕ) (old : List Part) (s : Sizes) (read : reading_of (r
   once_due work enough = ReadOnce.once_due source old s read work enough π
 
   -- verdict by verdict
-  pub judged_true : (verdict_once source old s π ≡ True)
+  pub judged_true : (verdict_once source old s π ≡ Ok true)
       ↔ ((p : Problem) × Denotes source p × IsTrace (counts_in p.signals) π × Satisfies π p)
   judged_true = ReadOnce.true_iff source old s read π
 
-  pub judged_false : (verdict_once source old s π ≡ False)
+  pub judged_false : (verdict_once source old s π ≡ Ok false)
       ↔ ((p : Problem) × Denotes source p × IsTrace (counts_in p.signals) π × (¬ Satisfies π p))
   judged_false = ReadOnce.false_iff source old s read π
 
-  pub judged_bad : (step : ℕ) → (verdict_once source old s π ≡ Refused (BadTrace step))
+  pub judged_bad : (step : ℕ) → (verdict_once source old s π ≡ Err (BadTrace step))
       ↔ ((p : Problem) × Denotes source p × (((step ≡ 0) × ¬ RightLength π) ⊎ (RightLength π × FirstBad (counts_in p.signals) π step)))
   judged_bad = ReadOnce.bad_trace_iff source old s read π

@@ -1,5 +1,7 @@
 -- A trace is judged by the records that reading left, with the sizes that it answered, as it is judged by the text.
 -- Assumes nothing.
+use Rattle.lines.specs.declared.refusal.Refusal.{Refusal}
+use Rattle.std.specs.Prelude.{Bool, Err, Ok, Result, false, true}
 use Prim.Native.Nat.{ℕ, ◌≤◌, ◌<◌}
 use native.Mathlib.Nat.{le_refl}
 use native.Mathlib.Omega.{arith}
@@ -20,10 +22,7 @@ use Rattle.formula.specs.declared.parts.Part.{Part}
 use Rattle.formula.specs.Parts.{last_of, Earlier, formula_at}
 use Rattle.formula.proofs.PartsLaws.{WellFormed, parts_formed, parts_formula}
 use Rattle.lines.specs.declared.problem.Sizes.{Sizes}
-use Rattle.lines.specs.declared.problem.Reading.TheVariants.{Accepted}
 use Rattle.lines.specs.declared.refusal.Refusal.TheVariants.{ShortMemory, BadTrace}
-use Rattle.rules.specs.declared.judging.Verdict.{Verdict}
-use Rattle.rules.specs.declared.judging.Verdict.TheVariants.{True, False, Refused}
 use Rattle.rules.specs.Limits.{work_size}
 use Rattle.rules.specs.Problem.{Problem, formula_in, problem_parts, Outcome, accepted, refused, read_problem}
 use Rattle.rules.specs.Denotes.{Denotes}
@@ -48,25 +47,25 @@ module _ (source : List ℕ) (old : List Part) (s : Sizes) where
   abbrev Denoted : Type 0
   Denoted = (part_limit ≤ length old) × ((p : Problem) × Denotes source p × (s ≡ sizes_of p))
 
-  pub read_iff : (reading_of (read_into (length old) source) ≡ Accepted s) ↔ Denoted
+  pub read_iff : (reading_of (read_into (length old) source) ≡ Ok s) ↔ Denoted
   unfolding read_into
   read_iff = (to, from)
     where
-      at : part_limit ≤ length old → (o : Outcome) → read_problem source ≡ o → reading_of o ≡ Accepted s → Denoted
+      at : part_limit ≤ length old → (o : Outcome) → read_problem source ≡ o → reading_of o ≡ Ok s → Denoted
       at h (accepted p) e i = (h, (p, read_denotes source p e, sym (same_sizes (sizes_of p) s i)))
       at h (refused r) e i = not_refused r s i
 
-      to : reading_of (read_into (length old) source) ≡ Accepted s → Denoted
+      to : reading_of (read_into (length old) source) ≡ Ok s → Denoted
       to e =
           elim (test (ltb (length old) part_limit)) [
             | inl t ↦ not_refused ShortMemory s (subst
-                (λ b. reading_of (cond b (refused ShortMemory) (read_problem source)) ≡ Accepted s) t e)
+                (λ b. reading_of (cond b (refused ShortMemory) (read_problem source)) ≡ Ok s) t e)
             | inr t ↦ at (ltb-false _ _ t) (read_problem source) refl
-                (subst (λ b. reading_of (cond b (refused ShortMemory) (read_problem source)) ≡ Accepted s) t e)
+                (subst (λ b. reading_of (cond b (refused ShortMemory) (read_problem source)) ≡ Ok s) t e)
           ]
 
-      from : Denoted → reading_of (read_into (length old) source) ≡ Accepted s
-      from (h, (p, d, e)) = rw (le-ltb (length old) part_limit h, denotes_read source p d) (ap Accepted (sym e))
+      from : Denoted → reading_of (read_into (length old) source) ≡ Ok s
+      from (h, (p, d, e)) = rw (le-ltb (length old) part_limit h, denotes_read source p d) (ap Ok (sym e))
 
 module _ (source : List ℕ) (old : List Part) (enough : part_limit ≤ length old) (p : Problem) (d : Denotes source p) where
   within : Within p
@@ -116,7 +115,7 @@ module _ (source : List ℕ) (old : List Part) (enough : part_limit ≤ length o
       ∙ rw (le-ltb work work_size h, denotes_read source p d) refl
 
 -- read once, judge many
-module _ (source : List ℕ) (old : List Part) (s : Sizes) (read : reading_of (read_into (length old) source) ≡ Accepted s) where
+module _ (source : List ℕ) (old : List Part) (s : Sizes) (read : reading_of (read_into (length old) source) ≡ Ok s) where
   pub as_judged : (work : ℕ) → work_size ≤ work → (π : Trace) → verdict_once source old s π ≡ judged work source π
   as_judged work h π =
       let (enough, (p, d, e)) = (read_iff source old s).0 read in
@@ -128,15 +127,15 @@ module _ (source : List ℕ) (old : List Part) (s : Sizes) (read : reading_of (r
 
   -- verdict by verdict
   module _ (π : Trace) where
-    by_text : {v : Verdict} {C : Type 0} → (judged work_size source π ≡ v) ↔ C → (verdict_once source old s π ≡ v) ↔ C
+    by_text : {v : Result Bool Refusal} {C : Type 0} → (judged work_size source π ≡ v) ↔ C → (verdict_once source old s π ≡ v) ↔ C
     by_text (to, from) = (λ e. to (sym (as_judged work_size (le_refl _) π) ∙ e), λ c. as_judged work_size (le_refl _) π ∙ from c)
 
-    pub true_iff : (verdict_once source old s π ≡ True) ↔ ((p : Problem) × Denotes source p × IsTrace (counts_in p.signals) π × Satisfies π p)
+    pub true_iff : (verdict_once source old s π ≡ Ok true) ↔ ((p : Problem) × Denotes source p × IsTrace (counts_in p.signals) π × Satisfies π p)
     true_iff = by_text (text.true_iff work_size source π (le_refl _))
 
-    pub false_iff : (verdict_once source old s π ≡ False) ↔ ((p : Problem) × Denotes source p × IsTrace (counts_in p.signals) π × (¬ Satisfies π p))
+    pub false_iff : (verdict_once source old s π ≡ Ok false) ↔ ((p : Problem) × Denotes source p × IsTrace (counts_in p.signals) π × (¬ Satisfies π p))
     false_iff = by_text (text.false_iff work_size source π (le_refl _))
 
-    pub bad_trace_iff : (step : ℕ) → (verdict_once source old s π ≡ Refused (BadTrace step))
+    pub bad_trace_iff : (step : ℕ) → (verdict_once source old s π ≡ Err (BadTrace step))
         ↔ ((p : Problem) × Denotes source p × (((step ≡ 0) × ¬ RightLength π) ⊎ (RightLength π × FirstBad (counts_in p.signals) π step)))
     bad_trace_iff step = by_text (text.bad_trace_iff work_size source π (le_refl _) step)

@@ -1,5 +1,8 @@
 -- What the code lists of a problem, and what it writes to the records.
 -- Assumes nothing.
+use Rattle.lines.specs.declared.refusal.Refusal.{Refusal}
+use Rattle.lines.specs.declared.problem.Sizes.{Sizes}
+use Rattle.std.specs.Prelude.{Err, Result}
 use Prim.Native.Nat.{ℕ, ◌+◌, ◌-◌, ◌≤◌, ◌<◌}
 use native.Mathlib.Numerals.{add-one}
 use native.Mathlib.Omega.{arith}
@@ -19,8 +22,6 @@ use Rattle.formula.specs.Limits.{part_limit}
 use Rattle.formula.specs.Parts.{no_part, part_at}
 use Rattle.formula.specs.Codes.{codes_of, part_of, parts_in}
 use Rattle.formula.proofs.CodesLaws.{Held, part_in}
-use Rattle.lines.specs.declared.problem.Reading.{Reading}
-use Rattle.lines.specs.declared.problem.Reading.TheVariants.{Refused}
 use Rattle.lines.specs.declared.refusal.Refusal.TheVariants.{ShortMemory}
 use Rattle.lines.specs.Memory.{stored_from}
 use Rattle.lines.proofs.MemoryLaws.{stored_front}
@@ -33,7 +34,7 @@ use Rattle.records.specs.Reading.{read_into, parts_given, count_of, listing_of}
 
 -- ---- the listing
 
-listing_ext : {n m : ℕ} {a b : List ℕ} {r s : Reading} → n ≡ m → a ≡ b → r ≡ s
+listing_ext : {n m : ℕ} {a b : List ℕ} {r s : Result Sizes Refusal} → n ≡ m → a ≡ b → r ≡ s
     → ◌≡◌ {A = Listing} (record { count = n; codes = a; reading = r }) (record { count = m; codes = b; reading = s })
 listing_ext e f g = rw (e, f, g) refl
 
@@ -47,8 +48,8 @@ stored : (o : Outcome) → parts_of_outcome o (replicate part_limit 0) ≡ store
 stored (accepted p) = refl
 stored (refused r) = ap (λ n. replicate n 0) (length-replicate {A = ℕ} part_limit 0)
 
-module _ (room : ℕ) (source : List ℕ) (n : ℕ) (codes : List ℕ) (r : Reading) where
-  pub listed_short : room < part_limit → codes ≡ replicate part_limit 0 → r ≡ Refused ShortMemory → n ≡ count_of r
+module _ (room : ℕ) (source : List ℕ) (n : ℕ) (codes : List ℕ) (r : Result Sizes Refusal) where
+  pub listed_short : room < part_limit → codes ≡ replicate part_limit 0 → r ≡ Err ShortMemory → n ≡ count_of r
       → record { count = n; codes = codes; reading = r } ≡ listing_of (read_into room source)
   unfolding read_into
   listed_short h e f g = rw (lt-ltb room part_limit h) (listing_ext (g ∙ ap count_of f) e f)

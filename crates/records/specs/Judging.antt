@@ -1,6 +1,7 @@
 -- Judging a trace by lent records of parts, whatever they hold: what is answered, and what is due.
 -- Assumes nothing.
-use Rattle.std.specs.Prelude.{ℕ, ◌+◌, ◌≤◌, ◌<◌, ◌≡◌, Bool, true, false, ◌&&◌, cond, List, [], ◌∷◌, ◌++◌, eqb, leb, ltb, length, take, drop, replicate}
+use Rattle.lines.specs.declared.refusal.Refusal.{Refusal}
+use Rattle.std.specs.Prelude.{ℕ, ◌+◌, ◌≤◌, ◌<◌, ◌≡◌, Bool, true, false, ◌&&◌, cond, List, [], ◌∷◌, ◌++◌, eqb, leb, ltb, length, take, drop, replicate, Err, Result}
 use Rattle.basics.specs.Limits.{kind_limit, signal_limit}
 use Rattle.formula.specs.Limits.{part_limit}
 use Rattle.formula.specs.Letter.{Counts}
@@ -12,8 +13,6 @@ use Rattle.formula.specs.Values.{value_on}
 use Rattle.lines.specs.declared.problem.Sizes.{Sizes}
 use Rattle.lines.specs.declared.refusal.Refusal.TheVariants.{ShortMemory, TooManySignals, TooManyParts, NoFormula}
 use Rattle.lines.specs.Refusal.{Told, values, refused}
-use Rattle.rules.specs.declared.judging.Verdict.{Verdict}
-use Rattle.rules.specs.declared.judging.Verdict.TheVariants.{Refused}
 use Rattle.rules.specs.Within.{FewCounted}
 use Rattle.rules.specs.Trace.{RightLength, IsTrace, FirstBad, counts_of, verdict_on}
 use Rattle.records.specs.declared.listing.PartList.{PartList}
@@ -32,17 +31,17 @@ abbrev pub last_value : List Part → Trace → Bool
 last_value ps π = value_on ps π (last_of ps)
 
 -- where `room` records are lent, and ps are those that s counts
-unfoldable pub judged_in : ℕ → Sizes → List Part → Trace → Verdict
+unfoldable pub judged_in : ℕ → Sizes → List Part → Trace → Result Bool Refusal
 judged_in room s ps π =
-    cond (ltb room s.parts) (Refused ShortMemory)
+    cond (ltb room s.parts) (Err ShortMemory)
     (cond (few_counted (counts_of s))
-    (cond (ltb part_limit s.parts) (Refused (TooManyParts 0))
-    (cond (eqb s.parts 0) (Refused NoFormula)
+    (cond (ltb part_limit s.parts) (Err (TooManyParts 0))
+    (cond (eqb s.parts 0) (Err NoFormula)
     (verdict_on (counts_of s) π (last_value ps π))))
-    (Refused (TooManySignals 0)))
+    (Err (TooManySignals 0)))
 
 -- what is answered to the records that are left after a text was read, with these sizes
-abbrev pub verdict_once : List ℕ → List Part → Sizes → Trace → Verdict
+abbrev pub verdict_once : List ℕ → List Part → Sizes → Trace → Result Bool Refusal
 verdict_once source old s π = judged_in (length (records_after source old)) s (take s.parts (records_after source old)) π
 
 -- ---- what is due
@@ -73,9 +72,6 @@ pub data JudgedBy (room : ℕ) (s : Sizes) (ps : List Part) (π : Trace) : Told 
 -- how many records are listed: those that s counts, but none where it counts more than are lent or may be
 abbrev pub count_taken : ℕ → Sizes → ℕ
 count_taken room s = cond (ltb room s.parts) 0 (cond (ltb part_limit s.parts) 0 s.parts)
-
-abbrev pub no_parts : PartList
-no_parts = record { codes = replicate part_limit 0 }
 
 -- the numbers of the first n parts, with zeros behind them
 abbrev pub list_to : List Part → ℕ → PartList

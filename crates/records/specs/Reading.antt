@@ -1,11 +1,11 @@
 -- Reading a problem into lent records of its parts: what is answered, what is left in them, and what is due.
 -- Assumes nothing.
-use Rattle.std.specs.Prelude.{ℕ, ◌≤◌, ◌<◌, cond, List, [], ltb, length, replicate}
+use Rattle.lines.specs.declared.refusal.Refusal.{Refusal}
+use Rattle.lines.specs.declared.problem.Sizes.{Sizes}
+use Rattle.std.specs.Prelude.{ℕ, ◌≤◌, ◌<◌, cond, List, [], ltb, length, replicate, Err, Ok, Result}
 use Rattle.basics.specs.Lists.{written}
 use Rattle.formula.specs.Limits.{part_limit}
 use Rattle.formula.specs.declared.parts.Part.{Part}
-use Rattle.lines.specs.declared.problem.Reading.{Reading}
-use Rattle.lines.specs.declared.problem.Reading.TheVariants.{Accepted, Refused}
 use Rattle.lines.specs.declared.refusal.Refusal.TheVariants.{ShortMemory}
 use Rattle.lines.specs.Memory.{stored_from}
 use Rattle.lines.specs.Refusal.{Told}
@@ -47,9 +47,9 @@ pub data ListedAs (source : List ℕ) (old : List Part) : Told → List Part →
 
 -- ---- what the code keeps
 
-abbrev pub count_of : Reading → ℕ
-count_of (Accepted s) = s.parts
-count_of (Refused r) = 0
+abbrev pub count_of : Result Sizes Refusal → ℕ
+count_of (Ok s) = s.parts
+count_of (Err r) = 0
 
 -- how many parts there are, their numbers with zeros behind them, and what reading gave
 abbrev pub listing_of : Outcome → Listing

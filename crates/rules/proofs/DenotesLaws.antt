@@ -1,5 +1,7 @@
 -- Reading a problem finds exactly what its text denotes by the written grammar; hence a text denotes at most one problem.
 -- Assumes nothing.
+use Rattle.basics.specs.declared.order.Order.{Order}
+use Rattle.std.specs.Prelude.{Option}
 use Prim.Native.Nat.{ℕ, suc}
 use native.Mathlib.Omega.{arith}
 use mathlib.Core.Path.{◌≡◌, refl, sym, subst, ◌∙◌}
@@ -13,7 +15,6 @@ use Rattle.lines.specs.declared.refusal.Refusal.{Refusal}
 use Rattle.lines.specs.declared.refusal.Refusal.TheVariants.{LongSource}
 use Rattle.rules.specs.Limits.{source_limit}
 use Rattle.lines.specs.Lines.{SourceLine, ended, unended, lines}
-use Rattle.lines.specs.declared.problem.OrderSoFar.{OrderSoFar}
 use Rattle.lines.specs.StepOrder.{order_or}
 use Rattle.rules.specs.Problem.{Line, Draft, Problem, Outcome, accepted, refused, finish, after, effect_after}
 use Rattle.rules.specs.Problem.{with_declared, with_formula, with_order, read_lines, blank, read_problem}
@@ -30,7 +31,7 @@ same_problem p q e = cc
 no_lines : {C : Type 0} {l : Line} {ls : List Line} → l ∷ ls ≡ [] → C
 no_lines e = let z : ◌≡◌ {A = ℕ} 0 1 = cc in absurd (omega arith)
 
-pub finish_some : (g : Signals) (o : OrderSoFar) (ls : List Line) → ¬ (ls ≡ [])
+pub finish_some : (g : Signals) (o : Option Order) (ls : List Line) → ¬ (ls ≡ [])
     → finish g o ls ≡ accepted (record { signals = g; order = order_or o; lines = ls })
 finish_some g o [] h = absurd (h refl)
 finish_some g o (l ∷ ls) h = refl

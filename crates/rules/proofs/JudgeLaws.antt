@@ -1,4 +1,5 @@
 -- From a problem that was read to the verdict on a trace, and what the verdict means. Assumes nothing.
+use Rattle.std.specs.Prelude.{Bool, Err, Ok, Result, false, true}
 use Prim.Native.Nat.{ℕ, ◌≤◌, ◌<◌}
 use native.Mathlib.Omega.{arith}
 use mathlib.Core.Path.{◌≡◌, refl, sym, ap, ◌∙◌, subst}
@@ -8,10 +9,6 @@ use lib.ListN.{length, take, replicate, length-map, length-replicate}
 use Rattle.lines.specs.declared.refusal.Refusal.{Refusal}
 use Rattle.lines.specs.declared.refusal.Refusal.TheVariants.{ShortMemory}
 use Rattle.lines.specs.declared.problem.Sizes.{Sizes}
-use Rattle.lines.specs.declared.problem.Reading.{Reading}
-use Rattle.lines.specs.declared.problem.Reading.TheVariants as reading
-use Rattle.rules.specs.declared.judging.Verdict.{Verdict}
-use Rattle.rules.specs.declared.judging.Verdict.TheVariants.{Refused}
 use Rattle.basics.specs.Limits.{kind_limit}
 use Rattle.formula.specs.Limits.{part_limit}
 use Rattle.rules.specs.Limits.{work_size}
@@ -34,9 +31,9 @@ use Rattle.rules.proofs.JudgedIffDue.{judged_as}
 use Rattle.rules.proofs.ReadingLaws.{not_refused, same_sizes, same_refusal}
 
 -- a refusal is handed on
-pub refused_source : (o : Outcome) (π : Trace) (r : Reading) (x : Refusal) → r ≡ reading_of o → r ≡ reading.Refused x → Refused x ≡ judged_by o π
+pub refused_source : (o : Outcome) (π : Trace) (r : Result Sizes Refusal) (x : Refusal) → r ≡ reading_of o → r ≡ Err x → Err x ≡ judged_by o π
 refused_source (accepted p) π r x e h = not_refused x _ (sym h ∙ e)
-refused_source (refused y) π r x e h = ap Refused (same_refusal x y (sym h ∙ e))
+refused_source (refused y) π r x e h = ap Err (same_refusal x y (sym h ∙ e))
 
 -- a problem was read, and its parts are at the front of the list
 pub record Taken (o : Outcome) (s : Sizes) (codes : List ℕ) : Type 0 where
@@ -48,11 +45,11 @@ pub record Taken (o : Outcome) (s : Sizes) (codes : List ℕ) : Type 0 where
   pub front : take s.parts codes ≡ codes_of (problem_parts problem)
 
 -- what `read` leaves in a list that was all zero
-pub taken : (source : List ℕ) (s : Sizes) (r : Reading) → r ≡ reading_of (read_problem source) → r ≡ reading.Accepted s
+pub taken : (source : List ℕ) (s : Sizes) (r : Result Sizes Refusal) → r ≡ reading_of (read_problem source) → r ≡ Ok s
     → (q : List ℕ) → q ≡ parts_of_outcome (read_problem source) (replicate part_limit 0) → Taken (read_problem source) s q
 taken source s r e h q i = go (read_problem source) (sym e ∙ h) i (read_within source) (read_held source)
   where
-    go : (o : Outcome) → reading_of o ≡ reading.Accepted s → q ≡ parts_of_outcome o (replicate part_limit 0)
+    go : (o : Outcome) → reading_of o ≡ Ok s → q ≡ parts_of_outcome o (replicate part_limit 0)
         → ((x : Problem) → o ≡ accepted x → Within x) → ((x : Problem) → o ≡ accepted x → Held (problem_parts x)) → Taken o s q
     go (accepted x) h i within held =
         let w = within x refl in
@@ -95,7 +92,7 @@ module _ {o : Outcome} {s : Sizes} {codes : List ℕ} (t : Taken o s codes) wher
   pub taken_ready : AllReady (parts_in (take s.parts codes))
   taken_ready = subst AllReady (sym taken_parts) (formed t.problem)
 
-  pub judged_source : (π : Trace) (v : Verdict)
+  pub judged_source : (π : Trace) (v : Result Bool Refusal)
       → v ≡ verdict_on (counts_of s) π (value_on (parts_in (take s.parts codes)) π (last_of (parts_in (take s.parts codes)))) → v ≡ judged_by o π
   judged_source π v e =
       rw t.is (e ∙ ap (λ ps. verdict_on (counts_of s) π (value_on ps π (last_of ps))) taken_parts ∙ verdict_holds (counts_of s) π φ
@@ -110,20 +107,20 @@ pub work_cleared : (w : List ℕ) → work_size ≤ length w → work_after w �
 work_cleared w h = rw (le-ltb (length w) work_size h) refl
 
 module _ (source work : List ℕ) (π : Trace) where
-  abbrev Judged : Verdict → Type 0
+  abbrev Judged : Result Bool Refusal → Type 0
   Judged v = (v ≡ judged (length work) source π) × JudgedAs (length work) source π (told_verdict v)
 
-  judged_told : (v : Verdict) → v ≡ judged (length work) source π → Judged v
+  judged_told : (v : Result Bool Refusal) → v ≡ judged (length work) source π → Judged v
   judged_told v e = (e, subst (λ u. JudgedAs (length work) source π (told_verdict u)) (sym e) (judged_as (length work) source π))
 
   pub short_memory : length work < work_size
-      → (Refused ShortMemory ≡ judged (length work) source π) × (work ≡ work_after work) × JudgedAs (length work) source π (told_verdict (Refused ShortMemory))
+      → (Err ShortMemory ≡ judged (length work) source π) × (work ≡ work_after work) × JudgedAs (length work) source π (told_verdict (Err ShortMemory))
   unfolding judged
   short_memory h =
-      let j = judged_told (Refused ShortMemory) (rw (lt-ltb (length work) work_size h)) in
+      let j = judged_told (Err ShortMemory) (rw (lt-ltb (length work) work_size h)) in
       (j.0, rw (lt-ltb (length work) work_size h) refl, j.1)
 
-  pub long_memory : work_size ≤ length work → (v : Verdict) → v ≡ judged_by (read_problem source) π
+  pub long_memory : work_size ≤ length work → (v : Result Bool Refusal) → v ≡ judged_by (read_problem source) π
       → (v ≡ judged (length work) source π) × (replicate (length work) 0 ≡ work_after work) × JudgedAs (length work) source π (told_verdict v)
   unfolding judged
   long_memory h v e =

@@ -1,4 +1,5 @@
 -- A trace is judged exactly as it is due: by the refusals, the written grammar and the published meaning. Assumes nothing.
+use Rattle.std.specs.Prelude.{Err, Ok}
 use Prim.Native.Nat.{ℕ, ◌≤◌}
 use native.Mathlib.Omega.{arith}
 use mathlib.Core.Path.{◌≡◌, refl, sym, ap, ap₂, subst, ◌∙◌}
@@ -14,7 +15,6 @@ use Rattle.lines.proofs.RefusalLaws.{told_apart, one_value, one_number, one_plac
 use Rattle.lines.specs.Refusal.{Told, values, refused}
 use Rattle.formula.specs.Letter.{Counts}
 use Rattle.formula.specs.Semantics.{Trace, holds}
-use Rattle.rules.specs.declared.judging.Verdict.TheVariants.{True, False, Refused}
 use Rattle.rules.specs.Limits.{work_size}
 use Rattle.rules.specs.Problem.{Problem, formula_in, Outcome, accepted, read_problem}
 use Rattle.rules.specs.Problem as outcome
@@ -39,7 +39,7 @@ module _ (work : ℕ) (source : List ℕ) (π : Trace) where
     few : (c.outputs ≤ kind_limit) × (c.observed ≤ kind_limit) × (c.hidden ≤ kind_limit)
     few = let w = (read_within source p (denotes_read source p d)).few in (w.outputs, w.observed, w.hidden)
 
-    value_as : work_size ≤ work → IsTrace c π → JudgedAs work source π (told_verdict (cond (holds (formula_in p) π) True False))
+    value_as : work_size ≤ work → IsTrace c π → JudgedAs work source π (told_verdict (Ok (holds (formula_in p) π)))
     value_as enough t =
         let (to, from) = holds_iff_satisfies p π t.0.0 in
         elim (test (holds (formula_in p) π)) [
@@ -70,19 +70,19 @@ module _ (work : ℕ) (source : List ℕ) (π : Trace) where
     unfolding judged
     judged_is = rw (le-ltb work work_size enough, denotes_read source p d)
 
-    length_is : ¬ RightLength π → judged work source π ≡ Refused (BadTrace 0)
+    length_is : ¬ RightLength π → judged work source π ≡ Err (BadTrace 0)
     length_is n = judged_is ∙ length_verdict (c p d) (few p d) π _ n
 
-    step_is : {step : ℕ} → RightLength π → FirstBad (c p d) π step → judged work source π ≡ Refused (BadTrace step)
+    step_is : {step : ℕ} → RightLength π → FirstBad (c p d) π step → judged work source π ≡ Err (BadTrace step)
     step_is r f = judged_is ∙ step_verdict (c p d) (few p d) π _ r f
 
-    value_is : (v : Bool) → IsTrace (c p d) π → holds (formula_in p) π ≡ v → judged work source π ≡ cond v True False
+    value_is : (v : Bool) → IsTrace (c p d) π → holds (formula_in p) π ≡ v → judged work source π ≡ Ok v
     value_is v t e = judged_is ∙ value_verdict (c p d) (few p d) π _ v t e
 
-    true_is : IsTrace (c p d) π → Satisfies π p → judged work source π ≡ True
+    true_is : IsTrace (c p d) π → Satisfies π p → judged work source π ≡ Ok true
     true_is t s = value_is true t ((holds_iff_satisfies p π t.0.0).1 s)
 
-    false_is : IsTrace (c p d) π → ¬ Satisfies π p → judged work source π ≡ False
+    false_is : IsTrace (c p d) π → ¬ Satisfies π p → judged work source π ≡ Ok false
     false_is t n =
         value_is false t (elim (test (holds (formula_in p) π)) [ inl e ↦ absurd (n ((holds_iff_satisfies p π t.0.0).0 e)) | inr e ↦ e ])
 
@@ -135,15 +135,15 @@ module _ (work : ℕ) (source : List ℕ) (π : Trace) where
   was_refused step (is_false p enough d t n) e = told_apart (sym e)
 
   module _ (enough : work_size ≤ work) where
-    pub true_iff : (judged work source π ≡ True) ↔ Over (Satisfies π)
+    pub true_iff : (judged work source π ≡ Ok true) ↔ Over (Satisfies π)
     true_iff = (λ e. was_true judged_as (ap told_verdict e), λ h. true_is enough h.0 h.1 h.2 h.3)
 
-    pub false_iff : (judged work source π ≡ False) ↔ Over (λ p. ¬ Satisfies π p)
+    pub false_iff : (judged work source π ≡ Ok false) ↔ Over (λ p. ¬ Satisfies π p)
     false_iff = (λ e. was_false judged_as (ap told_verdict e), λ h. false_is enough h.0 h.1 h.2 h.3)
 
-    pub bad_trace_iff : (step : ℕ) → (judged work source π ≡ Refused (BadTrace step)) ↔ RefusedAt step
+    pub bad_trace_iff : (step : ℕ) → (judged work source π ≡ Err (BadTrace step)) ↔ RefusedAt step
     bad_trace_iff step = (λ e. was_refused step judged_as (ap told_verdict e), back)
       where
-        back : RefusedAt step → judged work source π ≡ Refused (BadTrace step)
+        back : RefusedAt step → judged work source π ≡ Err (BadTrace step)
         back (p, d, inl h) = rw h.0 (length_is enough p d h.1)
         back (p, d, inr h) = step_is enough p d h.0 h.1

@@ -1,4 +1,5 @@
 -- A line is read or refused exactly as its effect says. Assumes nothing.
+use Rattle.std.specs.Prelude.{None, Option, Some}
 use Prim.Native.Nat.{ℕ}
 use native.Mathlib.Omega.{arith}
 use mathlib.Core.Path.{◌≡◌, refl, sym, ap, subst, ◌∙◌}
@@ -21,8 +22,6 @@ use Rattle.lines.specs.declared.refusal.Refusal.TheVariants.{BadLine, NameTwice,
 use Rattle.lines.specs.declared.problem.Kind.{Kind}
 use Rattle.lines.specs.Refusal.{number_of, place_of}
 use Rattle.basics.specs.declared.order.Order.{Order}
-use Rattle.lines.specs.declared.problem.OrderSoFar.{OrderSoFar}
-use Rattle.lines.specs.declared.problem.OrderSoFar.TheVariants.{Open, Fixed}
 use Rattle.lines.specs.Lines.{declare_line, rule_line, order_line, is_name, is_text}
 use Rattle.lines.specs.Effect.{Signals, with_signal, is_declared, is_full, all_declared, is_large, Effect, declares, states, orders, refuses}
 use Rattle.lines.specs.Effect.{declare_effect, read_effect, state_effect, order_effect}
@@ -106,12 +105,12 @@ module _ (d : Draft) (s : Sound d.signals) (line : ℕ) where
       ))
       (λ b. read_said text (not-false _ b) (parse_formula text) refl)
 
-  order_said : (o : Order) → Said (order_line o) (order_effect line d.order (Fixed o))
+  order_said : (o : Order) → Said (order_line o) (order_effect line d.order (Some o))
   order_said o = go d.order refl
     where
-      go : (before : OrderSoFar) → d.order ≡ before → Said (order_line o) (order_effect line before (Fixed o))
-      go Open e = ordered o e
-      go (Fixed x) e = (
+      go : (before : Option Order) → d.order ≡ before → Said (order_line o) (order_effect line before (Some o))
+      go None e = ordered o e
+      go (Some x) e = (
         bad_line (λ k name q. absurd (declare_no_order k name o (sym q))) (λ text q. absurd (rule_no_order text o (sym q)))
             (λ _ _ first. open_fixed (sym first ∙ e)),
         refl,
@@ -123,7 +122,7 @@ module _ (d : Draft) (s : Sound d.signals) (line : ℕ) where
   abbrev rule_is : (text : List ℕ) → effect_after line (rule_line text) d ≡ state_effect line text d.signals (part_count d) (operator_count d)
   rule_is text = rule_line_lem line d.signals (part_count d) (operator_count d) d.order text
 
-  abbrev order_is : (o : Order) → effect_after line (order_line o) d ≡ order_effect line d.order (Fixed o)
+  abbrev order_is : (o : Order) → effect_after line (order_line o) d ≡ order_effect line d.order (Some o)
   order_is o = order_line_lem line d.signals (part_count d) (operator_count d) d.order o
 
   pub said : (bytes : List ℕ) → Said bytes (effect_after line bytes d)
@@ -153,12 +152,12 @@ module _ (d : Draft) (s : Sound d.signals) (line : ℕ) where
   abbrev pub Due : List ℕ → ℕ → Type 0
   Due bytes number = (r : Refusal) × (effect_after line bytes d ≡ refuses r) × (number_of r ≡ number) × (place_of r ≡ line)
 
-  order_twice : (before : OrderSoFar) (o : Order) → ¬ (before ≡ Open) → order_effect line before (Fixed o) ≡ refuses (BadLine line)
-  order_twice Open o n = absurd (n refl)
-  order_twice (Fixed x) o n = refl
+  order_twice : (before : Option Order) (o : Order) → ¬ (before ≡ None) → order_effect line before (Some o) ≡ refuses (BadLine line)
+  order_twice None o n = absurd (n refl)
+  order_twice (Some x) o n = refl
 
   due_bad : (bytes : List ℕ) → ((k : Kind) (name : Name) → bytes ≡ declare_line k name → ¬ (is_name name ≡ true))
-      → ((text : List ℕ) → bytes ≡ rule_line text → ¬ (is_text text ≡ true)) → ((o : Order) → bytes ≡ order_line o → ¬ (d.order ≡ Open))
+      → ((text : List ℕ) → bytes ≡ rule_line text → ¬ (is_text text ≡ true)) → ((o : Order) → bytes ≡ order_line o → ¬ (d.order ≡ None))
       → LineCase bytes → effect_after line bytes d ≡ refuses (BadLine line)
   unfolding declare_effect state_effect
   due_bad bytes f g h (case.declares k name e) =

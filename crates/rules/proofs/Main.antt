@@ -1,4 +1,5 @@
 -- The theorems of this crate. Assumes nothing.
+use Rattle.std.specs.Prelude.{Err, Ok, false}
 use Prim.Native.Nat.{ℕ, ◌+◌, ◌≤◌, ◌<◌}
 use mathlib.Core.Path.{◌≡◌}
 use mathlib.Core.Logic.{◌↔◌, ◌⊎◌}
@@ -26,7 +27,6 @@ use Rattle.lines.specs.Refusal.{number_of, place_of, Told}
 use Rattle.lines.specs.Lines.{ended, lines, order_line}
 use Rattle.lines.specs.StepOrder.{default_order}
 use Rattle.lines.specs.Effect.{Signals, count, first_bit, with_signal, plan_formula}
-use Rattle.rules.specs.declared.judging.Verdict.TheVariants.{True, False, Refused}
 use Rattle.rules.specs.Limits.{work_size}
 use Rattle.rules.specs.Problem.{Draft, Problem, formula_in, problem_parts, accepted, refused, blank, read_problem}
 use Rattle.rules.specs.Satisfies.{Satisfies}
@@ -114,13 +114,13 @@ judging = JudgedIffDue.judged_iff
 
 -- verdict by verdict, in enough memory
 module _ (work : ℕ) (source : List ℕ) (π : Trace) (enough : work_size ≤ work) where
-  pub judged_true : (judged work source π ≡ True) ↔ ((p : Problem) × Denotes source p × IsTrace (counts_in p.signals) π × Satisfies π p)
+  pub judged_true : (judged work source π ≡ Ok true) ↔ ((p : Problem) × Denotes source p × IsTrace (counts_in p.signals) π × Satisfies π p)
   judged_true = JudgedIffDue.true_iff work source π enough
 
-  pub judged_false : (judged work source π ≡ False) ↔ ((p : Problem) × Denotes source p × IsTrace (counts_in p.signals) π × (¬ Satisfies π p))
+  pub judged_false : (judged work source π ≡ Ok false) ↔ ((p : Problem) × Denotes source p × IsTrace (counts_in p.signals) π × (¬ Satisfies π p))
   judged_false = JudgedIffDue.false_iff work source π enough
 
-  pub judged_bad : (step : ℕ) → (judged work source π ≡ Refused (BadTrace step))
+  pub judged_bad : (step : ℕ) → (judged work source π ≡ Err (BadTrace step))
       ↔ ((p : Problem) × Denotes source p × (((step ≡ 0) × ¬ RightLength π) ⊎ (RightLength π × FirstBad (counts_in p.signals) π step)))
   judged_bad = JudgedIffDue.bad_trace_iff work source π enough
 

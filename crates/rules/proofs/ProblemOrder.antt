@@ -1,12 +1,12 @@
 -- The order of a problem is what its line `order` says, wherever it stands, and the default where there is none.
 -- Assumes nothing.
+use Rattle.std.specs.Prelude.{None, Some}
 use Prim.Native.Nat.{ℕ}
 use mathlib.Core.Path.{◌≡◌, refl, sym, ap, ◌∙◌}
 use mathlib.Core.List.Memᴰ
 use mathlib.Core.List.{List}
 use Rattle.basics.specs.Member.{◌∈◌}
 use Rattle.basics.specs.declared.order.Order.{Order}
-use Rattle.lines.specs.declared.problem.OrderSoFar.TheVariants.{Open, Fixed}
 use Rattle.lines.specs.Lines.{SourceLine, ended, lines, order_line}
 use Rattle.lines.specs.StepOrder.{default_order, order_or}
 use Rattle.lines.proofs.LineCases.{declare_no_order, rule_no_order, open_fixed, same_order}
@@ -20,26 +20,26 @@ same_bytes_lem l m e = cc
 
 module _ (o : Order) where
   -- a line that says an order fixes it
-  fixes : {d d' : Draft} {l : List ℕ} → Reads d l d' → l ≡ order_line o → d'.order ≡ Fixed o
+  fixes : {d d' : Draft} {l : List ℕ} → Reads d l d' → l ≡ order_line o → d'.order ≡ Some o
   fixes (declared k name named new few) e = absurd (declare_no_order k name o e)
   fixes (stated text a is derives known fits) e = absurd (rule_no_order text o e)
-  fixes (ordered x first) e = ap Fixed (same_order x o e)
+  fixes (ordered x first) e = ap Some (same_order x o e)
 
   -- and it stays fixed
-  stays : {d d' : Draft} {l : List ℕ} → Reads d l d' → d.order ≡ Fixed o → d'.order ≡ Fixed o
+  stays : {d d' : Draft} {l : List ℕ} → Reads d l d' → d.order ≡ Some o → d'.order ≡ Some o
   stays (declared k name named new few) e = e
   stays (stated text a is derives known fits) e = e
   stays (ordered x first) e = absurd (open_fixed (sym first ∙ e))
 
 -- a line that says none leaves it open
-leaves : {d d' : Draft} {l : List ℕ} → Reads d l d' → ((o : Order) → ¬ (l ≡ order_line o)) → d.order ≡ Open → d'.order ≡ Open
+leaves : {d d' : Draft} {l : List ℕ} → Reads d l d' → ((o : Order) → ¬ (l ≡ order_line o)) → d.order ≡ None → d'.order ≡ None
 leaves (declared k name named new few) n e = e
 leaves (stated text a is derives known fits) n e = e
 leaves (ordered x first) n e = absurd (n x refl)
 
 -- ---- the lines that are left
 
-make_fixed : (o : Order) {d : Draft} {ls : List SourceLine} {p : Problem} → Make d ls p → d.order ≡ Fixed o → p.order ≡ o
+make_fixed : (o : Order) {d : Draft} {ls : List SourceLine} {p : Problem} → Make d ls p → d.order ≡ Some o → p.order ≡ o
 make_fixed o (done some) e = ap order_or e
 make_fixed o (next d' r m) e = make_fixed o m (stays o r e)
 
@@ -48,7 +48,7 @@ make_said o (done some) i = absurd (Memᴰ.not-nil i)
 make_said o (next d' r m) (Memᴰ.head e) = make_fixed o m (fixes o r (sym (same_bytes_lem (order_line o) _ e)))
 make_said o (next d' r m) (Memᴰ.tail i) = make_said o m i
 
-make_unsaid : {d : Draft} {ls : List SourceLine} {p : Problem} → Make d ls p → ((o : Order) → ¬ (ended (order_line o) ∈ ls)) → d.order ≡ Open
+make_unsaid : {d : Draft} {ls : List SourceLine} {p : Problem} → Make d ls p → ((o : Order) → ¬ (ended (order_line o) ∈ ls)) → d.order ≡ None
     → p.order ≡ default_order
 make_unsaid (done some) n e = ap order_or e
 make_unsaid (next d' r m) n e =

@@ -1,10 +1,12 @@
 -- What reading a whole problem answers is what is due.
 -- Assumes nothing.
+use Rattle.lines.specs.declared.refusal.Refusal.{Refusal}
+use Rattle.lines.specs.declared.problem.Sizes.{Sizes}
+use Rattle.std.specs.Prelude.{Result}
 use Prim.Native.Nat.{ℕ}
 use mathlib.Core.Path.{◌≡◌, refl, ap, ◌∙◌, subst}
 use mathlib.Core.Logic.{◌↔◌}
 use mathlib.Core.List.{List}
-use Rattle.lines.specs.declared.problem.Reading.{Reading}
 use Rattle.lines.specs.Refusal.{Told, number_of, place_of}
 use Rattle.lines.specs.Refusal as told
 use Rattle.rules.specs.Problem.{Outcome, accepted, refused, read_problem}
@@ -20,7 +22,7 @@ module _ (source : List ℕ) where
       at (accepted p) e = denoted p ((read_iff_denotes source p).0 e)
       at (refused r) e = bad_source (number_of r) (place_of r) ((refused_iff source r).0 e)
 
-  pub read_told : (r : Reading) → r ≡ reading_of (read_problem source) → ReadAs source (told_reading r)
+  pub read_told : (r : Result Sizes Refusal) → r ≡ reading_of (read_problem source) → ReadAs source (told_reading r)
   read_told r e = rw e read_due
 
   read_answered : (a : Told) → ReadAs source a → told_reading (reading_of (read_problem source)) ≡ a

@@ -1,80 +1,61 @@
 -- Reading line by line: what is kept between lines, and what each way out of the loop answers. Assumes nothing.
-use Prim.Native.Nat.{ℕ, suc, ◌+◌, ◌*◌, ◌≤◌, ◌<◌}
+use Rattle.std.specs.Prelude.{Err, None, Ok, Result, Option, Some}
+use Prim.Native.Nat.{ℕ, suc, ◌+◌, ◌≤◌, ◌<◌}
 use native.Mathlib.Numerals.{add-one}
 use native.Mathlib.Omega.{arith}
 use mathlib.Core.Path.{◌≡◌, refl, sym, ap, ◌∙◌, subst}
-use mathlib.Core.Bool.{true, false}
-use mathlib.Core.Option.{Option, some}
+use mathlib.Core.Bool.{false}
 use mathlib.Core.List.{List, [], ◌∷◌, ◌++◌}
-use borrow.Author.Tests.{ltb-true, ltb-false, lt-ltb, le-ltb, eqb-false}
+use borrow.Author.Tests.{ltb-false, lt-ltb, le-ltb, eqb-false}
 use lib.Dec.{eqb, ltb}
-use lib.ListN.{length, get_or, drop, replicate, get_or-replicate}
+use lib.ListN.{length, drop, replicate}
 use lib.Seq.{length-sets}
 use Rattle.basics.specs.Bytes.{not_line_end, past, between}
-use Rattle.grammar.specs.Names.{bits, names_from, names_in, Spans}
+use Rattle.grammar.specs.Names.{Name, bits}
 use Rattle.lines.specs.declared.refusal.Refusal.{Refusal}
 use Rattle.lines.specs.declared.refusal.Refusal.TheVariants.{LongSource, BadLine, NoFormula}
 use Rattle.lines.specs.declared.problem.Kind.{Kind}
 use Rattle.lines.specs.declared.problem.Kind.TheVariants.{Output, Observed, Hidden}
 use Rattle.lines.specs.declared.problem.Sizes.{Sizes}
-use Rattle.lines.specs.declared.problem.Reading.{Reading}
-use Rattle.lines.specs.declared.problem.Reading.TheVariants.{Accepted, Refused}
 use Rattle.basics.specs.Limits.{kind_limit, operator_limit}
 use Rattle.rules.specs.Limits.{source_limit}
 use Rattle.formula.specs.Limits.{part_limit}
 use Rattle.formula.specs.Formula.{Formula, size, operators}
-use Rattle.lines.specs.Lines.{lines, tab_place, has_tab}
+use Rattle.lines.specs.Lines.{lines}
 use Rattle.basics.specs.declared.order.Order.{Order}
-use Rattle.lines.specs.declared.problem.OrderSoFar.TheVariants.{Open}
 use Rattle.rules.specs.Problem.{rule, joined, joined_lines, size_in, operators_in, Draft, part_count, operator_count, Outcome, accepted, refused}
 use Rattle.rules.specs.Problem.{finish, with_declared, with_formula, with_order, after, read_lines, blank, read_problem}
-use Rattle.lines.specs.Effect.{first_bit, is_full, joint, Effect, declares, states, orders, refuses, with_signal}
-use Rattle.lines.specs.Memory.{signals_in, count_in, more_signals, more_parts, order_in, fix_order, added_parts, stored_from, spanned}
-use Rattle.lines.specs.Memory.{reading_after, spans_after, parts_after, Kept, line_effect, LineRead}
+use Rattle.lines.specs.Effect.{with_name, is_full, joint, Effect, declares, states, orders, refuses, with_signal}
+use Rattle.lines.specs.Memory.{signals_in, more_signals, more_parts, order_in, fix_order, added_parts, stored_from}
+use Rattle.lines.specs.Memory.{reading_after, names_after, parts_after, Kept, line_effect, LineRead}
 use Rattle.rules.specs.Reading.{reading_of, PartsRead, parts_of_outcome}
 use Rattle.basics.proofs.BytesLaws.{past_in}
-use Rattle.lines.proofs.LineFields.{field_is, length_line}
 use Rattle.rules.proofs.JoinedFormulas.{written, stored_joined, size_joined, operators_joined, joined_more, joined_some, no_parts_lem}
 use Rattle.rules.proofs.DenotesLaws.{finish_some}
 use Rattle.basics.proofs.Booleans.{or_left, or_right}
 use Rattle.lines.proofs.LinesLaws.{lines_none, lines_ended, lines_unended}
-use Rattle.lines.proofs.SignalSpans.{spans_more, signals_more}
 use Rattle.lines.proofs.EffectLaws.{declaring, stating}
 
 -- ---- what is kept between lines
 
 -- reading goes on at place `at`, line `line`, as it began, with what the memory holds
-pub record Going (source p₀ : List ℕ) (at line : ℕ) (s : Sizes) (spans p : List ℕ) : Type 0 where
+pub record Going (source p₀ : List ℕ) (at line : ℕ) (s : Sizes) (names : List Name) (p : List ℕ) : Type 0 where
   pub draft : Draft
   pub inside : at ≤ length source
   pub numbered : line ≤ at + 1
   pub rest : read_lines line (lines (drop at source)) draft ≡ read_lines 1 (lines source) blank
-  pub signals : draft.signals ≡ signals_in source s spans
+  pub signals : draft.signals ≡ signals_in s names
   pub parts : part_count draft ≡ s.parts
   pub operators : operator_count draft ≡ s.operators
   pub order : draft.order ≡ s.order
   pub stored : p ≡ stored_from (written (joined_lines draft.lines)) 0 p₀
-  pub kept : Kept source s spans p
+  pub kept : Kept s p
 
 abbrev pub no_sizes : Sizes
-no_sizes = record { outputs = 0; observed = 0; hidden = 0; parts = 0; operators = 0; order = Open }
+no_sizes = record { outputs = 0; observed = 0; hidden = 0; parts = 0; operators = 0; order = None }
 
-spans_none : (source : List ℕ) → Spans source (replicate (2 * bits) 0)
-spans_none source =
-    record {
-      all = refl;
-      ordered = λ b h. zero_le (zeros (2 * b) (omega arith));
-      inside = λ b h. zero_le (zeros (2 * b + 1) (omega arith));
-    }
-  where
-    zeros : (i : ℕ) → i < 2 * bits → ◌≡◌ {A = ℕ} (get_or (replicate (2 * bits) 0) i 0) 0
-    zeros i h = get_or-replicate (2 * bits) i 0 0 h
-
-    zero_le : {m n : ℕ} → m ≡ 0 → m ≤ n
-    zero_le e = omega arith
-
-pub begin : (source p : List ℕ) → length p ≡ part_limit → Going source p 0 1 no_sizes (replicate (2 * bits) 0) p
-unfolding written names_in names_from
+pub begin : (source p : List ℕ) → length p ≡ part_limit → Going source p 0 1 no_sizes (replicate bits []) p
+unfolding written
 begin source p h =
     record {
       draft = blank;
@@ -87,12 +68,10 @@ begin source p h =
       order = refl;
       stored = refl;
       kept = record {
-        spans_in = spans_none source;
         outputs_few = omega arith;
         observed_few = omega arith;
         hidden_few = omega arith;
-        parts_few = omega
-            arith;
+        parts_few = omega arith;
         operators_few = omega arith;
         parts_long = h;
       };
@@ -101,13 +80,18 @@ begin source p h =
 -- ---- one more line
 
 -- the counts after a signal for which there was room
-more_few : (source spans : List ℕ) (k : Kind) (s : Sizes) → is_full k (signals_in source s spans) ≡ false → (s.outputs ≤ kind_limit) ×
+more_few : (names : List Name) (k : Kind) (s : Sizes) → is_full k (signals_in s names) ≡ false → (s.outputs ≤ kind_limit) ×
     (s.observed ≤ kind_limit) × (s.hidden ≤ kind_limit)
-    → ((more_signals k s).outputs ≤ kind_limit) × ((more_signals k s).observed ≤ kind_limit) × ((more_signals k s).hidden ≤ kind_limit) ×
-    (first_bit k + count_in k s < bits)
-more_few source spans Output s f h = let n = eqb-false s.outputs kind_limit (or_left (eqb s.outputs kind_limit) _ f) in omega (arith, n)
-more_few source spans Observed s f h = let n = eqb-false s.observed kind_limit (or_left (eqb s.observed kind_limit) _ f) in omega (arith, n)
-more_few source spans Hidden s f h = let n = eqb-false s.hidden kind_limit (or_left (eqb s.hidden kind_limit) _ f) in omega (arith, n)
+    → ((more_signals k s).outputs ≤ kind_limit) × ((more_signals k s).observed ≤ kind_limit) × ((more_signals k s).hidden ≤ kind_limit)
+more_few names Output s f h = let n = eqb-false s.outputs kind_limit (or_left (eqb s.outputs kind_limit) _ f) in omega (arith, n)
+more_few names Observed s f h = let n = eqb-false s.observed kind_limit (or_left (eqb s.observed kind_limit) _ f) in omega (arith, n)
+more_few names Hidden s f h = let n = eqb-false s.hidden kind_limit (or_left (eqb s.hidden kind_limit) _ f) in omega (arith, n)
+
+signals_more : (k : Kind) (name : Name) (s : Sizes) (names : List Name)
+    → signals_in (more_signals k s) (with_name k name (signals_in s names)) ≡ with_signal k name (signals_in s names)
+signals_more Output name s names = refl
+signals_more Observed name s names = refl
+signals_more Hidden name s names = refl
 
 same_parts : (k : Kind) (s : Sizes)
     → ((more_signals k s).parts ≡ s.parts) × ((more_signals k s).operators ≡ s.operators) × ((more_signals k s).order ≡ s.order)
@@ -115,22 +99,16 @@ same_parts Output s = (refl, refl, refl)
 same_parts Observed s = (refl, refl, refl)
 same_parts Hidden s = (refl, refl, refl)
 
-tab_in : (source : List ℕ) (at end : ℕ) → at ≤ end → end ≤ length source → has_tab (between source at end) ≡ true → at + tab_place
-    (between source at end) + 1 ≤ end
-tab_in source at end h k t =
-    let l = ltb-true (tab_place (between source at end)) (length (between source at end)) t in
-    omega (arith, l, length_line source at end h k)
-
-pub not_refused : {C : Type 0} (x : Refusal) (t : Sizes) → Refused x ≡ Accepted t → C
+pub not_refused : {C : Type 0} (x : Refusal) (t : Sizes) → Err x ≡ Ok t → C
 not_refused x t e = let z : ◌≡◌ {A = ℕ} 0 1 = cc in absurd (omega arith)
 
-pub same_sizes : (s t : Sizes) → Accepted s ≡ Accepted t → s ≡ t
+pub same_sizes : (s t : Sizes) → ◌≡◌ {A = Result Sizes Refusal} (Ok s) (Ok t) → s ≡ t
 same_sizes s t e = cc
 
-pub same_refusal : (x y : Refusal) → Refused x ≡ Refused y → x ≡ y
+pub same_refusal : (x y : Refusal) → ◌≡◌ {A = Result Sizes Refusal} (Err x) (Err y) → x ≡ y
 same_refusal x y e = cc
 
-module _ {source p₀ : List ℕ} {at line : ℕ} {s : Sizes} {spans p : List ℕ} (g : Going source p₀ at line s spans p) where
+module _ {source p₀ : List ℕ} {at line : ℕ} {s : Sizes} {names : List Name} {p : List ℕ} (g : Going source p₀ at line s names p) where
   -- the problem that is read
   abbrev whole : Outcome
   whole = read_lines 1 (lines source) blank
@@ -145,7 +123,7 @@ module _ {source p₀ : List ℕ} {at line : ℕ} {s : Sizes} {spans p : List �
 
     module _ (l : end < length source) where
       abbrev effect : Effect
-      effect = line_effect source at end line s spans
+      effect = line_effect (between source at end) line s names
 
       rest_after : whole ≡ after effect g.draft (read_lines (suc line) (lines (drop (end + 1) source)))
       unfolding read_lines
@@ -153,8 +131,8 @@ module _ {source p₀ : List ℕ} {at line : ℕ} {s : Sizes} {spans p : List �
           sym g.rest ∙ ap (λ ls. read_lines line ls g.draft) (lines_ended source at end e g.inside l)
           ∙ rw (g.signals, g.parts, g.operators, g.order)
 
-      module _ {spans' p' : List ℕ} {r : Reading} (d : LineRead source at end line s spans p spans' p' r) where
-        pub refused_line : (x : Refusal) → r ≡ Refused x → whole ≡ refused x
+      module _ {names' : List Name} {p' : List ℕ} {r : Result Sizes Refusal} (d : LineRead (between source at end) line s names p names' p' r) where
+        pub refused_line : (x : Refusal) → r ≡ Err x → whole ≡ refused x
         refused_line x q = go effect refl
           where
             go : (f : Effect) → effect ≡ f → whole ≡ refused x
@@ -169,16 +147,13 @@ module _ {source p₀ : List ℕ} {at line : ℕ} {s : Sizes} {spans p : List �
         goes_on_lem f i = sym (rest_after ∙ ap (λ x. after x g.draft (read_lines (suc line) (lines (drop (end + 1) source)))) i)
 
         -- the memory after a signal
-        declares_going : (k : Kind) (name : List ℕ) → effect ≡ declares k name → (t : Sizes) → r ≡ Accepted t → Going source p₀ (end + 1) (line + 1) t spans' p'
+        declares_going : (k : Kind) (name : List ℕ) → effect ≡ declares k name → (t : Sizes) → r ≡ Ok t → Going source p₀ (end + 1) (line + 1) t names' p'
         declares_going k name i t q =
-            let b = declaring line (between source at end) (signals_in source s spans) s.parts s.operators s.order k name i in
+            let b = declaring line (between source at end) (signals_in s names) s.parts s.operators s.order k name i in
             let kept = g.kept in
-            let few = more_few source spans k s b.room (kept.outputs_few, kept.observed_few, kept.hidden_few) in
-            let place = tab_in source at end line_in.0 line_in.1 b.tab in
-            let n = field_is source at end (tab_place (between source at end)) line_in.1 place ∙ b.is in
+            let few = more_few names k s b (kept.outputs_few, kept.observed_few, kept.hidden_few) in
             let sizes : more_signals k s ≡ t = same_sizes _ t (sym (ap (λ f. reading_after f s) i) ∙ sym d.reading ∙ q) in
-            let here : spans' ≡ spanned k s (at + tab_place (between source at end) + 1) end spans = d.spans_left ∙ ap
-            (λ f. spans_after f s (at + tab_place (between source at end) + 1) end spans) i in
+            let here : names' ≡ with_name k name (signals_in s names) = d.names_left ∙ ap (λ f. names_after f s names) i in
             let left : p' ≡ p = d.parts_left ∙ ap (λ f. parts_after f s p) i in
             rw (← sizes, here, left)
             (record {
@@ -186,14 +161,12 @@ module _ {source p₀ : List ℕ} {at line : ℕ} {s : Sizes} {spans p : List �
               inside = omega arith;
               numbered = omega (arith, g.numbered, line_in);
               rest = rw (add-one line) (goes_on_lem (declares k name) i);
-              signals = ap (with_signal k name) g.signals
-                  ∙ sym (signals_more source spans kept.spans_in k s _ end few.3 ∙ ap (λ x. with_signal k x (signals_in source s spans)) n);
+              signals = ap (with_signal k name) g.signals ∙ sym (signals_more k name s names);
               parts = g.parts ∙ sym (same_parts k s).0;
               operators = g.operators ∙ sym (same_parts k s).1;
               order = g.order ∙ sym (same_parts k s).2;
               stored = g.stored;
               kept = record {
-                spans_in = spans_more source spans kept.spans_in (first_bit k + count_in k s) _ end few.3 place line_in.1;
                 outputs_few = few.0;
                 observed_few = few.1;
                 hidden_few = few.2;
@@ -204,14 +177,14 @@ module _ {source p₀ : List ℕ} {at line : ℕ} {s : Sizes} {spans p : List �
             })
 
         -- the memory after a formula
-        states_going : (φ : Formula) → effect ≡ states φ → (t : Sizes) → r ≡ Accepted t → Going source p₀ (end + 1) (line + 1) t spans' p'
+        states_going : (φ : Formula) → effect ≡ states φ → (t : Sizes) → r ≡ Ok t → Going source p₀ (end + 1) (line + 1) t names' p'
         states_going φ i t q =
             let kept = g.kept in
             let f : Option Formula = joined_lines g.draft.lines in
-            let joined_now : joined_lines (g.draft.lines ++ (rule φ ∷ [])) ≡ some (joined f φ) = joined_more g.draft.lines φ in
-            let small = stating line (between source at end) (signals_in source s spans) s.parts s.operators s.order φ i in
+            let joined_now : joined_lines (g.draft.lines ++ (rule φ ∷ [])) ≡ Some (joined f φ) = joined_more g.draft.lines φ in
+            let small = stating line (between source at end) (signals_in s names) s.parts s.operators s.order φ i in
             let sizes : more_parts (size φ) (operators φ) s ≡ t = same_sizes _ t (sym (ap (λ f. reading_after f s) i) ∙ sym d.reading ∙ q) in
-            let here : spans' ≡ spans = d.spans_left ∙ ap (λ f. spans_after f s (at + tab_place (between source at end) + 1) end spans) i in
+            let here : names' ≡ names = d.names_left ∙ ap (λ f. names_after f s names) i in
             let left : p' ≡ stored_from (added_parts φ s.parts) s.parts p = d.parts_left ∙ ap (λ f. parts_after f s p) i in
             rw (← sizes, here, left)
             (record {
@@ -227,7 +200,6 @@ module _ {source p₀ : List ℕ} {at line : ℕ} {s : Sizes} {spans p : List �
                   ∙ ap (stored_from (added_parts φ (size_in f)) (size_in f)) g.stored
                   ∙ stored_joined f φ p₀ ∙ ap (λ x. stored_from (written x) 0 p₀) (sym joined_now);
               kept = record {
-                spans_in = kept.spans_in;
                 outputs_few = kept.outputs_few;
                 observed_few = kept.observed_few;
                 hidden_few = kept.hidden_few;
@@ -238,11 +210,11 @@ module _ {source p₀ : List ℕ} {at line : ℕ} {s : Sizes} {spans p : List �
             })
 
         -- the memory after an order
-        orders_going : (o : Order) → effect ≡ orders o → (t : Sizes) → r ≡ Accepted t → Going source p₀ (end + 1) (line + 1) t spans' p'
+        orders_going : (o : Order) → effect ≡ orders o → (t : Sizes) → r ≡ Ok t → Going source p₀ (end + 1) (line + 1) t names' p'
         orders_going o i t q =
             let kept = g.kept in
             let sizes : fix_order o s ≡ t = same_sizes _ t (sym (ap (λ f. reading_after f s) i) ∙ sym d.reading ∙ q) in
-            let here : spans' ≡ spans = d.spans_left ∙ ap (λ f. spans_after f s (at + tab_place (between source at end) + 1) end spans) i in
+            let here : names' ≡ names = d.names_left ∙ ap (λ f. names_after f s names) i in
             let left : p' ≡ p = d.parts_left ∙ ap (λ f. parts_after f s p) i in
             rw (← sizes, here, left)
             (record {
@@ -256,7 +228,6 @@ module _ {source p₀ : List ℕ} {at line : ℕ} {s : Sizes} {spans p : List �
               order = refl;
               stored = g.stored;
               kept = record {
-                spans_in = kept.spans_in;
                 outputs_few = kept.outputs_few;
                 observed_few = kept.observed_few;
                 hidden_few = kept.hidden_few;
@@ -266,10 +237,10 @@ module _ {source p₀ : List ℕ} {at line : ℕ} {s : Sizes} {spans p : List �
               };
             })
 
-        pub accepted_line : (t : Sizes) → r ≡ Accepted t → Going source p₀ (end + 1) (line + 1) t spans' p'
+        pub accepted_line : (t : Sizes) → r ≡ Ok t → Going source p₀ (end + 1) (line + 1) t names' p'
         accepted_line t q = go effect refl
           where
-            go : (f : Effect) → effect ≡ f → Going source p₀ (end + 1) (line + 1) t spans' p'
+            go : (f : Effect) → effect ≡ f → Going source p₀ (end + 1) (line + 1) t names' p'
             go (declares k name) i = declares_going k name i t q
             go (states φ) i = states_going φ i t q
             go (orders o) i = orders_going o i t q
@@ -286,7 +257,7 @@ module _ {source p₀ : List ℕ} {at line : ℕ} {s : Sizes} {spans p : List �
     no_formula z = finished ∙ ap (finish g.draft.signals g.draft.order) (no_parts_lem g.draft.lines (g.parts ∙ z))
 
     -- a problem that is read has the counts and the order that are kept, and its parts are stored
-    pub some_formula : (s.parts ≡ 0 → ⊥) → (t : Sizes) → t ≡ fix_order (order_in s) s → (Accepted t ≡ reading_of whole) × PartsRead whole p₀ p
+    pub some_formula : (s.parts ≡ 0 → ⊥) → (t : Sizes) → t ≡ fix_order (order_in s) s → (Ok t ≡ reading_of whole) × PartsRead whole p₀ p
     unfolding written
     some_formula z t i =
         let some_line : ¬ (g.draft.lines ≡ []) = λ e. z (sym g.parts ∙ ap (λ ls. size_in (joined_lines ls)) e) in
@@ -295,13 +266,13 @@ module _ {source p₀ : List ℕ} {at line : ℕ} {s : Sizes} {spans p : List �
         (rw (g.signals, g.order, e, sym (ap size_in e) ∙ g.parts, sym (ap operators_in e) ∙ g.operators)
         (refl, g.stored ∙ ap (λ f. stored_from (written f) 0 p₀) e))
 
-pub refused_answer : (o : Outcome) (x : Refusal) (q q' : List ℕ) → o ≡ refused x → (Refused x ≡ reading_of o) × PartsRead o q q'
+pub refused_answer : (o : Outcome) (x : Refusal) (q q' : List ℕ) → o ≡ refused x → (Err x ≡ reading_of o) × PartsRead o q q'
 refused_answer o x q q' e = rw e (refl, tt)
 
 -- ---- the whole text
 
 pub long_source : (source q q' : List ℕ) → source_limit < length source
-    → (Refused LongSource ≡ reading_of (read_problem source)) × PartsRead (read_problem source) q q'
+    → (Err LongSource ≡ reading_of (read_problem source)) × PartsRead (read_problem source) q q'
 unfolding read_problem
 long_source source q q' h = rw (lt-ltb source_limit (length source) h) (refl, tt)
 
@@ -310,17 +281,17 @@ unfolding read_problem
 short_source source h = rw (le-ltb source_limit (length source) h)
 
 -- what is left in the list
-module _ (o : Outcome) (r : Reading) (e : r ≡ reading_of o) (p : List ℕ) where
-  pub parts_accepted : (s : Sizes) → r ≡ Accepted s → (q : List ℕ) → PartsRead o p q → q ≡ parts_of_outcome o p
+module _ (o : Outcome) (r : Result Sizes Refusal) (e : r ≡ reading_of o) (p : List ℕ) where
+  pub parts_accepted : (s : Sizes) → r ≡ Ok s → (q : List ℕ) → PartsRead o p q → q ≡ parts_of_outcome o p
   parts_accepted s a q h = go o (sym e ∙ a) h
     where
-      go : (o : Outcome) → reading_of o ≡ Accepted s → PartsRead o p q → q ≡ parts_of_outcome o p
+      go : (o : Outcome) → reading_of o ≡ Ok s → PartsRead o p q → q ≡ parts_of_outcome o p
       go (accepted x) i h = h
       go (refused x) i h = not_refused x s i
 
-  pub parts_refused : (x : Refusal) → r ≡ Refused x → (k : ℕ) → k ≡ length p → replicate k 0 ≡ parts_of_outcome o p
+  pub parts_refused : (x : Refusal) → r ≡ Err x → (k : ℕ) → k ≡ length p → replicate k 0 ≡ parts_of_outcome o p
   parts_refused x a k l = go o (sym e ∙ a)
     where
-      go : (o : Outcome) → reading_of o ≡ Refused x → replicate k 0 ≡ parts_of_outcome o p
+      go : (o : Outcome) → reading_of o ≡ Err x → replicate k 0 ≡ parts_of_outcome o p
       go (accepted y) i = not_refused x _ (sym i)
       go (refused y) i = rw l

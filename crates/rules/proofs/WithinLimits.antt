@@ -1,8 +1,8 @@
 -- What reading keeps within the limits. Assumes nothing.
+use Rattle.std.specs.Prelude.{Option, Some, None}
 use Prim.Native.Nat.{ℕ, ◌+◌, ◌≤◌, ◌<◌}
 use native.Mathlib.Omega.{arith}
 use mathlib.Core.Path.{◌≡◌, refl, sym, ap, subst, ◌∙◌}
-use mathlib.Core.Option.{Option, none, some}
 use mathlib.Core.Logic.{◌⊎◌, inl, inr}
 use mathlib.Core.List.{List, []}
 use lib.ListN.{length, replicate, length-set, get_or-replicate}
@@ -78,13 +78,13 @@ named_reads n (ordered o first) = n
 
 -- the formulas so far have parts that numbers hold
 unfoldable CodedIn : Option Formula → Type 0
-CodedIn none = Unit {0}
-CodedIn (some φ) = Coded φ
+CodedIn None = Unit {0}
+CodedIn (Some φ) = Coded φ
 
-coded_joined : (f : Option Formula) (φ : Formula) → CodedIn f → Coded φ → CodedIn (some (joined f φ))
+coded_joined : (f : Option Formula) (φ : Formula) → CodedIn f → Coded φ → CodedIn (Some (joined f φ))
 unfolding CodedIn parts_from size
-coded_joined none φ c d = d
-coded_joined (some ψ) φ c d = λ n h. held_binary op.And ψ φ c d n h
+coded_joined None φ c d = d
+coded_joined (Some ψ) φ c d = λ n h. held_binary op.And ψ φ c d n h
 
 record Small (d : Draft) : Type 0 where
   few : Few d.signals

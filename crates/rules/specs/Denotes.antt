@@ -2,7 +2,7 @@
 -- reader in between.
 -- `proofs/DenotesLaws.antt` shows that reading a problem finds exactly this, and hence that it is one.
 -- Assumes nothing.
-use Rattle.std.specs.Prelude.{ℕ, ◌≤◌, ◌≡◌, true, List, [], ◌∷◌, length}
+use Rattle.std.specs.Prelude.{ℕ, ◌≤◌, ◌≡◌, true, List, [], ◌∷◌, length, None}
 use Rattle.basics.specs.Bytes.{between}
 use Rattle.basics.specs.Limits.{operator_limit}
 use Rattle.basics.specs.Member.{◌∈◌}
@@ -17,7 +17,6 @@ use Rattle.rules.specs.Limits.{source_limit}
 use Rattle.formula.specs.Limits.{part_limit}
 use Rattle.formula.specs.Formula.{Formula}
 use Rattle.basics.specs.declared.order.Order.{Order}
-use Rattle.lines.specs.declared.problem.OrderSoFar.TheVariants.{Open}
 use Rattle.lines.specs.Lines.{SourceLine, ended, lines, declare_line, rule_line, order_line, is_name, is_text}
 use Rattle.lines.specs.StepOrder.{order_or}
 use Rattle.rules.specs.Problem.{part_count, operator_count, Draft, with_declared, with_formula, with_order, Problem, blank}
@@ -45,7 +44,7 @@ pub data Reads (d : Draft) : List ℕ → Draft → Type 0 where
       → Reads d (declare_line k name) (with_declared k name d)
   stated : (text : List ℕ) (a : Tree) → is_text text ≡ true → Derived text a → AllDeclared d.signals text
       → Fits (with_formula (stated_formula d text a) d) → Reads d (rule_line text) (with_formula (stated_formula d text a) d)
-  ordered : (o : Order) → d.order ≡ Open → Reads d (order_line o) (with_order o d)
+  ordered : (o : Order) → d.order ≡ None → Reads d (order_line o) (with_order o d)
 
 -- the lines that are left make a problem of what was read; its order is the default where no line says it
 pub data Make : Draft → List SourceLine → Problem → Type 0 where

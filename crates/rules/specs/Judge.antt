@@ -1,9 +1,8 @@
 -- Judging a trace by a problem's text: what the call answers, what it leaves, and what is due.
 -- Assumes nothing.
-use Rattle.std.specs.Prelude.{ℕ, ◌≤◌, ◌<◌, cond, List, [], ◌∷◌, ltb, length, replicate}
+use Rattle.lines.specs.declared.refusal.Refusal.{Refusal}
+use Rattle.std.specs.Prelude.{ℕ, ◌≤◌, ◌<◌, cond, List, [], ◌∷◌, ltb, length, replicate, Bool, Err, Ok, Result, false, true}
 use Rattle.lines.specs.declared.refusal.Refusal.TheVariants.{ShortMemory}
-use Rattle.rules.specs.declared.judging.Verdict.{Verdict}
-use Rattle.rules.specs.declared.judging.Verdict.TheVariants.{True, False, Refused}
 use Rattle.rules.specs.Limits.{work_size}
 use Rattle.formula.specs.Semantics.{Trace, holds}
 use Rattle.rules.specs.Problem.{Problem, formula_in, Outcome, accepted, read_problem}
@@ -15,23 +14,23 @@ use Rattle.rules.specs.Satisfies.{Satisfies}
 use Rattle.rules.specs.Trace.{RightLength, IsTrace, FirstBad, verdict_on}
 use Rattle.rules.specs.Within.{counts_in}
 
-abbrev pub judged_by : Outcome → Trace → Verdict
+abbrev pub judged_by : Outcome → Trace → Result Bool Refusal
 judged_by (accepted p) π = verdict_on (counts_in p.signals) π (holds (formula_in p) π)
-judged_by (outcome.refused r) π = Refused r
+judged_by (outcome.refused r) π = Err r
 
 -- the answer, with work memory of so many bytes
-unfoldable pub judged : ℕ → List ℕ → Trace → Verdict
-judged n source π = cond (ltb n work_size) (Refused ShortMemory) (judged_by (read_problem source) π)
+unfoldable pub judged : ℕ → List ℕ → Trace → Result Bool Refusal
+judged n source π = cond (ltb n work_size) (Err ShortMemory) (judged_by (read_problem source) π)
 
 -- work memory that is too short stays as it is, and any other is cleared
 abbrev pub work_after : List ℕ → List ℕ
 work_after w = cond (ltb (length w) work_size) w (replicate (length w) 0)
 
 -- a verdict in the reference's terms: 1 for true and 0 for false
-abbrev pub told_verdict : Verdict → Told
-told_verdict True = values (1 ∷ [])
-told_verdict False = values (0 ∷ [])
-told_verdict (Refused r) = told_refusal r
+abbrev pub told_verdict : Result Bool Refusal → Told
+told_verdict (Ok true) = values (1 ∷ [])
+told_verdict (Ok false) = values (0 ∷ [])
+told_verdict (Err r) = told_refusal r
 
 -- what is to be answered, by the refusals (REFERENCE.md, Refusals), the written grammar and the published meaning
 pub data JudgedAs (work : ℕ) (source : List ℕ) (π : Trace) : Told → Type 0 where

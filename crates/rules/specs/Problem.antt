@@ -1,7 +1,6 @@
 -- A problem (a sheet in the trade's words; REFERENCE.md, A problem): what it keeps, and how it is read, line by line and test by test.
 -- Assumes nothing.
-use Rattle.std.specs.Prelude.{ℕ, suc, cond, ltb, length}
-use Rattle.std.proofs.Math.Option.{Option, none, some}
+use Rattle.std.specs.Prelude.{ℕ, suc, cond, ltb, length, None, Some, Option}
 use mathlib.Core.List.{List, [], ◌∷◌, ◌++◌, foldl}
 use Rattle.grammar.specs.Names.{Name}
 use Rattle.lines.specs.declared.refusal.Refusal.{Refusal}
@@ -12,8 +11,6 @@ use Rattle.formula.specs.Formula.{Formula, True, And, size, operators}
 use Rattle.formula.specs.Parts.{parts_of}
 use Rattle.formula.specs.declared.parts.Part.{Part}
 use Rattle.basics.specs.declared.order.Order.{Order}
-use Rattle.lines.specs.declared.problem.OrderSoFar.{OrderSoFar}
-use Rattle.lines.specs.declared.problem.OrderSoFar.TheVariants.{Open, Fixed}
 use Rattle.lines.specs.Lines.{SourceLine, ended, unended, lines}
 use Rattle.lines.specs.StepOrder.{order_or}
 use Rattle.lines.specs.Effect.{Effect, Signals, declares, effect_of, no_signals, orders, refuses, states, with_signal}
@@ -24,28 +21,28 @@ pub data Line : Type 0 where
 
 -- formulas are joined by "and"
 abbrev pub joined : Option Formula → Formula → Formula
-joined none φ = φ
-joined (some ψ) φ = And ψ φ
+joined None φ = φ
+joined (Some ψ) φ = And ψ φ
 
 abbrev pub with_line : Option Formula → Line → Option Formula
-with_line f (rule φ) = some (joined f φ)
+with_line f (rule φ) = Some (joined f φ)
 
 -- the formula of all lines, none where there is no line
 abbrev pub joined_lines : List Line → Option Formula
-joined_lines ls = foldl with_line none ls
+joined_lines ls = foldl with_line None ls
 
 abbrev pub size_in : Option Formula → ℕ
-size_in none = 0
-size_in (some φ) = size φ
+size_in None = 0
+size_in (Some φ) = size φ
 
 abbrev pub operators_in : Option Formula → ℕ
-operators_in none = 0
-operators_in (some φ) = operators φ
+operators_in None = 0
+operators_in (Some φ) = operators φ
 
 -- what has been read so far
 pub record Draft : Type 0 where
   pub signals : Signals
-  pub order : OrderSoFar
+  pub order : Option Order
   pub lines : List Line
 
 -- its parts and temporal operators
@@ -62,8 +59,8 @@ pub record Problem : Type 0 where
 
 -- a problem's formula (true where there is no line, which is never read), and its parts
 abbrev pub or_true : Option Formula → Formula
-or_true none = True
-or_true (some φ) = φ
+or_true None = True
+or_true (Some φ) = φ
 
 abbrev pub formula_in : Problem → Formula
 formula_in p = or_true (joined_lines p.lines)
@@ -78,7 +75,7 @@ pub data Outcome : Type 0 where
   refused : Refusal → Outcome
 
 -- an order that no line has said is the default
-abbrev pub finish : Signals → OrderSoFar → List Line → Outcome
+abbrev pub finish : Signals → Option Order → List Line → Outcome
 finish g o [] = refused NoFormula
 finish g o (l ∷ ls) = accepted (record { signals = g; order = order_or o; lines = l ∷ ls })
 
@@ -89,7 +86,7 @@ abbrev pub with_formula : Formula → Draft → Draft
 with_formula φ d = record { signals = d.signals; order = d.order; lines = d.lines ++ (rule φ ∷ []) }
 
 abbrev pub with_order : Order → Draft → Draft
-with_order o d = record { signals = d.signals; order = Fixed o; lines = d.lines }
+with_order o d = record { signals = d.signals; order = Some o; lines = d.lines }
 
 abbrev pub after : Effect → Draft → (Draft → Outcome) → Outcome
 after (declares k name) d f = f (with_declared k name d)
@@ -107,7 +104,7 @@ read_lines line (unended l ∷ ls) d = refused (BadLine line)
 read_lines line (ended l ∷ ls) d = after (effect_after line l d) d (read_lines (suc line) ls)
 
 abbrev pub blank : Draft
-blank = record { signals = no_signals; order = Open; lines = [] }
+blank = record { signals = no_signals; order = None; lines = [] }
 
 unfoldable pub read_problem : List ℕ → Outcome
 read_problem source = cond (ltb source_limit (length source)) (refused LongSource) (read_lines 1 (lines source) blank)

@@ -1,12 +1,10 @@
 -- What reading a whole problem answers and leaves, and what is due.
 -- Assumes nothing.
-use Rattle.std.specs.Prelude.{ℕ, ◌≡◌, List, [], ◌∷◌, length, replicate}
+use Rattle.lines.specs.declared.refusal.Refusal.{Refusal}
+use Rattle.std.specs.Prelude.{ℕ, ◌≡◌, List, [], ◌∷◌, length, replicate, Err, Ok, Result, Some}
 use Rattle.lines.specs.declared.problem.Sizes.{Sizes}
-use Rattle.lines.specs.declared.problem.Reading.{Reading}
-use Rattle.lines.specs.declared.problem.Reading.TheVariants.{Accepted, Refused}
 use Rattle.formula.specs.Formula.{size, operators}
 use Rattle.rules.specs.Problem.{Problem, formula_in, problem_parts, Outcome, accepted, refused}
-use Rattle.lines.specs.declared.problem.OrderSoFar.TheVariants.{Fixed}
 use Rattle.basics.specs.Order.{order_number}
 use Rattle.lines.specs.Memory.{stored_from, order_in}
 use Rattle.lines.specs.Refusal.{Told, values, told_refusal}
@@ -22,12 +20,12 @@ sizes_of p =
       hidden = p.signals.hidden;
       parts = size (formula_in p);
       operators = operators (formula_in p);
-      order = Fixed p.order;
+      order = Some p.order;
     }
 
-abbrev pub reading_of : Outcome → Reading
-reading_of (accepted p) = Accepted (sizes_of p)
-reading_of (refused r) = Refused r
+abbrev pub reading_of : Outcome → Result Sizes Refusal
+reading_of (accepted p) = Ok (sizes_of p)
+reading_of (refused r) = Err r
 
 -- after a refusal the list is open: the whole call clears it
 abbrev pub PartsRead : Outcome → List ℕ → List ℕ → Type 0
@@ -43,9 +41,9 @@ parts_of_outcome (refused r) q = replicate (length q) 0
 
 -- a reading in the reference's terms: how many output, observed and hidden signals, parts and temporal operators, and the order's number;
 -- or a refusal's number and place
-abbrev pub told_reading : Reading → Told
-told_reading (Accepted s) = values (s.outputs ∷ s.observed ∷ s.hidden ∷ s.parts ∷ s.operators ∷ order_number (order_in s) ∷ [])
-told_reading (Refused r) = told_refusal r
+abbrev pub told_reading : Result Sizes Refusal → Told
+told_reading (Ok s) = values (s.outputs ∷ s.observed ∷ s.hidden ∷ s.parts ∷ s.operators ∷ order_number (order_in s) ∷ [])
+told_reading (Err r) = told_refusal r
 
 -- what is told of a problem
 abbrev pub told_problem : Problem → Told

@@ -1,14 +1,13 @@
 -- Which texts are refused, with which number and at which place: numbers 1 to 8 (REFERENCE.md, Refusals), beside `Denotes`. A number is due
 -- where its row there says so and no number before it is. `proofs/RefusesLaws.antt` shows that reading refuses exactly so.
 -- Assumes nothing.
-use Rattle.std.specs.Prelude.{ℕ, suc, ◌≤◌, ◌<◌, ◌≡◌, true, List, [], ◌∷◌, length}
+use Rattle.std.specs.Prelude.{ℕ, suc, ◌≤◌, ◌<◌, ◌≡◌, true, List, [], ◌∷◌, length, None}
 use Rattle.syntax.specs.Tree.{Tree}
 use Rattle.grammar.specs.Grammar.{Derived}
 use Rattle.grammar.specs.Names.{Name}
 use Rattle.lines.specs.declared.problem.Kind.{Kind}
 use Rattle.rules.specs.Limits.{source_limit}
 use Rattle.basics.specs.declared.order.Order.{Order}
-use Rattle.lines.specs.declared.problem.OrderSoFar.TheVariants.{Open}
 use Rattle.lines.specs.Lines.{SourceLine, ended, unended, lines, declare_line, rule_line, order_line, is_name, is_text}
 use Rattle.lines.specs.Effect.{with_signal}
 use Rattle.rules.specs.Problem.{Draft, with_formula, blank}
@@ -19,7 +18,7 @@ use Rattle.rules.specs.Denotes.{IsDeclared, AllDeclared, stated_formula, Fits, R
 pub data LineRefused (d : Draft) : List ℕ → ℕ → Type 0 where
   -- 2: it neither declares a name, nor states a formula's text, nor is the first to say the order
   bad_line : {line : List ℕ} → ((k : Kind) (name : Name) → line ≡ declare_line k name → ¬ (is_name name ≡ true))
-      → ((text : List ℕ) → line ≡ rule_line text → ¬ (is_text text ≡ true)) → ((o : Order) → line ≡ order_line o → ¬ (d.order ≡ Open))
+      → ((text : List ℕ) → line ≡ rule_line text → ¬ (is_text text ≡ true)) → ((o : Order) → line ≡ order_line o → ¬ (d.order ≡ None))
       → LineRefused d line 2
   -- 3: it declares a name again
   name_twice : (k : Kind) (name : Name) → is_name name ≡ true → IsDeclared d.signals name → LineRefused d (declare_line k name) 3

@@ -1,10 +1,8 @@
 -- Judging a recorded trace (a run in the trade's words; REFERENCE.md, Judging): which traces are refused, and the verdict on the others.
 -- Assumes nothing.
-use Rattle.std.specs.Prelude.{ℕ, suc, ◌≤◌, Bool, ◌||◌, cond, [], ◌∷◌, eqb, ltb, length}
-use Rattle.std.proofs.Math.Option.{Option, none, some}
+use Rattle.lines.specs.declared.refusal.Refusal.{Refusal}
+use Rattle.std.specs.Prelude.{ℕ, suc, ◌≤◌, Bool, ◌||◌, cond, [], ◌∷◌, eqb, ltb, length, Err, Ok, Result, false, true, Option, Some, None}
 use Rattle.lines.specs.declared.refusal.Refusal.TheVariants.{BadTrace}
-use Rattle.rules.specs.declared.judging.Verdict.{Verdict}
-use Rattle.rules.specs.declared.judging.Verdict.TheVariants.{True, False, Refused}
 use Rattle.lines.specs.declared.problem.Sizes.{Sizes}
 use Rattle.rules.specs.Limits.{trace_limit}
 use Rattle.basics.specs.Member.{◌∈◌}
@@ -33,19 +31,14 @@ counts_of s = record { outputs = s.outputs; observed = s.observed; hidden = s.hi
 
 -- the first step with a bit without a signal, the first letter being step n
 unfoldable pub bad_step : Counts → ℕ → Trace → Option ℕ
-bad_step c n [] = none
-bad_step c n (a ∷ π) = cond (is_letter c a) (bad_step c (suc n) π) (some n)
+bad_step c n [] = None
+bad_step c n (a ∷ π) = cond (is_letter c a) (bad_step c (suc n) π) (Some n)
 
--- a step as a number, 0 for none
-abbrev pub step_number : Option ℕ → ℕ
-step_number none = 0
-step_number (some n) = n
-
-abbrev pub or_bad_step : Option ℕ → Verdict → Verdict
-or_bad_step none v = v
-or_bad_step (some n) v = Refused (BadTrace n)
+abbrev pub or_bad_step : Option ℕ → Result Bool Refusal → Result Bool Refusal
+or_bad_step None v = v
+or_bad_step (Some n) v = Err (BadTrace n)
 
 -- the verdict on a trace over these signals, on which the formula's value is b
-unfoldable pub verdict_on : Counts → Trace → Bool → Verdict
+unfoldable pub verdict_on : Counts → Trace → Bool → Result Bool Refusal
 verdict_on c π b =
-    cond (eqb (length π) 0 || ltb trace_limit (length π)) (Refused (BadTrace 0)) (or_bad_step (bad_step c 1 π) (cond b True False))
+    cond (eqb (length π) 0 || ltb trace_limit (length π)) (Err (BadTrace 0)) (or_bad_step (bad_step c 1 π) (Ok b))

@@ -4,23 +4,15 @@ ghost use Rattle.formula.specs.Codes.{parts_in};
 ghost use Rattle.formula.specs.Parts.{last_of};
 ghost use Rattle.formula.specs.Values.{value_on};
 ghost use Rattle.basics.specs.Limits.{kind_limit, index_limit};
-ghost use Rattle.rules.specs.Trace.{counts_of, bad_step, step_number, verdict_on};
+ghost use Rattle.rules.specs.Trace.{counts_of, bad_step, verdict_on};
 ghost use Rattle.formula.specs.Letter.{is_letter};
 ghost use Rattle.rules.specs.Problem.{read_problem};
 ghost use Rattle.rules.specs.Judge.{judged_by, judged, work_after, told_verdict, JudgedAs};
 
 use crate::reader::read;
-use basics::{HIDDEN, INDEX_LIMIT, KIND_LIMIT, OBSERVED, clear};
+use basics::{HIDDEN, INDEX_LIMIT, KIND_LIMIT, OBSERVED};
 use formula::holds_on;
-use lines::{PART_LIMIT, Reading, Refusal, Sizes};
-
-// The verdict on a trace, or a refusal.
-#[derive(Clone, Copy)]
-pub enum Verdict {
-    True,
-    False,
-    Refused(Refusal),
-}
+use lines::{PART_LIMIT, Refusal, Sizes};
 
 // The bits of one kind of signals.
 const KIND_MASK: u16 = (1 << KIND_LIMIT) - 1;
@@ -30,26 +22,21 @@ fn is_letter(s: Sizes, letter: u16) -> bool
     requires { (s.outputs ≤ kind_limit) × (s.observed ≤ kind_limit) × (s.hidden ≤ kind_limit) }
     ensures { result ≡ is_letter (counts_of s) letter }
 {
-    let outputs = s.outputs;
-    let observed = s.observed;
-    let hidden = s.hidden;
-    (letter & KIND_MASK < 1 << outputs)
-        & ((letter >> OBSERVED & KIND_MASK < 1 << observed) & (letter >> HIDDEN < 1 << hidden))
+    (letter & KIND_MASK < 1 << s.outputs)
+        & ((letter >> OBSERVED & KIND_MASK < 1 << s.observed) & (letter >> HIDDEN < 1 << s.hidden))
 }
 
-// The first step, counted from 1, whose letter has such a bit; 0 if there is none.
-fn bad_step(s: Sizes, trace: &[u16]) -> usize
+// The first step, counted from 1, whose letter has such a bit.
+fn bad_step(s: Sizes, trace: &[u16]) -> Option<usize>
     requires { (s.outputs ≤ kind_limit) × (s.observed ≤ kind_limit) × (s.hidden ≤ kind_limit) }
-    ensures { result ≡ step_number (bad_step (counts_of s) 1 trace.now) }
+    ensures { result ≡ bad_step (counts_of s) 1 trace.now }
 {
-    let mut i = 0;
-    while i < trace.len() {
+    for i in 0..trace.len() {
         if !is_letter(s, trace[i]) {
-            return i + 1;
+            return Some(i + 1);
         }
-        i += 1;
     }
-    0
+    None
 }
 
 // The most steps of a trace, and the least bytes of work memory.
@@ -58,7 +45,7 @@ const TRACE_LIMIT: usize = 1000;
 pub const WORK_SIZE: usize = 65536;
 
 // The verdict on a trace by parts. It serves the crate above too, which shows what it asks.
-pub fn judge_trace(parts: &[u32], s: Sizes, trace: &[u16]) -> Verdict
+pub fn judge_trace(parts: &[u32], s: Sizes, trace: &[u16]) -> Result<bool, Refusal>
     requires parts_nonzero { (0 < length parts.now) × (length parts.now ≤ index_limit) }
     requires outputs_le_kind_limit { (s.outputs ≤ kind_limit) × (s.observed ≤ kind_limit) × (s.hidden ≤ kind_limit) }
     ensures { result ≡ verdict_on (counts_of s) trace.now
@@ -66,45 +53,35 @@ pub fn judge_trace(parts: &[u32], s: Sizes, trace: &[u16]) -> Verdict
 {
     let steps = trace.len();
     if (steps == 0) | (steps > TRACE_LIMIT) {
-        return Verdict::Refused(Refusal::BadTrace(0));
+        return Err(Refusal::BadTrace(0));
     }
-    let bad = bad_step(s, trace);
-    if bad != 0 {
-        return Verdict::Refused(Refusal::BadTrace(bad));
+    if let Some(step) = bad_step(s, trace) {
+        return Err(Refusal::BadTrace(step));
     }
     let mut entries = [0u8; INDEX_LIMIT];
-    if holds_on(parts, trace, &mut entries) {
-        Verdict::True
-    } else {
-        Verdict::False
-    }
+    Ok(holds_on(parts, trace, &mut entries))
 }
 
 // The verdict on a trace by a problem's text.
-fn judge_source(source: &[u8], trace: &[u16]) -> Verdict
+fn judge_source(source: &[u8], trace: &[u16]) -> Result<bool, Refusal>
     ensures { result ≡ judged_by (read_problem source.now) trace.now }
 {
     let mut parts = [0u32; PART_LIMIT];
-    match read(source, &mut parts) {
-        Reading::Refused(r) => Verdict::Refused(r),
-        Reading::Accepted(s) => {
-            let n = s.parts;
-            judge_trace(&parts[..n], s, trace)
-        }
-    }
+    let s = read(source, &mut parts)?;
+    judge_trace(&parts[..s.parts], s, trace)
 }
 
 // Judges a recorded trace by a problem's text: true exactly where the trace satisfies the formula that the written grammar
 // derives. Refusals: 12, then 1 to 8, then 16. Work memory is all zero afterwards, but untouched where it is too short.
-pub fn judge(source: &[u8], trace: &[u16], work: &mut [u8]) -> Verdict
+pub fn judge(source: &[u8], trace: &[u16], work: &mut [u8]) -> Result<bool, Refusal>
     ensures answer { result ≡ judged (length work.old) source.now trace.now }
     ensures cleared { work.new ≡ work_after work.old }
     ensures due { JudgedAs (length work.old) source.now trace.now (told_verdict result) }
 {
     if work.len() < WORK_SIZE {
-        return Verdict::Refused(Refusal::ShortMemory);
+        return Err(Refusal::ShortMemory);
     }
     let r = judge_source(source, trace);
-    clear(work);
+    work.fill(0);
     r
 }

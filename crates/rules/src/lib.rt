@@ -6,6 +6,6 @@
 mod judging;
 mod reader;
 
-pub use judging::{Verdict, WORK_SIZE, judge, judge_trace};
-pub use lines::{Reading, Refusal, Sizes, number, place};
+pub use judging::{WORK_SIZE, judge, judge_trace};
+pub use lines::{Refusal, Sizes, number, place};
 pub use reader::{SOURCE_LIMIT, read};

@@ -1,23 +1,13 @@
 -- How many bytes of a set differ once a letter was read, for any number d of operators. A byte has 8 = 2 ^ 3 patterns, a word 64 = 2 ^ 6.
 -- Assumes nothing.
 use Prim.Native.Nat.{ℕ, suc, ◌+◌, ◌-◌, ◌*◌, ◌/◌, ◌%◌, ◌^◌, ◌≤◌, ◌<◌}
-use native.Mathlib.Nat.{mul_assoc, mul-add-mod_self_right, div-add-mod', one-mul, lt_of_lt_of_le}
+use native.Mathlib.Nat.{mul_assoc, mul-add-mod_self_right, div-add-mod', lt_of_lt_of_le}
 use native.Mathlib.Omega.{arith}
 use mathlib.Core.Path.{◌≡◌, sym, ap, ◌∙◌}
-use lib.Pow.{pow-add, pow_pos, pow_mono, mod-mod-pow, shl_exact}
-use lib.Dec.{lit<}
+use lib.Pow.{pow-add, pow_pos, pow_mono, mod-mod-pow}
 use Rattle.basics.specs.Limits.{word_bits, word_size}
 use Rattle.search.specs.Maps.{planes_of}
 use Rattle.search.specs.Memory.{half_of}
-
--- as the code counts them
-pub half_one : (d : ℕ) → d < 3 → 1 ≡ half_of d
-unfolding half_of
-half_one d h = let e : d - 3 ≡ 0 = omega arith in rw e
-
-pub half_shift : (d : ℕ) → d < 64 → 1 * 2 ^ (d - 3) % 2 ^ 64 ≡ half_of d
-unfolding half_of
-half_shift d h = shl_exact 1 (d - 3) 64 (lit< tt) (omega arith) ∙ one-mul (2 ^ (d - 3))
 
 -- they are for all patterns of d bits, once or more
 half_bits : (d : ℕ) → half_of d * 8 ≡ 2 ^ (d - 3 + 3)

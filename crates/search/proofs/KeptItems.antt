@@ -1,5 +1,6 @@
 -- The items that the memory keeps while a search runs, of any length and packed in any way.
 -- Assumes nothing.
+use Rattle.std.specs.Prelude.{None, Some}
 use Prim.Native.Nat.{ℕ, ◌+◌, ◌*◌, ◌/◌, ◌%◌, ◌≤◌, ◌<◌}
 use native.Mathlib.Nat.{div-add-mod'}
 use native.Mathlib.Omega.{arith}
@@ -11,7 +12,6 @@ use lib.ListN.{length, get_or, take}
 use lib.Seq.{ext_get_or, length-take-le, get_or-take}
 use borrow.Author.Tests.{ltb-true, ltb-false}
 use borrow.Rule.Slice.PartMut.{put_mid}
-use Rattle.search.specs.declared.searching.Explored.TheVariants.{Found, TooMany}
 use Rattle.search.specs.Slots.{items_in, HoldsItems, count_up_to}
 use Rattle.basics.proofs.EqualRows.{row_ends, row_at, length_rows, get_d_rows}
 use Rattle.basics.proofs.LentPart.{mid_in}
@@ -66,16 +66,16 @@ module _ (w len : ℕ) (pack : List Bool → List ℕ) (packing : Packing w len 
 
 module _ {K : Type 0} (limit : ℕ) (xs : List K) where
   -- from the answer back to the count
-  pub count_found : (m : ℕ) → Found m ≡ count_up_to limit xs → (length xs ≤ limit) × (m ≡ length xs)
+  pub count_found : (m : ℕ) → Some m ≡ count_up_to limit xs → (length xs ≤ limit) × (m ≡ length xs)
   count_found m q = at (ltb limit (length xs)) refl q
     where
-      at : (b : Bool) → ltb limit (length xs) ≡ b → Found m ≡ cond b TooMany (Found (length xs)) → (length xs ≤ limit) × (m ≡ length xs)
+      at : (b : Bool) → ltb limit (length xs) ≡ b → Some m ≡ cond b None (Some (length xs)) → (length xs ≤ limit) × (m ≡ length xs)
       at true e q = let z : ◌≡◌ {A = ℕ} 0 1 = cc in absurd (omega arith)
       at false e q = (ltb-false limit (length xs) e, cc)
 
-  pub count_many : TooMany ≡ count_up_to limit xs → limit < length xs
+  pub count_many : None ≡ count_up_to limit xs → limit < length xs
   count_many q = at (ltb limit (length xs)) refl q
     where
-      at : (b : Bool) → ltb limit (length xs) ≡ b → TooMany ≡ cond b TooMany (Found (length xs)) → limit < length xs
+      at : (b : Bool) → ltb limit (length xs) ≡ b → None ≡ cond b None (Some (length xs)) → limit < length xs
       at true e q = ltb-true limit (length xs) e
       at false e q = let z : ◌≡◌ {A = ℕ} 0 1 = cc in absurd (omega arith)

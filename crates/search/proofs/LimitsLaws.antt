@@ -4,7 +4,7 @@ use Prim.Native.Nat.{ℕ, suc, ◌*◌, ◌^◌, ◌≤◌, ◌<◌}
 use native.Mathlib.Omega.{arith}
 use mathlib.Core.Path.{◌≡◌, refl, sym, subst}
 use lib.Pow.{pow_mono}
-use Rattle.basics.specs.Limits.{operator_limit, word_bits, word_size}
+use Rattle.basics.specs.Limits.{operator_limit, word_bits}
 use Rattle.search.specs.Limits.{state_limit, set_size, map_size}
 use Rattle.search.specs.Memory.{set_bytes, half_of}
 use Rattle.search.proofs.HalfSets.{half_small}
@@ -15,10 +15,6 @@ use Rattle.search.proofs.SlotsLaws.{Packing}
 operators_many : word_bits ≤ operator_limit
 operators_many = omega arith
 
--- and a word can be shifted by as many bits as there are operators
-operators_few : operator_limit < word_size
-operators_few = omega arith
-
 -- a set has a bit for each pattern
 set_bits : set_size * 8 ≡ 2 ^ suc operator_limit
 set_bits = refl
@@ -28,9 +24,6 @@ pub place_byte : state_limit < 2 ^ 8
 place_byte = omega arith
 
 module _ (d : ℕ) (few : d ≤ operator_limit) where
-  pub operators_shift : d < word_size
-  operators_shift = omega (arith, few, operators_few)
-
   -- a set over d operators fits its place, and is read back from it
   pub set_room : 2 ^ suc d ≤ set_size * 8
   set_room = subst (λ n. 2 ^ suc d ≤ n) (sym set_bits) (pow_mono {i = suc d} {j = suc operator_limit} (omega (arith, few)))

@@ -4,17 +4,17 @@ use Prim.Native.Nat.{ℕ, suc, ◌+◌, ◌*◌, ◌/◌, ◌%◌, ◌^◌, ◌<
 use native.Mathlib.Nat.{mod-lt, mod-eq_of_lt, lt_of_lt_of_le}
 use native.Mathlib.Omega.{arith}
 use mathlib.Core.Path.{◌≡◌, refl, sym, ap, ◌∙◌, subst}
+use mathlib.Core.Bool.{false}
 use mathlib.Core.List.{List, ◌++◌}
 use lib.Pow.{pow_pos}
-use lib.Dec.{eqb}
 use lib.ListN.{length, get_or, drop}
-use Rattle.basics.specs.Bits.{bit, digit, from_bits}
+use Rattle.basics.specs.Bits.{bit, from_bits}
 use Rattle.basics.specs.Lists.{tabulate}
-use Rattle.basics.proofs.ListsLaws.{length_tabulate, get_d_tabulate, tabulate_ext}
+use Rattle.basics.proofs.ListsLaws.{get_d_tabulate, tabulate_ext}
 use Rattle.search.specs.PatternSet.{PatternSet, member, start, next}
 use Rattle.search.specs.Slots.{byte_at, bit_bytes}
-use Rattle.search.specs.Memory.{packed, start_byte, spread, EachBelow, next_byte, next_bytes, half_of}
-use Rattle.basics.proofs.BitsLaws.{bit_mod, digit_lt, digit_is}
+use Rattle.search.specs.Memory.{packed, start_byte, spread, next_byte, next_bytes, half_of}
+use Rattle.basics.proofs.BitsLaws.{bit_mod}
 use Rattle.search.proofs.SlotBytes.{bytes_length, bit_bytes_lem}
 use Rattle.basics.proofs.Filling.{table_all}
 use Rattle.search.proofs.PatternSetLaws.{length_set_of, member-set_of, length_start}
@@ -32,20 +32,9 @@ unfolding packed
 bit_packed w s p h = bit_bytes_lem w _ p h
 
 -- a set's bits one by one
-pub spread_at_lem : (bytes : List ℕ) (p : ℕ) → p < length bytes * 8 → get_or (spread bytes) p 0 ≡ digit (bit (get_or bytes (p / 8) 0) (p % 8))
+pub spread_at_lem : (bytes : List ℕ) (p : ℕ) → p < length bytes * 8 → get_or (spread bytes) p false ≡ bit (get_or bytes (p / 8) 0) (p % 8)
 unfolding spread
-spread_at_lem bytes p h = get_d_tabulate (length bytes * 8) (λ q. digit (bit (get_or bytes (q / 8) 0) (q % 8))) p 0 h
-
-pub spread_length : (bytes : List ℕ) → length (spread bytes) ≡ length bytes * 8
-unfolding spread
-spread_length bytes = length_tabulate (length bytes * 8) (λ q. digit (bit (get_or bytes (q / 8) 0) (q % 8)))
-
-pub spread_binary : (bytes : List ℕ) → EachBelow (length (spread bytes)) 2 (spread bytes)
-spread_binary bytes =
-    record {
-      small = λ p l.
-          subst (λ x. x < 2) (sym (spread_at_lem bytes p (subst (λ n. p < n) (spread_length bytes) l))) (digit_lt (bit (get_or bytes (p / 8) 0) (p % 8)));
-    }
+spread_at_lem bytes p h = get_d_tabulate (length bytes * 8) (λ q. bit (get_or bytes (q / 8) 0) (q % 8)) p false h
 
 -- ---- the start set
 
@@ -73,9 +62,9 @@ module _ (w d : ℕ) (room : 2 ^ suc d ≤ w * 8) where
   unfolding member
   packing = packing_bits w (2 ^ suc d) (packed w) room (packed_length w) bit_pattern
 
-  spread_packed : (s : PatternSet) → length s ≡ 2 ^ suc d → (p : ℕ) → p < 2 ^ suc d → get_or (spread (packed w s)) p 0 ≡ digit (member s p)
+  spread_packed : (s : PatternSet) → length s ≡ 2 ^ suc d → (p : ℕ) → p < 2 ^ suc d → get_or (spread (packed w s)) p false ≡ member s p
   spread_packed s e p l =
-      spread_at_lem (packed w s) p (subst (λ n. p < n * 8) (sym (packed_length w s)) (lt_of_lt_of_le l room)) ∙ ap digit (bit_pattern s e p l)
+      spread_at_lem (packed w s) p (subst (λ n. p < n * 8) (sym (packed_length w s)) (lt_of_lt_of_le l room)) ∙ bit_pattern s e p l
 
   -- ---- the next set
 
@@ -88,15 +77,15 @@ module _ (w d : ℕ) (room : 2 ^ suc d ≤ w * 8) where
 
     -- a bit of the next set
     next_bit_lem : (b j : ℕ) → j < 8
-        → eqb (get_or (spread (packed w s)) (get_or entries (b % half_of d * 8 + j) 0) 0) 1 ≡ member after ((b * 8 + j) % length after)
+        → get_or (spread (packed w s)) (get_or entries (b % half_of d * 8 + j) 0) false ≡ member after ((b * 8 + j) % length after)
     unfolding next
     next_bit_lem b j l =
         let q = b % half_of d * 8 + j in
         let p = (b * 8 + j) % 2 ^ suc d in
         let small : b % half_of d < half_of d = mod-lt b (half_some d) in
         let there : q < half_of d * 8 = omega arith in
-        ap (λ x. eqb (get_or (spread (packed w s)) x 0) 1) (maps q there ∙ reads q p (half_pattern d b j))
-        ∙ ap (λ x. eqb x 1) (spread_packed s e (back a p) (fits p)) ∙ digit_is (member s (back a p))
+        ap (λ x. get_or (spread (packed w s)) x false) (maps q there ∙ reads q p (half_pattern d b j))
+        ∙ spread_packed s e (back a p) (fits p)
         ∙ sym (ap (λ n. member after ((b * 8 + j) % n)) (length_set_of d (λ x. member s (back a x)))
         ∙ member-set_of d (λ x. member s (back a x)) p (mod-lt (b * 8 + j) (pow_pos (suc d))))
 

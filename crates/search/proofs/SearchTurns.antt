@@ -1,5 +1,6 @@
 -- What holds between two turns of a search, for items of any length and packed in any way, any steps of each, any limit and any width of a row.
 -- Assumes nothing.
+use Rattle.std.specs.Prelude.{None, Some}
 use Prim.Native.Nat.{ℕ, ◌+◌, ◌*◌, ◌≤◌, ◌<◌, ◌-◌}
 use native.Mathlib.Nat.{mul-le-mul_right}
 use native.Mathlib.Omega.{arith}
@@ -9,7 +10,6 @@ use mathlib.Core.List.{List, []}
 use lib.ListN.{length, replicate, take, drop, length-drop}
 use lib.Seq.{length-take-le}
 use borrow.Rule.Slice.PartMut.{put_mid}
-use Rattle.search.specs.declared.searching.Explored.TheVariants.{Found, TooMany}
 use Rattle.basics.specs.Lists.{below, written}
 use Rattle.basics.specs.Reach.{Listing, closed, over, reachable}
 use Rattle.search.specs.ReachableSets.{same_set}
@@ -100,15 +100,15 @@ module _ {w len : ℕ} {pack : List Bool → List ℕ} {f : List Bool → ℕ �
             ∙ search_over same_set (first_steps f count) first limit (grown_over same_set f (below (count item)) (items_in w len mem n) item) (i + 1)
             (subst (λ k. limit < length (grown_over same_set f (below k) (items_in w len mem n) item)) is_c q)
 
-        pub turn_many : (mem' rows' : List ℕ) → TooMany ≡ count_up_to limit after_turn
-            → (TooMany ≡ explored_of all) × RanItems w pack f (λ s. below (count s)) width all mem' rows'
+        pub turn_many : (mem' rows' : List ℕ) → None ≡ count_up_to limit after_turn
+            → (None ≡ explored_of all) × RanItems w pack f (λ s. below (count s)) width all mem' rows'
         turn_many mem' rows' q =
-            subst (λ l. (TooMany ≡ explored_of l) × RanItems w pack f (λ s. below (count s)) width l mem' rows')
+            subst (λ l. (None ≡ explored_of l) × RanItems w pack f (λ s. below (count s)) width l mem' rows')
             (sym (turn_over (count_many limit after_turn q))) (refl, tt)
 
         -- the row is written at the front of a part of k entries
         pub turn_next : (m at k : ℕ) (mem' row : List ℕ) → ((s : List Bool) → count s ≤ width) → c ≤ k → k ≤ width → at ≡ i * width → at + k ≤ length rows
-            → Found m ≡ count_up_to limit after_turn
+            → Some m ≡ count_up_to limit after_turn
             → ExpandedItems w len pack limit after_turn (written row_of_turn (take k (drop at rows))) mem' row
             → Turn w len pack f first limit width count all mem' (put_mid at k rows row) m (i + 1)
         turn_next m at k mem' row wide few small is_at room q e =
@@ -149,7 +149,7 @@ module _ {w len : ℕ} {pack : List Bool → List ℕ} {f : List Bool → ℕ �
 
         -- the row fills the part
         pub turn_whole : (m at k : ℕ) (mem' row : List ℕ) → ((s : List Bool) → count s ≤ width) → k ≡ c → at ≡ i * width → at + k ≤ length rows
-            → Found m ≡ count_up_to limit after_turn → ExpandedItems w len pack limit after_turn row_of_turn mem' row
+            → Some m ≡ count_up_to limit after_turn → ExpandedItems w len pack limit after_turn row_of_turn mem' row
             → Turn w len pack f first limit width count all mem' (put_mid at k rows row) m (i + 1)
         turn_whole m at k mem' row wide is-k is_at room q e =
             turn_next m at k mem' row wide (omega arith) (omega (arith, is_c, wide item)) is_at room q
@@ -162,8 +162,8 @@ module _ {w len : ℕ} {pack : List Bool → List ℕ} {f : List Bool → ℕ �
           t.goes
           ∙ search_end same_set (first_steps f count) first limit (items_in w len mem n) i within (omega (arith, t.read, none_left, length_items_in w len mem n))
 
-      pub turn_answer : Found n ≡ explored_of all
-      turn_answer = ap Found (sym (length_items_in w len mem n)) ∙ ap explored_of (sym turn_closed)
+      pub turn_answer : Some n ≡ explored_of all
+      turn_answer = ap Some (sym (length_items_in w len mem n)) ∙ ap explored_of (sym turn_closed)
 
       pub turn_left : Packing w len pack → 0 < width → ((s : List Bool) → count s ≤ width) → n * w ≤ length mem → n * width ≤ length rows
           → RanItems w pack f (λ s. below (count s)) width all mem rows

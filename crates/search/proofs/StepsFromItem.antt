@@ -1,6 +1,7 @@
 -- Taking the steps from one item, one after another: what they lead to is added to the items in memory, and the place of each is
 -- noted in a row. Items are of any length and packed in any way, and the steps are any.
 -- Assumes nothing.
+use Rattle.std.specs.Prelude.{None, Option, Some}
 use Prim.Native.Nat.{ℕ, ◌+◌, ◌*◌, ◌≤◌, ◌<◌}
 use native.Mathlib.Omega.{arith}
 use mathlib.Core.Path.{◌≡◌, refl, sym, ap, ◌∙◌, subst}
@@ -10,8 +11,6 @@ use mathlib.Core.List.{List, [], ◌∷◌, ◌++◌}
 use lib.ListN.{length, get_or, set, length-append, length-set}
 use lib.Seq.{get_or-set_same, get_or-set_other, ext_get_or}
 use borrow.Author.Tests.{lt-ltb, le-ltb}
-use Rattle.search.specs.declared.searching.Explored.{Explored}
-use Rattle.search.specs.declared.searching.Explored.TheVariants.{Found, TooMany}
 use Rattle.basics.specs.Bounded.{first_that}
 use Rattle.basics.specs.Lists.{below}
 use Rattle.basics.specs.Reach.{is_in, index_in, add_new}
@@ -87,13 +86,13 @@ module _ (w len : ℕ) (pack : List Bool → List ℕ) (f : List Bool → ℕ �
   abbrev pub Adding : (limit count size a m : ℕ) → List ℕ → List ℕ → Type 0
   Adding limit count size a m mem row = (a ≤ count) × (m ≤ limit) × (length mem ≡ size) × (length row ≡ count) × Reading a m mem row
 
-  abbrev pub Answers : (limit count : ℕ) → Explored → List ℕ → List ℕ → Type 0
+  abbrev pub Answers : (limit count : ℕ) → Option ℕ → List ℕ → List ℕ → Type 0
   Answers limit count r mem row =
       (r ≡ count_up_to limit (grown_to count)) × ExpandedItems w len pack limit (grown_to count) (row_over same_set f (below count) (grown_to count) s) mem row
 
   module _ {limit count size a m : ℕ} {mem row : List ℕ} (z : Adding limit count size a m mem row) where
     -- every step has been taken
-    pub adding_all : length row ≤ a → Answers limit count (Found m) mem row
+    pub adding_all : length row ≤ a → Answers limit count (Some m) mem row
     adding_all l =
         let e : a ≡ count = omega (arith, z.0, z.3) in
         let r : Reading count m mem row = rw e at z.4 in
@@ -168,7 +167,7 @@ module _ (w len : ℕ) (pack : List Bool → List ℕ) (f : List Bool → ℕ �
               (rw new_items (q.0 ∙ reading_count a m mem row z.4 ∙ sym e, q.1))
 
           -- it is new, and no place is left for it
-          pub adding_over : m ≡ limit → (mem' row' : List ℕ) → Answers limit count TooMany mem' row'
+          pub adding_over : m ≡ limit → (mem' row' : List ℕ) → Answers limit count None mem' row'
           unfolding grown_over
           adding_over k mem' row' =
               let longer : length (grown_to (a + 1)) ≤ length (grown_to count) = all_longer same_set (f s) xs (a + 1) count (omega (arith, l, z.3)) in

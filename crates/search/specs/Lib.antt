@@ -4,4 +4,5 @@ pub mod PatternSet
 pub mod ReachableSets
 pub mod Slots
 pub mod Maps
+pub mod Letters
 pub mod Memory

@@ -18,7 +18,3 @@ set_size = 2 ^ suc operator_limit / 8
 -- entries of a letter's map: one for each pattern of the operators alone
 abbrev pub map_size : ℕ
 map_size = 2 ^ operator_limit
-
--- bytes of places that are compared at a time
-abbrev pub run_size : ℕ
-run_size = 8

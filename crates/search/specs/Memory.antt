@@ -1,9 +1,8 @@
 -- Sets of patterns in memory, and what the search for all states leaves there.
 -- Assumes nothing.
-use Rattle.std.specs.Prelude.{ℕ, suc, ◌+◌, ◌-◌, ◌*◌, ◌/◌, ◌%◌, ◌^◌, ◌<◌, List, eqb, length, get_or}
-use Rattle.basics.specs.Bits.{bit, digit, from_bits}
+use Rattle.std.specs.Prelude.{ℕ, suc, ◌+◌, ◌-◌, ◌*◌, ◌/◌, ◌%◌, ◌^◌, Bool, false, List, length, get_or, Option}
+use Rattle.basics.specs.Bits.{bit, from_bits}
 use Rattle.basics.specs.Lists.{tabulate}
-use Rattle.search.specs.declared.searching.Explored.{Explored}
 use Rattle.search.specs.Limits.{state_limit, letter_limit, set_size}
 use Rattle.search.specs.PatternSet.{PatternSet, member, next, next_all}
 use Rattle.basics.specs.Reach.{Listing}
@@ -21,24 +20,20 @@ packed w s = bit_bytes w (λ p. member s (p % length s))
 unfoldable pub start_byte : ℕ → ℕ → ℕ
 start_byte d i = from_bits (tabulate 8 (λ j. bit (i * 8 + j) d))
 
--- the bits of some bytes, one number each
-unfoldable pub spread : List ℕ → List ℕ
-spread bytes = tabulate (length bytes * 8) (λ p. digit (bit (get_or bytes (p / 8) 0) (p % 8)))
-
--- the first k entries are below n
-pub record EachBelow (k n : ℕ) (xs : List ℕ) : Type 0 where
-  pub small : (i : ℕ) → i < k → get_or xs i 0 < n
+-- the bits of some bytes, one by one
+unfoldable pub spread : List ℕ → List Bool
+spread bytes = tabulate (length bytes * 8) (λ p. bit (get_or bytes (p / 8) 0) (p % 8))
 
 -- byte b of the next set, from the bits of the present one and a letter's map
-unfoldable pub next_byte : List ℕ → List ℕ → ℕ → ℕ
-next_byte present entries b = from_bits (tabulate 8 (λ j. eqb (get_or present (get_or entries (b * 8 + j) 0) 0) 1))
+unfoldable pub next_byte : List Bool → List ℕ → ℕ → ℕ
+next_byte present entries b = from_bits (tabulate 8 (λ j. get_or present (get_or entries (b * 8 + j) 0) false))
 
 -- the first h bytes again and again
 unfoldable pub repeated : ℕ → List ℕ → List ℕ
 repeated h bytes = tabulate (length bytes) (λ b. get_or bytes (b % h) 0)
 
 -- the w bytes of the next set, of which the first h differ: the whole formula's bit is not read
-unfoldable pub next_bytes : ℕ → List ℕ → List ℕ → ℕ → List ℕ
+unfoldable pub next_bytes : ℕ → List Bool → List ℕ → ℕ → List ℕ
 next_bytes w present entries h = tabulate w (λ b. next_byte present entries (b % h))
 
 -- how many bytes of a set over d operators differ once a letter was read, one at least
@@ -62,8 +57,8 @@ sets_in d = items_in set_size (2 ^ suc d)
 abbrev pub Holds : ℕ → List ℕ → ℕ → Type 0
 Holds d = HoldsItems set_size (2 ^ suc d) set_bytes
 
--- the bits of set i of some memory, one number each
-abbrev pub bits_in : ℕ → List ℕ → ℕ → List ℕ
+-- the bits of set i of some memory, one by one
+abbrev pub bits_in : ℕ → List ℕ → ℕ → List Bool
 bits_in d mem i = spread (set_bytes (set_in d mem i))
 
 -- the memory with the set that letters lead to from set i written in place m, and nothing else changed
@@ -80,7 +75,7 @@ grown d back = grown_over same_set (next d back)
 abbrev pub row_of : ℕ → (ℕ → ℕ → ℕ) → List ℕ → List PatternSet → PatternSet → List ℕ
 row_of d back = row_over same_set (next d back)
 
-abbrev pub count_of : List PatternSet → Explored
+abbrev pub count_of : List PatternSet → Option ℕ
 count_of = count_up_to state_limit
 
 abbrev pub Expanded : ℕ → List PatternSet → List ℕ → List ℕ → List ℕ → Type 0

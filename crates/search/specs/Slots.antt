@@ -1,12 +1,10 @@
 -- Items one after another in memory, w bytes each, and what a search among them answers and leaves. An item is a list of `len`
 -- Booleans, a set of patterns or a belief; bit p of its place is its entry p, and `pack` gives all its bytes.
 -- Assumes nothing.
-use Rattle.std.specs.Prelude.{ℕ, ◌+◌, ◌*◌, ◌/◌, ◌%◌, ◌≤◌, ◌<◌, ◌≡◌, Bool, cond, ltb, length, get_or, take, drop}
+use Rattle.std.specs.Prelude.{ℕ, ◌+◌, ◌*◌, ◌/◌, ◌%◌, ◌≤◌, ◌<◌, ◌≡◌, Bool, cond, ltb, length, get_or, take, drop, None, Option, Some}
 use mathlib.Core.List.{List, [], ◌++◌, flat_map}
 use Rattle.basics.specs.Bits.{bit, from_bits}
 use Rattle.basics.specs.Lists.{tabulate, padded}
-use Rattle.search.specs.declared.searching.Explored.{Explored}
-use Rattle.search.specs.declared.searching.Explored.TheVariants.{Found, TooMany}
 use Rattle.basics.specs.Bounded.{agree}
 use Rattle.basics.specs.Reach.{Listing, closed, over}
 use Rattle.search.specs.ReachableSets.{same_set}
@@ -34,10 +32,6 @@ pub record HoldsItems (w len : ℕ) (pack : List Bool → List ℕ) (mem : List 
 unfoldable pub with_item : ℕ → List ℕ → ℕ → List ℕ → List ℕ
 with_item w mem n bytes = take (n * w) mem ++ bytes ++ drop (n * w + w) mem
 
--- the first k bytes from a on and from b on agree
-unfoldable pub same_run : List ℕ → ℕ → ℕ → ℕ → Bool
-same_run mem a b k = agree (λ y. get_or mem (a + y) 0) (λ y. get_or mem (b + y) 0) k
-
 -- two places hold the same bytes
 unfoldable pub same_slot : ℕ → List ℕ → ℕ → ℕ → Bool
 same_slot w mem n i = agree (λ y. get_or mem (i * w + y) 0) (λ y. get_or mem (n * w + y) 0) w
@@ -45,8 +39,8 @@ same_slot w mem n i = agree (λ y. get_or mem (i * w + y) 0) (λ y. get_or mem (
 -- ---- taking every step from one item
 
 -- how many items there are then
-abbrev pub count_up_to : {K : Type 0} → ℕ → List K → Explored
-count_up_to limit xs = cond (ltb limit (length xs)) TooMany (Found (length xs))
+abbrev pub count_up_to : {K : Type 0} → ℕ → List K → Option ℕ
+count_up_to limit xs = cond (ltb limit (length xs)) None (Some (length xs))
 
 -- the memory holds the items xs, and the row is as given; after too many both are open, and a caller clears or drops them
 pub record ExpandedItems (w len : ℕ) (pack : List Bool → List ℕ) (limit : ℕ) (xs : List (List Bool)) (row mem row' : List ℕ) : Type 0 where
@@ -56,9 +50,9 @@ pub record ExpandedItems (w len : ℕ) (pack : List Bool → List ℕ) (limit : 
 
 -- ---- what the whole search answers and leaves
 
-abbrev pub explored_of : {K : Type 0} → Listing K → Explored
-explored_of (closed xs) = Found (length xs)
-explored_of over = TooMany
+abbrev pub explored_of : {K : Type 0} → Listing K → Option ℕ
+explored_of (closed xs) = Some (length xs)
+explored_of over = None
 
 -- the items one after another; nothing if there are too many
 abbrev pub items_of : {K : Type 0} → (K → List ℕ) → Listing K → List ℕ

@@ -2,10 +2,12 @@
 // nothing. It serves the crates `states` and `beliefs`, which show what it asks.
 #![tactic(auto)]
 
+mod letters;
 mod searching;
 mod sets;
 mod sizes;
 
-pub use searching::{Explored, search};
+pub use letters::Letters;
+pub use searching::search;
 pub use sets::{find, same_slot};
 pub use sizes::{LETTER_LIMIT, MAP, SET, STATE_LIMIT};

@@ -7,11 +7,11 @@ pub const STATE_LIMIT: usize = 128;
 // The most letters: the values of all signals.
 pub const LETTER_LIMIT: usize = 1 << SIGNAL_LIMIT;
 
-// Bytes of a set: a bit for each pattern of one obligation more than there are operators.
-pub const SET: usize = (1 << (OPERATOR_LIMIT + 1)) / 8;
+// Patterns of one obligation more than there are operators.
+pub(crate) const PATTERNS: usize = 1 << (OPERATOR_LIMIT + 1);
 
-// Bytes of places that are compared at a time: a loop of so few is unrolled, whatever the width of a place.
-pub(crate) const RUN: usize = 8;
+// Bytes of a set: a bit for each pattern.
+pub const SET: usize = PATTERNS / 8;
 
 // Entries of a letter's map: one for each pattern of the operators alone.
 pub const MAP: usize = 1 << OPERATOR_LIMIT;

@@ -1,5 +1,6 @@
 -- The search over letters by number and map is the search for the states of the formula.
 -- Assumes nothing.
+use Rattle.std.specs.Prelude.{Option}
 use Prim.Native.Nat.{ℕ, ◌+◌, ◌≤◌, ◌<◌}
 use native.Mathlib.Nat.{le_refl}
 use mathlib.Core.Path.{◌≡◌, refl, sym, ap, ◌∙◌}
@@ -11,7 +12,6 @@ use Rattle.basics.specs.Lists.{tabulate, below, padded}
 use Rattle.formula.specs.declared.parts.Part.{Part}
 use Rattle.basics.specs.Limits.{signal_limit}
 use Rattle.formula.specs.Letter.{Counts}
-use Rattle.search.specs.declared.searching.Explored.{Explored}
 use Rattle.search.specs.Limits.{state_limit, letter_limit}
 use Rattle.search.specs.PatternSet.{PatternSet, member, set_of, start, next, next_all}
 use Rattle.obligations.specs.Obligation.{operators_of, back}
@@ -68,7 +68,7 @@ module _ (ps : List Part) (letters : List ℕ) (d n : ℕ) (maps firsts : List �
   successors_same over = refl
 
   -- so what the search answers and leaves is that of the states
-  pub explored : (r : Explored) (x y : ℕ) (mem rows : List ℕ) → r ≡ explored_of (reachable_sets d by_map (below n) state_limit)
+  pub explored : (r : Option ℕ) (x y : ℕ) (mem rows : List ℕ) → r ≡ explored_of (reachable_sets d by_map (below n) state_limit)
       → mem ≡ padded x (sets_of (reachable_sets d by_map (below n) state_limit))
       → rows ≡ padded y (successors_of d by_map (below n) (reachable_sets d by_map (below n) state_limit))
       → (r ≡ explored_of (states_of ps letters state_limit)) × ((mem ≡ padded x (sets_of (states_of ps letters state_limit)))

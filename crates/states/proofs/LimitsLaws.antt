@@ -1,6 +1,6 @@
 -- What is used of the limits, and what follows for planes and maps over no more operators.
 -- Assumes nothing.
-use Prim.Native.Nat.{ℕ, suc, ◌+◌, ◌-◌, ◌*◌, ◌^◌, ◌≤◌, ◌<◌}
+use Prim.Native.Nat.{ℕ, suc, ◌+◌, ◌-◌, ◌*◌, ◌^◌, ◌≤◌}
 use native.Mathlib.Omega.{arith}
 use mathlib.Core.Path.{◌≡◌, refl}
 use lib.Pow.{pow_mono}
@@ -14,10 +14,6 @@ use Rattle.states.specs.Limits.{slot_size, plane_count}
 -- the words of all planes hold a whole map: there are no fewer operators than a word has patterns for
 planes_whole : plane_count * word_size ≡ map_size
 planes_whole = refl
-
--- an entry of a map is a byte
-pub slot_byte : slot_size ≤ 8
-slot_byte = omega arith
 
 -- the letters are numbered in two bytes
 pub letter_bytes : letter_limit ≤ 2 ^ 16
@@ -43,12 +39,3 @@ planes_room d = rw planes_bits (pow_mono {i = d} {j = d - word_bits + word_bits}
 pub planes_few : (d : ℕ) → d ≤ operator_limit → planes_of d ≤ plane_count
 unfolding planes_of
 planes_few d h = pow_mono {i = d - word_bits} {j = operator_limit - word_bits} (omega (arith, h))
-
--- one for less than a word
-pub planes_one : (d : ℕ) → d < word_bits → 1 ≡ planes_of d
-unfolding planes_of
-planes_one d h = let z : d - word_bits ≡ 0 = omega arith in rw z
-
-pub planes_many : (d n : ℕ) → n ≡ 2 ^ (d - word_bits) → n ≡ planes_of d
-unfolding planes_of
-planes_many d n is = is

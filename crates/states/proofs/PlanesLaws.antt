@@ -16,7 +16,7 @@ use Rattle.obligations.specs.Words.{back_lanes}
 use Rattle.states.specs.Limits.{slot_size, plane_size}
 use Rattle.states.specs.Planes.{slot_at, plane, planes_to}
 use Rattle.basics.proofs.Stores.{get_d_sets_other, get_d_sets_same}
-use Rattle.basics.proofs.Filling.{table_more, table_all}
+use Rattle.basics.proofs.Filling.{table_more}
 use Rattle.basics.proofs.LentPart.{part_at, mid_sets}
 
 module _ (ps : List Part) (letters : List ℕ) (w : ℕ) where
@@ -37,10 +37,6 @@ module _ (ps : List Part) (letters : List ℕ) (w : ℕ) where
       → set t y r ≡ plane ps letters w (y + 1) ++ drop (y + 1) d
   unfolding plane
   plane_more y d t r h e f = table_more y word_at d t r h e f
-
-  pub plane_end : (y n : ℕ) (d t : List ℕ) → y ≡ n → length d ≡ n → t ≡ plane ps letters w y ++ drop y d → t ≡ plane ps letters w n
-  unfolding plane
-  plane_end y n d t e l f = table_all y n word_at d t e l f
 
   -- a plane behind another, of letters that follow
   plane_append : (a n : ℕ) (more : List ℕ)

@@ -8,4 +8,3 @@ mod maps;
 mod sizes;
 
 pub use automaton::explore;
-pub use search::Explored;

@@ -1,10 +1,11 @@
 -- What a start and a step answer is what is due, and what is due is what they answer.
 -- Assumes nothing.
-use Prim.Native.Nat.{ℕ, ◌^◌}
+use Rattle.std.specs.Prelude.{Ok}
+use Prim.Native.Nat.{ℕ, ◌^◌, ◌<◌}
 use native.Mathlib.Omega.{arith}
 use mathlib.Core.Path.{◌≡◌, refl, sym, ap, subst}
 use mathlib.Core.Logic.{◌↔◌, inl, inr}
-use mathlib.Core.Bool.{Bool, true}
+use mathlib.Core.Bool.{Bool, true, false}
 use mathlib.Core.List.{List, [], ◌∷◌}
 use lib.Dec.{eqb, ltb}
 use borrow.Author.Tests.{eqb-true, eqb-false, ltb-true, ltb-false, lt-ltb, le-ltb}
@@ -15,17 +16,16 @@ use Rattle.lines.specs.Refusal.{Told, values, refused}
 use Rattle.lines.proofs.RefusalLaws.{told_apart, one_number}
 use Rattle.basics.specs.declared.order.Order.{Order}
 use Rattle.basics.specs.declared.order.Order.TheVariants.{Set, Read}
-use Rattle.play.specs.Cells.{stop_cell, first_cell, is_stop, next_cell}
+use Rattle.play.specs.Cells.{stop_cell, first_cell, is_stop, next_cell, rank_cell}
 use Rattle.tables.specs.declared.shape.Shape.{Shape}
 use Rattle.stepping.specs.declared.position.Position.{Position}
 use Rattle.stepping.specs.declared.position.Moved.{Moved}
-use Rattle.stepping.specs.declared.position.Left.{Left}
 use Rattle.stepping.specs.Position.{answer_of, start_at, move_from, is_standing, is_holding, start_of, step_of, is_stopped, left_of, told_answer, told_left}
 use Rattle.stepping.specs.Position.{start_choice, step_choice, StartedAs, bad_start, started}
 use Rattle.stepping.specs.Position.{Holds, OnStop, SteppedAs, bad_place, stopped, bad_observation, moved, LeftAs, no_place, shown}
 use Rattle.stepping.proofs.PositionLaws.{standing_says, holding_says}
 
-told_of : (c : ℕ) → told_answer (answer_of c) ≡ values (c ∷ [])
+told_of : (c : ℕ) → told_answer (Ok (answer_of c)) ≡ values (c ∷ [])
 told_of c =
     elim (test (eqb c stop_cell)) [
       | inl t ↦ rw t (ap (λ d. values (d ∷ [])) (sym (eqb-true c stop_cell t)))
@@ -106,6 +106,11 @@ module _ (t : List ℕ) (shape : Shape) (observation : ℕ) (p : Position) where
       → (m ≡ step_of t shape observation p) × SteppedAs t shape observation p (told_answer m.answer) m.position
   step_told m e = (e, rw e step_due)
 
+  pub step_moves : is_holding t shape p ≡ true → (¬ OnStop t shape p) → observation < 2 ^ shape.observed
+      → step_of t shape observation p ≡ move_from shape.order t p.row observation
+  unfolding step_of
+  step_moves e n o = rw (e, says_false stop_says n, lt-ltb observation (2 ^ shape.observed) o) refl
+
   step_answered : (a : Told) (q : Position) → SteppedAs t shape observation p a q
       → (told_answer (step_of t shape observation p).answer ≡ a) × ((step_of t shape observation p).position ≡ q)
   unfolding step_of
@@ -144,16 +149,19 @@ module _ (t : List ℕ) (shape : Shape) (observation : ℕ) (p : Position) where
 -- ---- the steps left
 
 module _ (t : List ℕ) (shape : Shape) (p : Position) where
+  pub left_there : is_holding t shape p ≡ true → LeftAs t shape p (values (rank_cell shape.order t p.row ∷ []))
+  left_there e = shown ((holding_says t shape p).0 e)
+
+  pub left_nowhere : is_holding t shape p ≡ false → LeftAs t shape p (refused 13 0)
+  left_nowhere f = no_place (λ h. clash ((holding_says t shape p).1 h) f)
+
   left_due : LeftAs t shape p (told_left (left_of t shape p))
   unfolding left_of
   left_due =
       elim (test (is_holding t shape p)) [
-        | inl e ↦ rw e (shown ((holding_says t shape p).0 e))
-        | inr f ↦ rw f (no_place (λ h. clash ((holding_says t shape p).1 h) f))
+        | inl e ↦ rw e (left_there e)
+        | inr f ↦ rw f (left_nowhere f)
       ]
-
-  pub left_told : (r : Left) → r ≡ left_of t shape p → (r ≡ left_of t shape p) × LeftAs t shape p (told_left r)
-  left_told r e = (e, rw e left_due)
 
   left_answered : (a : Told) → LeftAs t shape p a → told_left (left_of t shape p) ≡ a
   unfolding left_of

@@ -1,6 +1,7 @@
 -- A cabinet stops in time: a step that is answered leads to a lower rank, whatever the table; and where it may stand on every row, it is
 -- refused nothing before it stops, and stops within the rank of the row where it stands.
 -- Assumes nothing.
+use Rattle.std.specs.Prelude.{Ok}
 use Prim.Native.Nat.{ℕ, zero, suc, ◌+◌, ◌^◌, ◌≤◌, ◌<◌, zero-le}
 use native.Mathlib.Nat.{le_refl}
 use native.Mathlib.Omega.{arith}
@@ -17,7 +18,6 @@ use Rattle.lines.proofs.RefusalLaws.{told_apart}
 use Rattle.play.specs.Cells.{stop_cell, first_cell, is_stop, next_cell, rank_cell}
 use Rattle.tables.specs.declared.shape.Shape.{Shape}
 use Rattle.stepping.specs.declared.position.Position.{Position}
-use Rattle.stepping.specs.declared.position.Left.TheVariants.{Steps}
 use Rattle.stepping.specs.Position.{start_of, step_of, is_stopped, left_of, told_answer, Standing, start_choice, step_choice, started}
 use Rattle.stepping.specs.Position.{Held, Holds, SteppedAs, bad_place, stopped, bad_observation, moved}
 use Rattle.stepping.specs.Stopping.{AllPossible, position_after, StopsWithin}
@@ -50,7 +50,7 @@ module _ (t : List ℕ) (shape : Shape) where
       at a q (moved h n o) e = h.0.good.ranked.lower s (n, o)
 
   -- the number that is shown
-  shown_there : (p : Position) → Holds t shape p → left_of t shape p ≡ Steps (rank p)
+  shown_there : (p : Position) → Holds t shape p → left_of t shape p ≡ Ok (rank p)
   unfolding left_of
   shown_there p h = rw ((holding_says t shape p).1 h) refl
 
@@ -87,7 +87,7 @@ module _ (t : List ℕ) (shape : Shape) (stands : (row : ℕ) → row < shape.ro
         stops = rw (stopped_there t shape p h, e) refl;
         shown = λ k l.
             let z : 0 ≡ k = omega arith in
-            subst (λ (k : ℕ). (left : ℕ) × (left_of t shape (position_after t shape observation p k) ≡ Steps left) × (0 ≤ k + left)) z
+            subst (λ (k : ℕ). (left : ℕ) × (left_of t shape (position_after t shape observation p k) ≡ Ok left) × (0 ≤ k + left)) z
             (rank t shape p, shown_there t shape p h, zero-le);
       }
 
@@ -120,7 +120,7 @@ module _ (t : List ℕ) (shape : Shape) (stands : (row : ℕ) → row < shape.ro
         goes (suc k) l = w.goes k (omega arith)
 
         shown : (k : ℕ) → k ≤ suc w.steps
-            → (left : ℕ) × (left_of t shape (position_after t shape observation p k) ≡ Steps left) × (suc w.steps ≤ k + left)
+            → (left : ℕ) × (left_of t shape (position_after t shape observation p k) ≡ Ok left) × (suc w.steps ≤ k + left)
         shown zero l = (rank t shape p, shown_there t shape p h, omega (arith, w.within, lowers))
         shown (suc k) l = let (left, q, b) = w.shown k (omega arith) in (left, q, omega arith)
 

@@ -1,6 +1,6 @@
 -- The cabinet (REFERENCE.md, The cabinet): its position (a place in the trade's words), what its calls answer and make of it, what is due.
 -- Assumes nothing.
-use Rattle.std.specs.Prelude.{ℕ, ◌^◌, ◌≤◌, ◌<◌, ◌≡◌, Bool, true, cond, ◌&&◌, List, [], ◌∷◌, eqb, ltb, length}
+use Rattle.std.specs.Prelude.{ℕ, ◌^◌, ◌≤◌, ◌<◌, ◌≡◌, Bool, true, cond, ◌&&◌, List, [], ◌∷◌, eqb, ltb, length, Err, Ok, Result}
 use Rattle.lines.specs.declared.refusal.Refusal.{Refusal}
 use Rattle.lines.specs.declared.refusal.Refusal.TheVariants.{BadTable, Stopped, BadObservation}
 use Rattle.lines.specs.Refusal.{Told, values, refused, told_refusal}
@@ -10,11 +10,8 @@ use Rattle.play.specs.Cells.{stop_cell, first_cell, is_stop, choice_cell, next_c
 use Rattle.tables.specs.declared.shape.Shape.{Shape}
 use Rattle.stepping.specs.declared.position.Position.{Position}
 use Rattle.stepping.specs.declared.position.Answer.{Answer}
-use Rattle.stepping.specs.declared.position.Answer.TheVariants.{Choice, Stop, Ready, Refused}
+use Rattle.stepping.specs.declared.position.Answer.TheVariants.{Choice, Stop, Ready}
 use Rattle.stepping.specs.declared.position.Moved.{Moved}
-use Rattle.stepping.specs.declared.position.Left.{Left}
-use Rattle.stepping.specs.declared.position.Left.TheVariants.{Steps}
-use Rattle.stepping.specs.declared.position.Left.TheVariants as left
 use Rattle.wellformed.specs.WellFormed.{Sized, GoodRow, is_sized, is_row}
 
 -- the answer for a row's first cell under `Set`: 65535 is stop, another number a choice
@@ -23,11 +20,11 @@ answer_of c = cond (eqb c stop_cell) Stop (Choice c)
 
 -- under `Set`, on a row: its first cell is the standing choice, and answered
 abbrev pub move_to : List ℕ → ℕ → Moved
-move_to t row = record { position = record { row = row; choice = first_cell Set t row }; answer = answer_of (first_cell Set t row) }
+move_to t row = record { position = record { row = row; choice = first_cell Set t row }; answer = Ok (answer_of (first_cell Set t row)) }
 
 -- under `Read`, on row 0: no choice is set yet; the answer is that the cabinet is ready for an observation, or stop
 abbrev pub get_ready : List ℕ → Moved
-get_ready t = record { position = record { row = 0; choice = stop_cell }; answer = cond (is_stop Read t 0) Stop Ready }
+get_ready t = record { position = record { row = 0; choice = stop_cell }; answer = Ok (cond (is_stop Read t 0) Stop Ready) }
 
 -- on row 0
 abbrev pub start_at : Order → List ℕ → Moved
@@ -40,11 +37,11 @@ abbrev pub move_from : Order → List ℕ → (row observation : ℕ) → Moved
 move_from Set t row s = move_to t (next_cell Set t row s)
 move_from Read t row s =
     let c = choice_cell Read t row s in
-    record { position = record { row = next_cell Read t row s; choice = c }; answer = Choice c }
+    record { position = record { row = next_cell Read t row s; choice = c }; answer = Ok (Choice c) }
 
 -- a refusal leaves the position as it was
 abbrev pub refused_at : Position → Refusal → Moved
-refused_at p r = record { position = p; answer = Refused r }
+refused_at p r = record { position = p; answer = Err r }
 
 -- the tests of number 13 for a row that the cabinet stands on
 abbrev pub is_standing : List ℕ → Shape → ℕ → Bool
@@ -76,21 +73,21 @@ unfoldable pub is_stopped : List ℕ → Shape → Position → Bool
 is_stopped t shape p = is_holding t shape p && is_stop shape.order t p.row
 
 -- how many steps are left at most: the rank of its row
-unfoldable pub left_of : List ℕ → Shape → Position → Left
-left_of t shape p = cond (is_holding t shape p) (Steps (rank_cell shape.order t p.row)) (left.Refused BadTable)
+unfoldable pub left_of : List ℕ → Shape → Position → Result ℕ Refusal
+left_of t shape p = cond (is_holding t shape p) (Ok (rank_cell shape.order t p.row)) (Err BadTable)
 
 -- ---- what is due: the answer in the reference's terms, and the position afterwards
 
 -- a choice, 65535 for stop and where nothing is set yet; or a refusal's number and place
-abbrev pub told_answer : Answer → Told
-told_answer (Choice c) = values (c ∷ [])
-told_answer Stop = values (stop_cell ∷ [])
-told_answer Ready = values (stop_cell ∷ [])
-told_answer (Refused r) = told_refusal r
+abbrev pub told_answer : Result Answer Refusal → Told
+told_answer (Ok (Choice c)) = values (c ∷ [])
+told_answer (Ok Stop) = values (stop_cell ∷ [])
+told_answer (Ok Ready) = values (stop_cell ∷ [])
+told_answer (Err r) = told_refusal r
 
-abbrev pub told_left : Left → Told
-told_left (Steps r) = values (r ∷ [])
-told_left (left.Refused r) = told_refusal r
+abbrev pub told_left : Result ℕ Refusal → Told
+told_left (Ok r) = values (r ∷ [])
+told_left (Err r) = told_refusal r
 
 -- number 13 is not met where the cabinet stands: in the table's sizes, in the row, and in the next rows that it may lead to
 pub record Standing (t : List ℕ) (shape : Shape) (row : ℕ) : Type 0 where

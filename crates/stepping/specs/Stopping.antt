@@ -1,10 +1,9 @@
 -- A cabinet that runs until it stops: from a position, stepped with one observation after another.
 -- Assumes nothing.
-use Rattle.std.specs.Prelude.{ℕ, zero, suc, ◌+◌, ◌^◌, ◌≤◌, ◌<◌, ◌≡◌, true, false, List, [], ◌∷◌}
+use Rattle.std.specs.Prelude.{ℕ, zero, suc, ◌+◌, ◌^◌, ◌≤◌, ◌<◌, ◌≡◌, true, false, List, [], ◌∷◌, Ok}
 use Rattle.lines.specs.Refusal.{values}
 use Rattle.tables.specs.declared.shape.Shape.{Shape}
 use Rattle.stepping.specs.declared.position.Position.{Position}
-use Rattle.stepping.specs.declared.position.Left.TheVariants.{Steps}
 use Rattle.stepping.specs.Position.{step_of, is_stopped, left_of, told_answer}
 
 -- observations, one a step, that are all possible
@@ -27,4 +26,4 @@ module _ (t : List ℕ) (shape : Shape) where
         (is_stopped t shape q ≡ false) × (c : ℕ) × (told_answer (step_of t shape (observation k) q).answer ≡ values (c ∷ []))
     pub stops : is_stopped t shape (position_after observation p steps) ≡ true
     -- at any time it stops within the number that is shown
-    pub shown : (k : ℕ) → k ≤ steps → (left : ℕ) × (left_of t shape (position_after observation p k) ≡ Steps left) × (steps ≤ k + left)
+    pub shown : (k : ℕ) → k ≤ steps → (left : ℕ) × (left_of t shape (position_after observation p k) ≡ Ok left) × (steps ≤ k + left)

@@ -6,5 +6,5 @@
 mod position;
 
 pub use position::{
-    Answer, Left, Moved, Position, is_stopped, start, start_from, step, step_from, steps_left,
+    Answer, Moved, Position, is_stopped, start, start_from, step, step_from, steps_left,
 };

@@ -1,15 +1,15 @@
 // A running cabinet: the position, and the calls that start it and step it, by value and on a position that is lent.
-ghost use Rattle.std.specs.Prelude.{◌≡◌, ◌+◌, ◌*◌, ◌≤◌, ◌<◌, length};
-ghost use Rattle.basics.specs.declared.order.Order.TheVariants.{Set, Read};
+ghost use Rattle.std.specs.Prelude.{◌≡◌, ◌<◌, true, false, cond, eqb, Ok, MatchOption};
 ghost use Rattle.play.specs.Limits.{side_limit};
-ghost use Rattle.play.specs.Cells.{row_size, next_cell};
-ghost use Rattle.stepping.specs.Position.{move_to, get_ready, start_at, move_from, refused_at, is_standing, is_held, is_holding};
+ghost use Rattle.play.specs.Cells.{stop_cell, next_cell};
+ghost use Rattle.stepping.specs.declared.position.Answer.TheVariants.{Stop, Ready};
+ghost use Rattle.stepping.specs.Position.{answer_of, start_at, move_from, refused_at, is_standing, is_held, is_holding};
 ghost use Rattle.stepping.specs.Position.{start_of, step_of, is_stopped, left_of, told_answer, told_left, StartedAs, SteppedAs, LeftAs};
 
 use basics::Order;
 use lines::Refusal;
-use tables::{STOP, Shape, choice_cell, first_cell, next_cell, rank_cell};
-use wellformed::{is_row, is_sized};
+use tables::{STOP, Shape};
+use wellformed::SizedTable;
 
 // The row, and the choice last set: 65535 for stop, and where none is set yet.
 #[derive(Clone, Copy)]
@@ -18,27 +18,19 @@ pub struct Position {
     pub choice: u16,
 }
 
-// A choice, stop, ready for an observation where no choice is set yet, or one refusal.
+// A choice, stop, or ready for an observation where no choice is set yet.
 #[derive(Clone, Copy)]
 pub enum Answer {
     Choice(u16),
     Stop,
     Ready,
-    Refused(Refusal),
 }
 
-// The position afterwards, and the answer.
+// The position afterwards, and the answer or one refusal.
 #[derive(Clone, Copy)]
 pub struct Moved {
     pub position: Position,
-    pub answer: Answer,
-}
-
-// How many steps are left at most, or one refusal.
-#[derive(Clone, Copy)]
-pub enum Left {
-    Steps(u16),
-    Refused(Refusal),
+    pub answer: Result<Answer, Refusal>,
 }
 
 // A refusal: the position stays as it was.
@@ -47,171 +39,160 @@ fn refuse(held: Position, r: Refusal) -> Moved
 {
     Moved {
         position: held,
-        answer: Answer::Refused(r),
+        answer: Err(r),
     }
 }
 
-// Under `Set`, on a row: its choice is set, or it stops.
-fn move_to(table: &[u16], row: usize) -> Moved
-    requires { row * row_size Set + row_size Set ≤ length table.now }
-    ensures { result ≡ move_to table.now row }
+// Under `Set`, on a row by its first cell: its choice is set, or it stops.
+fn move_to(row: usize, choice: u16) -> Moved
+    ensures { result ≡ record { position = record { row = row; choice = choice }; answer = Ok (answer_of choice) } }
 {
-    let choice = first_cell(table, Order::Set, row);
-    let position = Position { row, choice };
-    if choice == STOP {
-        return Moved {
-            position,
-            answer: Answer::Stop,
-        };
-    }
+    let answer = if choice == STOP {
+        Answer::Stop
+    } else {
+        Answer::Choice(choice)
+    };
     Moved {
-        position,
-        answer: Answer::Choice(choice),
+        position: Position { row, choice },
+        answer: Ok(answer),
     }
 }
 
 // Under `Read`, on row 0: no choice is set yet.
-fn get_ready(table: &[u16]) -> Moved
-    requires { row_size Read ≤ length table.now }
-    ensures { result ≡ get_ready table.now }
+fn get_ready(first: u16) -> Moved
+    ensures { result ≡ record { position = record { row = 0; choice = stop_cell }; answer = Ok (cond (eqb first stop_cell) Stop Ready) } }
 {
-    let position = Position {
-        row: 0,
-        choice: STOP,
+    let answer = if first == STOP {
+        Answer::Stop
+    } else {
+        Answer::Ready
     };
-    if first_cell(table, Order::Read, 0) == STOP {
-        return Moved {
-            position,
-            answer: Answer::Stop,
-        };
-    }
     Moved {
-        position,
-        answer: Answer::Ready,
+        position: Position {
+            row: 0,
+            choice: STOP,
+        },
+        answer: Ok(answer),
     }
 }
 
 // On row 0.
-fn start_at(table: &[u16], order: Order) -> Moved
-    requires { row_size order ≤ length table.now }
-    ensures { result ≡ start_at order table.now }
+fn start_at(table: &SizedTable) -> Moved
+    ensures { result ≡ start_at table.now.shape.order table.now.cells.now }
 {
-    match order {
-        Order::Set => move_to(table, 0),
-        Order::Read => get_ready(table),
+    let first = table.first(0);
+    match table.shape.order {
+        Order::Set => move_to(0, first),
+        Order::Read => get_ready(first),
     }
 }
 
 // From a row, by an observation, on to the next row.
-fn move_from(table: &[u16], order: Order, row: usize, observation: usize) -> Moved
-    requires order_in_bounds { row * row_size order + row_size order ≤ length table.now }
+fn move_from(table: &SizedTable, row: usize, observation: usize) -> Moved
+    requires row_lt_rows { row < table.now.shape.rows }
     requires observation_lt_side_limit { observation < side_limit }
-    requires order_in_bounds_2 { next_cell order table.now row observation * row_size order + row_size order ≤ length table.now }
-    ensures { result ≡ move_from order table.now row observation }
+    requires next_lt_rows { next_cell table.now.shape.order table.now.cells.now row observation < table.now.shape.rows }
+    ensures { result ≡ move_from table.now.shape.order table.now.cells.now row observation }
 {
-    let next = next_cell(table, order, row, observation) as usize;
-    match order {
-        Order::Set => move_to(table, next),
+    let next = table.next(row, observation) as usize;
+    match table.shape.order {
+        Order::Set => move_to(next, table.first(next)),
         Order::Read => {
-            let choice = choice_cell(table, order, row, observation);
+            let choice = table.choice(row, observation);
             Moved {
                 position: Position { row: next, choice },
-                answer: Answer::Choice(choice),
+                answer: Ok(Answer::Choice(choice)),
             }
         }
     }
 }
 
-// Whether a cabinet may stand on a row: the tests of number 13.
-fn is_standing(table: &[u16], shape: Shape, row: usize) -> bool
-    ensures { result ≡ is_standing table.now shape row }
+// The table, where a cabinet may stand on a row: the tests of number 13.
+fn standing<'a>(table: &'a [u16], shape: Shape, row: usize) -> Option<SizedTable<'a>>
+    ensures { MatchOption result (is_standing table.now shape row ≡ false)
+        (λ t. (t.cells.now ≡ table.now) × (t.shape ≡ shape) × (is_standing table.now shape row ≡ true)) }
 {
-    if !is_sized(table.len(), shape) | (row >= shape.rows) {
-        return false;
+    match SizedTable::new(table, shape) {
+        Some(table) if row < shape.rows && table.is_row(row) => Some(table),
+        _ => None,
     }
-    is_row(table, shape, row)
 }
 
 // Whether the standing choice is the row's. Under `Read` it is not compared.
-fn is_held(table: &[u16], order: Order, position: Position) -> bool
-    requires { position.row * row_size order + row_size order ≤ length table.now }
-    ensures { result ≡ is_held order table.now position }
+fn is_held(table: &SizedTable, position: Position) -> bool
+    requires { position.row < table.now.shape.rows }
+    ensures { result ≡ is_held table.now.shape.order table.now.cells.now position }
 {
-    let standing = first_cell(table, order, position.row);
-    let held = position.choice;
-    match order {
-        Order::Set => standing == held,
+    match table.shape.order {
+        Order::Set => table.first(position.row) == position.choice,
         Order::Read => true,
     }
 }
 
-// Whether a cabinet may stand at a position: the tests of number 13.
-fn is_holding(table: &[u16], shape: Shape, position: Position) -> bool
-    ensures { result ≡ is_holding table.now shape position }
+// The table, where a cabinet may stand at a position: the tests of number 13.
+fn holding<'a>(table: &'a [u16], shape: Shape, position: Position) -> Option<SizedTable<'a>>
+    ensures { MatchOption result (is_holding table.now shape position ≡ false)
+        (λ t. (t.cells.now ≡ table.now) × (t.shape ≡ shape) × (is_holding table.now shape position ≡ true)) }
 {
-    if !is_standing(table, shape, position.row) {
-        return false;
+    match standing(table, shape, position.row) {
+        Some(table) if is_held(&table, position) => Some(table),
+        _ => None,
     }
-    let order = shape.order;
-    is_held(table, order, position)
 }
 
 // Whether the cabinet stands on a stop row, where a step is refused with 14.
+#[tactic(auto, unfolding(crate::specs::Position::is_stopped))]
 pub fn is_stopped(table: &[u16], shape: Shape, position: Position) -> bool
     ensures { result ≡ is_stopped table.now shape position }
 {
-    if !is_holding(table, shape, position) {
-        return false;
+    match holding(table, shape, position) {
+        Some(table) => table.first(position.row) == STOP,
+        None => false,
     }
-    let order = shape.order;
-    let first = first_cell(table, order, position.row);
-    first == STOP
 }
 
 // How many steps are left at most, as an operator's panel shows it: the rank of the row where the cabinet stands. Refusal: 13.
-pub fn steps_left(table: &[u16], shape: Shape, position: Position) -> Left
+#[tactic(auto, using(crate::proofs::AnswersDue::left_there, crate::proofs::AnswersDue::left_nowhere), unfolding(crate::specs::Position::left_of))]
+pub fn steps_left(table: &[u16], shape: Shape, position: Position) -> Result<u16, Refusal>
     ensures { (result ≡ left_of table.now shape position) × LeftAs table.now shape position (told_left result) }
 {
-    if !is_holding(table, shape, position) {
-        return Left::Refused(Refusal::BadTable);
+    match holding(table, shape, position) {
+        Some(table) => Ok(table.rank(position.row)),
+        None => Err(Refusal::BadTable),
     }
-    let order = shape.order;
-    Left::Steps(rank_cell(table, order, position.row))
 }
 
 // Starts at row 0, whatever the old position. Refusal: 13.
+#[tactic(auto, using(crate::proofs::AnswersDue::start_told), unfolding(crate::specs::Position::start_of))]
 pub fn start_from(table: &[u16], shape: Shape, position: Position) -> Moved
     ensures { (result ≡ start_of table.now shape position)
         × StartedAs table.now shape position (told_answer result.answer) result.position }
 {
-    if !is_standing(table, shape, 0) {
-        return refuse(position, Refusal::BadTable);
+    match standing(table, shape, 0) {
+        Some(table) => start_at(&table),
+        None => refuse(position, Refusal::BadTable),
     }
-    let order = shape.order;
-    start_at(table, order)
 }
 
 // Moves to the next row for an observation. Refusals: 13, 14, 15.
+#[tactic(auto, using(crate::proofs::AnswersDue::step_told, crate::proofs::AnswersDue::step_moves, crate::proofs::PositionLaws::in_side, crate::proofs::PositionLaws::next_in), unfolding(crate::specs::Position::step_of))]
 pub fn step_from(table: &[u16], shape: Shape, observation: usize, position: Position) -> Moved
     ensures { (result ≡ step_of table.now shape observation position)
         × SteppedAs table.now shape observation position (told_answer result.answer) result.position }
 {
-    if !is_holding(table, shape, position) {
-        return refuse(position, Refusal::BadTable);
+    match holding(table, shape, position) {
+        None => refuse(position, Refusal::BadTable),
+        Some(table) if table.first(position.row) == STOP => refuse(position, Refusal::Stopped),
+        Some(table) if observation >= table.observations() => refuse(
+            position,
+            Refusal::BadObservation,
+        ),
+        Some(table) => move_from(&table, position.row, observation),
     }
-    let order = shape.order;
-    let first = first_cell(table, order, position.row);
-    if first == STOP {
-        return refuse(position, Refusal::Stopped);
-    }
-    if observation >= 1 << shape.observed {
-        return refuse(position, Refusal::BadObservation);
-    }
-    move_from(table, order, position.row, observation)
 }
 
 // `start_from` on a position that is lent.
-pub fn start(table: &[u16], shape: Shape, position: &mut Position) -> Answer
+pub fn start(table: &[u16], shape: Shape, position: &mut Position) -> Result<Answer, Refusal>
     ensures { (result ≡ (start_of table.now shape position.old).answer)
         × (position.new ≡ (start_of table.now shape position.old).position)
         × StartedAs table.now shape position.old (told_answer result) position.new }
@@ -222,7 +203,12 @@ pub fn start(table: &[u16], shape: Shape, position: &mut Position) -> Answer
 }
 
 // `step_from` on a position that is lent.
-pub fn step(table: &[u16], shape: Shape, observation: usize, position: &mut Position) -> Answer
+pub fn step(
+    table: &[u16],
+    shape: Shape,
+    observation: usize,
+    position: &mut Position,
+) -> Result<Answer, Refusal>
     ensures { (result ≡ (step_of table.now shape observation position.old).answer)
         × (position.new ≡ (step_of table.now shape observation position.old).position)
         × SteppedAs table.now shape observation position.old (told_answer result) position.new }

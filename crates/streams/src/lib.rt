@@ -6,11 +6,15 @@
 #![tactic(auto)]
 
 mod arguments;
+mod console;
+mod fields;
 mod reading;
 mod reading_lines;
-mod writing;
 
-pub use arguments::{Argument, argument_at, is_help, is_option, open};
-pub use reading::{Input, drain, first, read_to_end};
+pub use arguments::{Request, argument_at, is_help, is_option, open, requested};
+pub use console::{Console, Told};
+pub use fields::for_each_line;
+pub use reading::{
+    Input, LINES_SIZE, drain, first, read_file, read_input, read_lines, read_to_end,
+};
 pub use reading_lines::{Line, read_line, skip_line};
-pub use writing::{Console, close_output, fail, say, say_last, say_number, tell};

@@ -8,60 +8,51 @@ use basics::LINE_END;
 use std::io;
 use std::io::Read;
 
-// What is known of a line: that it has so many bytes, its end not counted; that it fills the buffer, so that there may be more; that there
-// is none, since the input has ended; or that a read failed, and why.
+// What is known of a line that was read: that it has so many bytes, its end not counted; that it fills the buffer, so that there may be
+// more; or that there is none, since the input has ended.
 #[derive(Clone, Copy)]
 pub enum Line {
     Given(usize),
     Long,
     End,
-    Failed(io::Error),
 }
 
 // What a read that brought no byte tells, behind some bytes of a line: the last line may have no end. A failed read ends no line.
-fn line_ended(got: io::Result<usize>, done: usize) -> Line
+fn line_ended(got: io::Result<usize>, done: usize) -> io::Result<Line>
     ensures { result ≡ line_ended_at got done }
 {
-    if let Err(error) = got {
-        return Line::Failed(error);
-    }
+    got?;
     if done == 0 {
-        return Line::End;
+        return Ok(Line::End);
     }
-    Line::Given(done)
+    Ok(Line::Given(done))
 }
 
 // Reads a line. A caller that can use n bytes lends a buffer of n + 1: `Long` then says that the line has more than n. Its rest is still to
 // be read, with its end.
-pub fn read_line<R: Read>(input: &mut R, buffer: &mut [u8]) -> Line
+pub fn read_line<R: Read>(input: &mut R, buffer: &mut [u8]) -> io::Result<Line>
     ensures { LineWithin result buffer.new }
 {
-    let mut done = 0;
-    while done < buffer.len() {
+    for i in 0..buffer.len() {
         let mut byte = [0u8; 1];
         let got = read_some(input, &mut byte);
-        match got {
-            Ok(0) | Err(_) => return line_ended(got, done),
-            Ok(_) => {}
+        if let Ok(0) | Err(_) = got {
+            return line_ended(got, i);
         }
         if byte[0] == LINE_END {
-            return Line::Given(done);
+            return Ok(Line::Given(i));
         }
-        buffer[done] = byte[0];
-        done += 1;
+        buffer[i] = byte[0];
     }
-    Line::Long
+    Ok(Line::Long)
 }
 
-// Reads the rest of a long line, with its end. It counts down as `read_some` does.
+// Reads the rest of a long line, with its end.
 pub fn skip_line<R: Read>(input: &mut R) -> io::Result<()> {
-    for _ in 0..u64::MAX {
-        let mut rest = [0u8; 64];
-        match read_line(input, &mut rest) {
-            Line::Long => {}
-            Line::Failed(error) => return Err(error),
-            _ => return Ok(()),
+    for byte in input.by_ref().bytes() {
+        if byte? == LINE_END {
+            return Ok(());
         }
     }
-    Err(io::Error::from(io::ErrorKind::Interrupted))
+    Ok(())
 }

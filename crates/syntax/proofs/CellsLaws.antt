@@ -75,10 +75,6 @@ codes_append n (x ∷ xs) ys =
     ap (λ t. code_at n x ∷ t) (codes_append (suc n) xs ys ∙ ap (λ k. codes_from (suc n) xs ++ codes_from k ys) e)
 
 -- those of the first i cells, and one more
-pub codes_none : (p : List ℕ) (n : ℕ) (cs : List ℕ) → p ≡ sets p n (codes_from n (take 0 cs))
-unfolding codes_from
-codes_none p n cs = refl
-
 pub codes_more : (p : List ℕ) (n : ℕ) (cs : List ℕ) (i : ℕ) → i < length cs
     → set (sets p n (codes_from n (take i cs))) (n + i) (code_at (n + i) (get_or cs i 0)) ≡ sets p n (codes_from n (take (i + 1) cs))
 unfolding codes_from
@@ -88,11 +84,3 @@ codes_more p n cs i h =
     sym (ap (λ k. sets p n (codes_from n (take k cs))) (add-one i) ∙ ap (λ t. sets p n (codes_from n t)) (take-suc cs i 0 h)
     ∙ ap (sets p n) (codes_append n (take i cs) (get_or cs i 0 ∷ [])) ∙ sets_append p n (codes_from n (take i cs)) _
     ∙ ap₂ (λ k m. set (sets p n (codes_from n (take i cs))) (n + k) (code_at (n + m) (get_or cs i 0))) f e)
-
--- ---- cells copied: the first i, and one more
-pub copy_more : (p : List ℕ) (n : ℕ) (cs : List ℕ) (i : ℕ) → i < length cs
-    → set (sets p n (take i cs)) (n + i) (get_or cs i 0) ≡ sets p n (take (i + 1) cs)
-copy_more p n cs i h =
-    let e : length (take i cs) ≡ i = length-take-le i cs (omega arith) in
-    sym (ap (λ k. sets p n (take k cs)) (add-one i) ∙ ap (sets p n) (take-suc cs i 0 h) ∙ sets_append p n (take i cs) _
-    ∙ ap (λ k. set (sets p n (take i cs)) (n + k) (get_or cs i 0)) e)

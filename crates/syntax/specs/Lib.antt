@@ -2,5 +2,6 @@
 pub mod Kinds
 pub mod Lex
 pub mod Cells
+pub mod Writer
 pub mod Plans
 pub mod Tree

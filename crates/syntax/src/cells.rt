@@ -10,7 +10,7 @@ pub const ONE_SIDED: u32 = 256;
 const TWO_SIDED: u32 = 512;
 
 // Past the end nothing is written.
-fn put_cell(cells: &mut [u32], n: usize, v: u32)
+pub(crate) fn put_cell(cells: &mut [u32], n: usize, v: u32)
     ensures { cells.new ≡ set cells.old n v }
 {
     if n < cells.len() {
@@ -40,27 +40,12 @@ pub fn put_two(cells: &mut [u32], n: usize, k: u8, c: usize)
     put(cells, n, k, TWO_SIDED + ((n - c) % 256) as u32);
 }
 
-// Copies cells to place n on, and answers the place behind them.
-pub(crate) fn copy(from: &[u32], n: usize, cells: &mut [u32]) -> usize
-    requires { n + length from.now < 65536 }
-    ensures value { result ≡ n + length from.now }
-    ensures cells_after { cells.new ≡ sets cells.old n from.now }
-{
-    let mut i = 0;
-    while i < from.len() {
-        put_cell(cells, n + i, from[i]);
-        i += 1;
-    }
-    n + from.len()
-}
-
 // The index that is s places before the last of n, 0 where there is none.
 fn index_before(n: usize, s: u32) -> u32
     requires { n ≤ index_limit }
     ensures { result ≡ n - 1 - s }
 {
-    let m = n as u32;
-    if s < m { m - 1 - s } else { 0 }
+    (n as u32).saturating_sub(1).saturating_sub(s)
 }
 
 // The number of part n from its cell.
@@ -81,13 +66,12 @@ fn code_at(n: usize, cell: u32) -> u32
 }
 
 // Writes the numbers of the parts from n on.
+#[tactic(auto, unfolding(crate::specs::Cells::codes_from))]
 pub fn put_codes(cells: &[u32], n: usize, parts: &mut [u32])
     requires { (n + length cells.now ≤ length parts.old) × (length parts.old ≤ index_limit) }
     ensures { parts.new ≡ sets parts.old n (codes_from n cells.now) }
 {
-    let mut i = 0;
-    while i < cells.len() {
+    for i in 0..cells.len() {
         parts[n + i] = code_at(n + i, cells[i]);
-        i += 1;
     }
 }

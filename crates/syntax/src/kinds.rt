@@ -3,49 +3,49 @@ pub const END: u8 = 0;
 
 pub(crate) const NO_TOKEN: u8 = 1;
 
-pub const NAME: u8 = 97;
+pub const NAME: u8 = b'a';
 
-pub const TRUE: u8 = 116;
+pub const TRUE: u8 = b't';
 
-pub const FALSE: u8 = 102;
+pub const FALSE: u8 = b'f';
 
 // The plan words.
-pub const ONCE: u8 = 111;
+pub const ONCE: u8 = b'o';
 
-pub const BEFORE: u8 = 98;
+pub const BEFORE: u8 = b'b';
 
-pub const AFTER: u8 = 101;
+pub const AFTER: u8 = b'e';
 
-pub const WITHIN: u8 = 119;
+pub const WITHIN: u8 = b'w';
 
-pub const DURING: u8 = 100;
+pub const DURING: u8 = b'd';
 
-pub const OPEN: u8 = 40;
+pub const OPEN: u8 = b'(';
 
-pub const CLOSE: u8 = 41;
+pub const CLOSE: u8 = b')';
 
-pub const COMMA: u8 = 44;
+pub const COMMA: u8 = b',';
 
 // The digit 0; the others follow it.
-pub const ZERO: u8 = 48;
+pub const ZERO: u8 = b'0';
 
 // The operators.
-pub const IMPLIES: u8 = 45;
+pub const IMPLIES: u8 = b'-';
 
-pub const UNTIL: u8 = 85;
+pub const UNTIL: u8 = b'U';
 
-pub const RELEASE: u8 = 82;
+pub const RELEASE: u8 = b'R';
 
-pub const AND: u8 = 38;
+pub const AND: u8 = b'&';
 
-pub const OR: u8 = 124;
+pub const OR: u8 = b'|';
 
-pub const NOT: u8 = 33;
+pub const NOT: u8 = b'!';
 
-pub const NEXT: u8 = 88;
+pub const NEXT: u8 = b'X';
 
-pub const WEAK_NEXT: u8 = 78;
+pub const WEAK_NEXT: u8 = b'N';
 
-pub const EVENTUALLY: u8 = 70;
+pub const EVENTUALLY: u8 = b'F';
 
-pub const ALWAYS: u8 = 71;
+pub const ALWAYS: u8 = b'G';

@@ -8,7 +8,7 @@ use crate::kinds::{
 use basics::{Class, is_lower, past, same};
 
 // A token: its kind, where it starts, and where the next one is looked for.
-#[derive(Clone, Copy)]
+#[derive(Clone, Copy, PartialEq, Eq, Debug)]
 pub struct Token {
     pub kind: u8,
     pub from: usize,
@@ -16,40 +16,40 @@ pub struct Token {
 }
 
 // The kind of a word that is no constant.
+#[tactic(auto, unfolding(crate::specs::Lex::plan_kind))]
 fn plan_kind(word: &[u8]) -> u8
     ensures { result ≡ plan_kind word.now }
 {
     if same(word, b"once") {
-        return ONCE;
+        ONCE
+    } else if same(word, b"before") {
+        BEFORE
+    } else if same(word, b"after") {
+        AFTER
+    } else if same(word, b"within") {
+        WITHIN
+    } else if same(word, b"during") {
+        DURING
+    } else {
+        NAME
     }
-    if same(word, b"before") {
-        return BEFORE;
-    }
-    if same(word, b"after") {
-        return AFTER;
-    }
-    if same(word, b"within") {
-        return WITHIN;
-    }
-    if same(word, b"during") {
-        return DURING;
-    }
-    NAME
 }
 
+#[tactic(auto, unfolding(crate::specs::Lex::word_kind))]
 fn word_kind(word: &[u8]) -> u8
     ensures { result ≡ word_kind word.now }
 {
     if same(word, b"true") {
-        return TRUE;
+        TRUE
+    } else if same(word, b"false") {
+        FALSE
+    } else {
+        plan_kind(word)
     }
-    if same(word, b"false") {
-        return FALSE;
-    }
-    plan_kind(word)
 }
 
 // The token at or after `at`.
+#[tactic(auto, using(basics::proofs::BytesLaws::past_in))]
 pub fn token_at(text: &[u8], at: usize) -> Token
     ensures { result ≡ token_at text.now at }
 {
@@ -72,14 +72,12 @@ pub fn token_at(text: &[u8], at: usize) -> Token
         };
     }
     if b == b'-' {
-        if i + 1 < text.len() {
-            if text[i + 1] == b'>' {
-                return Token {
-                    kind: IMPLIES,
-                    from: i,
-                    next: i + 2,
-                };
-            }
+        if i + 1 < text.len() && text[i + 1] == b'>' {
+            return Token {
+                kind: IMPLIES,
+                from: i,
+                next: i + 2,
+            };
         }
         return Token {
             kind: NO_TOKEN,

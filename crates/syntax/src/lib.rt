@@ -6,6 +6,7 @@ mod cells;
 mod kinds;
 mod lex;
 mod plans;
+mod writer;
 
 pub use cells::{ONE_SIDED, put, put_codes, put_leaf, put_two};
 pub use kinds::{

@@ -1,11 +1,6 @@
 // What `synth --help` writes: one screen.
-use crate::write;
-use streams::Console;
-
-pub(crate) fn explain(console: Console) {
-    write(
-        console,
-        b"synth finds a controller for a problem of LTLf synthesis under partial
+pub(crate) const TEXT: &[u8] =
+    b"synth finds a controller for a problem of LTLf synthesis under partial
 observability, with the smallest worst-case number of steps, or says that none
 wins, or refuses the problem with a number.
 
@@ -72,6 +67,4 @@ Or the answer is one line: refused, a number, and the line it is about, or 0:
 What cannot be read or written is told on standard error. A problem that was not
 read to its end gets no answer, but for number 1. The exit status tells nothing:
 it is 0 after a refusal or a failure too.
-",
-    );
-}
+";

@@ -3,101 +3,56 @@
 // not by the exit status.
 #![tactic(auto)]
 
-use cabinet::{Printed, TEXT_SIZE};
+use cabinet::TEXT_SIZE;
 use game::TABLE_SIZE;
 use rules::{SOURCE_LIMIT, WORK_SIZE};
-use std::env::Env;
 use std::fs::Files;
 use std::io::Read;
-use streams::{Argument, Console, Input};
+use streams::{Console, Input, Request, Told};
 
 mod help;
 
-// Writes all of what the program answers.
-fn write(console: Console, text: &[u8]) {
-    streams::say_last(console, b"synth", text);
-}
-
-fn tell_short(console: Console) {
-    streams::tell(console, b"synth", b"memory", b"too short");
-}
-
 // Writes what is answered to a problem. Its memory has the sizes asked for, so it is not refused as too short.
-fn answer(console: Console, source: &[u8]) {
+fn answer(console: Console, source: &[u8]) -> Result<(), Told> {
     let mut work = [0u8; WORK_SIZE];
     let mut table = [0u16; TABLE_SIZE];
     let mut text = [0u8; TEXT_SIZE];
     match cabinet::respond(source, &mut work, &mut table, &mut text) {
-        Printed::Text(n) => write(console, &text[..n]),
-        Printed::Refused(_) => tell_short(console),
+        Ok(n) => console.say_last(&text[..n]),
+        Err(_) => Err(console.tell(b"memory", b"too short")),
     }
 }
 
-// Reads and answers a problem, and says whether there may be more of it: one byte more than a problem may have tells that there is.
-fn solve<R: Read>(console: Console, input: &mut R, name: &[u8]) -> bool {
+// Solves the problem on standard input: one byte more than a problem may have tells that there may be more of it. The rest of a long problem
+// is read once it is answered, so that whoever writes it is not cut off.
+fn solve_input<R: Read>(console: Console, input: &mut R) -> Result<(), Told> {
     let mut source = [0u8; SOURCE_LIMIT + 1];
-    match streams::read_to_end(input, &mut source) {
-        Input::Whole(n) => answer(console, streams::first(&source, n)),
-        Input::Longer => {
-            answer(console, &source);
-            return true;
-        }
-        Input::Failed(error) => streams::fail(console, b"synth", name, error),
-    }
-    false
-}
-
-// The rest of a long problem is read once it is answered, so that whoever writes it is not cut off.
-fn solve_input<R: Read>(console: Console, input: &mut R) {
-    if solve(console, input, b"standard input") {
+    let problem = streams::read_input(console, input, &mut source)?;
+    let answered = answer(console, problem.bytes(&source));
+    if let Input::Longer = problem {
         streams::drain(input);
     }
+    answered
 }
 
-fn solve_file<F: Files>(rt: &F, console: Console, path: &[u8]) {
-    if let Some(mut file) = streams::open(rt, console, b"synth", path) {
-        solve(console, &mut file, path);
-    }
+fn solve_file<F: Files>(rt: &F, console: Console, path: &[u8]) -> Result<(), Told> {
+    let mut source = [0u8; SOURCE_LIMIT + 1];
+    let problem = streams::read_file(rt, console, path, &mut source)?;
+    answer(console, problem.bytes(&source))
 }
 
-fn obey<F: Files>(rt: &F, console: Console, argument: &[u8]) {
-    if streams::is_help(argument) {
-        help::explain(console);
-    } else if streams::is_option(argument) {
-        streams::tell(
-            console,
-            b"synth",
-            argument,
-            b"no such option; see synth --help",
-        );
-    } else {
-        solve_file(rt, console, argument);
-    }
-}
-
-// Does what the first argument asks for, or solves the problem on standard input.
-fn run<S: Env + Files, R: Read>(rt: &S, console: Console, input: &mut R) {
+// Does what the argument asks for, or solves the problem on standard input.
+fn run(rt: &HostRuntime, console: Console) -> Result<(), Told> {
     let mut argument = [0u8; 4096];
-    match streams::argument_at(rt, 1, &mut argument) {
-        Argument::Given(n) => obey(rt, console, streams::first(&argument, n)),
-        Argument::Missing => solve_input(console, input),
-        Argument::Long => streams::tell(console, b"synth", b"argument", b"File name too long"),
+    match streams::requested(rt, console, &mut argument)? {
+        Request::Help => console.say_last(help::TEXT),
+        Request::File(path) => solve_file(rt, console, path),
+        Request::Nothing => solve_input(console, &mut rt.stdin()),
+        Request::Many => Err(console.tell_usage(b"arguments", b"one at most")),
     }
 }
 
+// What failed is told, and the exit status is 0 all the same.
 fn main(rt: HostRuntime) {
-    let console = Console {
-        output: rt.stdout(),
-        errors: rt.stderr(),
-        alloc: rt.alloc(),
-    };
-    if let Argument::Missing = streams::argument_at(&rt, 2, &mut []) {
-        return run(&rt, console, &mut rt.stdin());
-    }
-    streams::tell(
-        console,
-        b"synth",
-        b"arguments",
-        b"one at most; see synth --help",
-    );
+    let _ = run(&rt, Console::new(&rt, "synth"));
 }

@@ -1,17 +1,16 @@
 -- The first number below n whose value is the least: found by one pass, and found as the first whose value is within the least bound.
 -- Assumes nothing.
-use Prim.Native.Nat.{ℕ, suc, ◌+◌, ◌≤◌, ◌<◌}
-use native.Mathlib.Nat.{le_refl}
+use Prim.Native.Nat.{ℕ, suc, ◌≤◌, ◌<◌}
 use native.Mathlib.Decide.{dec_lt}
 use native.Mathlib.Omega.{arith}
-use mathlib.Core.Path.{◌≡◌, sym, ◌∙◌, subst}
+use mathlib.Core.Path.{◌≡◌, sym, ◌∙◌}
 use mathlib.Core.Logic.{inl, inr}
 use mathlib.Core.Bool.{Bool}
 use lib.Dec.{leb, ltb}
 use borrow.Author.Tests.{ltb-true, ltb-false, lt-ltb, le-leb, lt-leb}
 use Rattle.basics.specs.Bounded.{all, any, first_that}
 use Rattle.basics.proofs.Booleans.{test, clash}
-use Rattle.basics.proofs.BoundedLaws.{last_or_before, all_of, all_fails, any_at, any_not, first_passes, first_least, first_is, first_ext}
+use Rattle.basics.proofs.BoundedLaws.{all_of, all_fails, any_at, any_not, first_passes, first_least, first_is, first_ext}
 
 module _ (f : ℕ → ℕ) where
   -- the value of b is the least of the first c, and b the first such number
@@ -19,36 +18,6 @@ module _ (f : ℕ → ℕ) where
     pub inside : b < c
     pub least : (d : ℕ) → d < c → f b ≤ f d
     pub first : (d : ℕ) → d < b → f b < f d
-
-  pub leading_begin : Leading 1 0
-  leading_begin =
-      record {
-        inside = omega arith;
-        least = λ d h. let z : d ≡ 0 = omega arith in subst (λ i. f 0 ≤ f i) (sym z) (le_refl (f 0));
-        first = λ d h. absurd (omega arith);
-      }
-
-  -- the next value is lower
-  pub leading_new : (c b : ℕ) → Leading c b → f c < f b → Leading (c + 1) c
-  leading_new c b l h =
-      record {
-        inside = omega arith;
-        least = λ d i.
-            elim (last_or_before c d i) [
-              | inl e ↦ subst (λ j. f c ≤ f j) (sym e) (le_refl (f c))
-              | inr s ↦ omega (arith, l.least d s)
-            ];
-        first = λ d i. omega (arith, l.least d i);
-      }
-
-  -- it is not
-  pub leading_kept : (c b : ℕ) → Leading c b → f b ≤ f c → Leading (c + 1) b
-  leading_kept c b l h =
-      record {
-        inside = omega (arith, l.inside);
-        least = λ d i. elim (last_or_before c d i) [ inl e ↦ subst (λ j. f b ≤ f j) (sym e) h | inr s ↦ l.least d s ];
-        first = l.first;
-      }
 
   module _ (n : ℕ) where
     -- no value is lower than that of c

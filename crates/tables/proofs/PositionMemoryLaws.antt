@@ -1,36 +1,25 @@
--- Where a pair of a choice and an observation stands among the moves, at most 16 of each; ranks in memory, and what they say of the choices.
+-- Ranks in memory, and what they say of the choices.
 -- Assumes nothing.
-use Prim.Native.Nat.{ℕ, suc, pred, ◌+◌, ◌*◌, ◌≤◌, ◌<◌}
-use native.Mathlib.Nat.{mul-le-mul_right}
+use Prim.Native.Nat.{ℕ, suc, pred, ◌<◌}
 use native.Mathlib.Omega.{arith}
 use mathlib.Core.Path.{◌≡◌, sym, ap, ◌∙◌}
 use mathlib.Core.Bool.{Bool, true}
 use mathlib.Core.List.{List, ◌++◌}
 use lib.Dec.{ltb}
-use lib.ListN.{length, get_or, take, drop}
-use lib.Seq.{get_or-take, take_at, drop_at}
+use lib.ListN.{length, get_or, take}
+use lib.Seq.{get_or-take, take_at}
 use borrow.Author.Tests.{lt-ltb}
 use Rattle.basics.specs.Bounded.{all, any, first_that}
 use Rattle.basics.specs.declared.order.Order.{Order}
 use Rattle.basics.specs.declared.order.Order.TheVariants.{Set, Read}
 use Rattle.basics.proofs.BoundedLaws.{all_at, all_ext, any_ext, first_of, first_ext}
 use Rattle.basics.proofs.ListsLaws.{length_tabulate, get_d_tabulate}
-use Rattle.play.specs.Limits.{belief_limit, side_limit, pair_limit}
 use Rattle.play.specs.Rank.{Arena, can, rank_from, leads_within, next_rank, best_answer}
 use Rattle.play.proofs.StepOrder.{order_of, can_ext}
 use Rattle.play.proofs.RankLaws.{HasRank, goes_on_lem, rank_searched}
 use Rattle.tables.specs.PositionMemory.{arena_in, Positions, next_of, rank_after, works, can_lead, rank_if_below, ranks_below, is_best, answer_at}
 use Rattle.tables.proofs.RanksBelow.{Below, entry_ranked, entry_within}
 use Rattle.tables.proofs.FirstLeast.{least_below, first_within}
-
-pub pair_le : (choices observations s : ℕ) → choices ≤ side_limit → observations ≤ side_limit → s < observations → s * choices ≤ 240
-pair_le choices observations s few_choices few sb =
-    let p : s * choices ≤ 15 * choices = mul-le-mul_right choices (omega arith) in
-    omega arith
-
-pub spot_lt : (choices observations k c s : ℕ) → choices ≤ side_limit → observations ≤ side_limit → k < belief_limit → c < choices → s < observations
-    → k * pair_limit + s * choices + c < belief_limit * pair_limit
-spot_lt choices observations k c s few_choices few kb cb sb = omega (arith, pair_le choices observations s few_choices few sb)
 
 -- ---- ranks in memory
 
@@ -48,9 +37,6 @@ module _ (o : Order) (n choices observations r : ℕ) (moves finals : List ℕ) 
   -- in front of other entries
   pub ranks_taken : (ranks rest : List ℕ) → ranks ≡ kept ++ rest → take n ranks ≡ kept
   ranks_taken ranks rest e = ap (take n) e ∙ take_at kept rest n ranks_length
-
-  pub ranks_passed : (ranks rest : List ℕ) → ranks ≡ kept ++ rest → drop n ranks ≡ rest
-  ranks_passed ranks rest e = ap (drop n) e ∙ drop_at kept rest n ranks_length
 
   pub rank_read : (ranks : List ℕ) → take n ranks ≡ kept → (k : ℕ) → k < n → get_or ranks k 0 ≡ rank_if_below o arena choices observations r k
   unfolding ranks_below

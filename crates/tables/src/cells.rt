@@ -1,5 +1,5 @@
 // The cells of a row, read and written by what they say, for each order of a step.
-ghost use Rattle.std.specs.Prelude.{◌≡◌, ◌+◌, ◌*◌, ◌≤◌, ◌<◌, length, replicate, set};
+ghost use Rattle.std.specs.Prelude.{◌≡◌, ◌+◌, ◌*◌, ◌≤◌, ◌<◌, length, set};
 ghost use Rattle.play.specs.Limits.{side_limit};
 ghost use Rattle.play.specs.Cells.{choice_at, next_at, rank_at, row_size, first_cell, choice_cell, next_cell, rank_cell};
 
@@ -114,15 +114,4 @@ pub(crate) fn set_rank(table: &mut [u16], order: Order, row: usize, r: u16)
     ensures { table.new ≡ set table.old (row * row_size order + rank_at order) r }
 {
     table[row * row_size(order) + rank_at(order)] = r;
-}
-
-// Sets every cell to 0.
-pub(crate) fn clear_cells(cells: &mut [u16])
-    ensures { cells.new ≡ replicate (length cells.old) 0 }
-{
-    let mut i = 0;
-    while i < cells.len() {
-        cells[i] = 0;
-        i += 1;
-    }
 }

@@ -4,6 +4,7 @@
 #![tactic(auto)]
 
 mod answering;
+mod arena;
 mod cells;
 mod choosing;
 mod ranking;
@@ -12,6 +13,7 @@ mod sizes;
 mod writing;
 
 pub use answering::{Outcome, answer};
+pub use arena::Arena;
 pub use cells::{choice_cell, first_cell, next_cell, rank_at, rank_cell, row_size};
-pub use shape::Shape;
+pub use shape::{Shape, Table};
 pub use sizes::{BELIEF_LIMIT, PAIR_LIMIT, SIDE_LIMIT, STOP, TABLE_SIZE};

@@ -1,62 +1,38 @@
 // Ranks, round by round: a position gets rank r where the controller can choose so that every observation leads below r.
-ghost use Rattle.std.specs.Prelude.{◌≡◌, suc, ◌*◌, ◌≤◌, ◌<◌, ◌++◌, length, take, drop};
+ghost use Rattle.std.specs.Prelude.{◌≡◌, suc, ◌<◌, ◌++◌, take, drop};
 ghost use Rattle.basics.specs.Lists.{tabulate};
-ghost use Rattle.play.specs.Limits.{belief_limit, side_limit, pair_limit};
 ghost use Rattle.basics.specs.Bounded.{any, first_that};
 ghost use Rattle.basics.specs.declared.order.Order.TheVariants.{Read};
-ghost use Rattle.tables.specs.PositionMemory.{works, can_lead, first_rank, Positions, ranks_below, has_rank, no_rank};
+ghost use Rattle.tables.specs.PositionMemory.{works, can_lead, first_rank, ranks_below, has_rank, no_rank};
 
-use crate::sizes::{NO_RANK, PAIR_LIMIT};
+use crate::arena::Arena;
+use crate::sizes::{BELIEF_LIMIT, NO_RANK};
 use basics::Order;
 
 // The smallest choice after which every observation leads to a rank below r; `choices` if there is none.
-pub(crate) fn smallest_choice(
-    moves: &[u8],
-    ranks: &[u16],
-    choices: usize,
-    observations: usize,
-    r: u16,
-    k: usize,
-) -> usize
-    requires moves_len { length moves.now ≡ belief_limit * pair_limit }
-    requires ranks_len { length ranks.now ≡ belief_limit }
-    requires choices_le_side_limit { choices ≤ side_limit }
-    requires observations_le_side_limit { observations ≤ side_limit }
-    requires k_lt_belief_limit { k < belief_limit }
-    ensures { result ≡ first_that (works moves.now ranks.now choices observations r k) choices }
+pub(crate) fn smallest_choice(arena: &Arena, ranks: &[u16; BELIEF_LIMIT], r: u16, k: usize) -> usize
+    requires { k < arena.now.count }
+    ensures { result ≡ first_that (works arena.now.moves.now ranks.now arena.now.choices arena.now.observations r k) arena.now.choices }
 {
-    let from = k * PAIR_LIMIT;
-    'choices: for c in 0..choices {
-        for s in 0..observations {
-            if ranks[moves[from + s * choices + c] as usize] >= r {
+    'choices: for c in 0..arena.choices {
+        for s in 0..arena.observations {
+            if arena.rank_after(ranks, k, c, s) >= r {
                 continue 'choices;
             }
         }
         return c;
     }
-    choices
+    arena.choices
 }
 
 // Whether at every observation some choice leads to a rank below r.
-fn each_has_choice(
-    moves: &[u8],
-    ranks: &[u16],
-    choices: usize,
-    observations: usize,
-    r: u16,
-    k: usize,
-) -> bool
-    requires moves_len { length moves.now ≡ belief_limit * pair_limit }
-    requires ranks_len { length ranks.now ≡ belief_limit }
-    requires choices_le_side_limit { choices ≤ side_limit }
-    requires observations_le_side_limit { observations ≤ side_limit }
-    requires k_lt_belief_limit { k < belief_limit }
-    ensures { result ≡ can_lead Read moves.now ranks.now choices observations r k }
+fn each_has_choice(arena: &Arena, ranks: &[u16; BELIEF_LIMIT], r: u16, k: usize) -> bool
+    requires { k < arena.now.count }
+    ensures { result ≡ can_lead Read arena.now.moves.now ranks.now arena.now.choices arena.now.observations r k }
 {
-    let from = k * PAIR_LIMIT;
-    'observations: for s in 0..observations {
-        for c in 0..choices {
-            if ranks[moves[from + s * choices + c] as usize] < r {
+    'observations: for s in 0..arena.observations {
+        for c in 0..arena.choices {
+            if arena.rank_after(ranks, k, c, s) < r {
                 continue 'observations;
             }
         }
@@ -66,101 +42,63 @@ fn each_has_choice(
 }
 
 // Whether the controller can choose so that every observation leads to a rank below r.
-fn can_lead(
-    order: Order,
-    moves: &[u8],
-    ranks: &[u16],
-    choices: usize,
-    observations: usize,
-    r: u16,
-    k: usize,
-) -> bool
-    requires moves_len { length moves.now ≡ belief_limit * pair_limit }
-    requires ranks_len { length ranks.now ≡ belief_limit }
-    requires choices_le_side_limit { choices ≤ side_limit }
-    requires observations_le_side_limit { observations ≤ side_limit }
-    requires k_lt_belief_limit { k < belief_limit }
-    ensures { result ≡ can_lead order moves.now ranks.now choices observations r k }
+fn can_lead(order: Order, arena: &Arena, ranks: &[u16; BELIEF_LIMIT], r: u16, k: usize) -> bool
+    requires { k < arena.now.count }
+    ensures { result ≡ can_lead order arena.now.moves.now ranks.now arena.now.choices arena.now.observations r k }
 {
     match order {
-        Order::Set => smallest_choice(moves, ranks, choices, observations, r, k) < choices,
-        Order::Read => each_has_choice(moves, ranks, choices, observations, r, k),
+        Order::Set => smallest_choice(arena, ranks, r, k) < arena.choices,
+        Order::Read => each_has_choice(arena, ranks, r, k),
     }
 }
 
 // Gives rank 0 to the final positions, and no rank to the others.
-fn rank_finals(finals: &[u8], n: usize, ranks: &mut [u16])
-    requires n_le_belief_limit { n ≤ belief_limit }
-    requires finals_len { length finals.now ≡ belief_limit }
-    requires ranks_len { length ranks.old ≡ belief_limit }
-    ensures { ranks.new ≡ tabulate n (first_rank finals.now) ++ drop n ranks.old }
+fn rank_finals(arena: &Arena, ranks: &mut [u16; BELIEF_LIMIT])
+    ensures { ranks.new ≡ tabulate arena.now.count (first_rank arena.now.finals.now) ++ drop arena.now.count ranks.old }
 {
-    let mut k = 0;
-    while k < n {
-        if finals[k] == 1 {
+    for k in 0..arena.count {
+        if arena.finals[k] == 1 {
             ranks[k] = 0;
         } else {
             ranks[k] = NO_RANK;
         }
-        k += 1;
     }
 }
 
 // Gives rank r to every position without a rank from which the controller can lead below r; answers whether there was one.
-fn rank_round(
-    order: Order,
-    moves: &[u8],
-    finals: &[u8],
-    n: usize,
-    choices: usize,
-    observations: usize,
-    r: u16,
-    ranks: &mut [u16],
-) -> bool
-    requires positions { Positions n choices observations moves.now finals.now }
+fn rank_round(order: Order, arena: &Arena, r: u16, ranks: &mut [u16; BELIEF_LIMIT]) -> bool
     requires r_nonzero { 0 < r }
     requires r_lt_no_rank { r < no_rank }
-    requires ranks_len { length ranks.old ≡ belief_limit }
-    requires ranks_value { take n ranks.old ≡ ranks_below order n choices observations r moves.now finals.now }
-    ensures ranks_after { ranks.new ≡ ranks_below order n choices observations (suc r) moves.now finals.now
-        ++ drop n ranks.old }
-    ensures value { result ≡ any n (has_rank order choices observations r moves.now finals.now) }
+    requires ranks_value { take arena.now.count ranks.old
+        ≡ ranks_below order arena.now.count arena.now.choices arena.now.observations r arena.now.moves.now arena.now.finals.now }
+    ensures ranks_after { ranks.new
+        ≡ ranks_below order arena.now.count arena.now.choices arena.now.observations (suc r) arena.now.moves.now arena.now.finals.now
+        ++ drop arena.now.count ranks.old }
+    ensures value { result
+        ≡ any arena.now.count (has_rank order arena.now.choices arena.now.observations r arena.now.moves.now arena.now.finals.now) }
 {
     let mut more = false;
-    let mut k = 0;
-    while k < n {
+    for k in 0..arena.count {
         if ranks[k] == NO_RANK {
-            if can_lead(order, moves, ranks, choices, observations, r, k) {
+            if can_lead(order, arena, ranks, r, k) {
                 ranks[k] = r;
                 more = true;
             }
         }
-        k += 1;
     }
     more
 }
 
-// The ranks of all n positions.
-pub(crate) fn rank_all(
-    order: Order,
-    moves: &[u8],
-    finals: &[u8],
-    n: usize,
-    choices: usize,
-    observations: usize,
-    ranks: &mut [u16],
-)
-    requires positions { Positions n choices observations moves.now finals.now }
-    requires ranks_len { length ranks.old ≡ belief_limit }
-    ensures { ranks.new ≡ ranks_below order n choices observations n moves.now finals.now
-        ++ drop n ranks.old }
+// The ranks of all positions.
+pub(crate) fn rank_all(order: Order, arena: &Arena, ranks: &mut [u16; BELIEF_LIMIT])
+    ensures { ranks.new
+        ≡ ranks_below order arena.now.count arena.now.choices arena.now.observations arena.now.count arena.now.moves.now arena.now.finals.now
+        ++ drop arena.now.count ranks.old }
 {
-    rank_finals(finals, n, ranks);
-    let mut r: u16 = 1;
-    while (r as usize) < n {
-        if !rank_round(order, moves, finals, n, choices, observations, r, ranks) {
+    rank_finals(arena, ranks);
+    for r in 1..arena.count {
+        if !rank_round(order, arena, r as u16, ranks) {
             return;
         }
-        r += 1;
     }
 }

@@ -8,3 +8,10 @@ pub struct Shape {
     pub observed: usize,
     pub order: Order,
 }
+
+// A table whose cells are in lent memory: its shape, and the most steps that any run takes.
+#[derive(Clone, Copy)]
+pub struct Table {
+    pub shape: Shape,
+    pub worst_case: usize,
+}

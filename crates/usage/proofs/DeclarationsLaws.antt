@@ -17,7 +17,6 @@ use Rattle.basics.specs.Pieces.{piece, behind, field_at}
 use Rattle.basics.proofs.BytesLaws.{past_in}
 use Rattle.basics.proofs.PiecesLaws.{piece_is, behind_byte, behind_end}
 use Rattle.grammar.specs.Names.{Name, index_of}
-use Rattle.lines.specs.declared.problem.Kind.{Kind}
 use Rattle.lines.specs.declared.problem.Word.{Word}
 use Rattle.lines.specs.declared.problem.Word.TheVariants.{Declare, Rule, Order as OrderWord, Unknown}
 use Rattle.lines.specs.Lines.{SourceLine, ended, unended, lines, word_of}
@@ -122,20 +121,6 @@ module _ (used : ℕ → Bool) (names : List Name) where
   by_word_lem Rule d ds = refl
   by_word_lem OrderWord d ds = refl
   by_word_lem Unknown d ds = refl
-
-  -- what a line's first word decides
-  module _ (line first : List ℕ) (w : Word) (field : first ≡ field_at 0 line) (word : w ≡ word_of first) where
-    is_word_lem : unused_by used names w (field_at 1 line) ≡ declares_unused used names line
-    unfolding declares_unused
-    is_word_lem = ap (λ x. unused_by used names x (field_at 1 line)) (word ∙ ap word_of field)
-
-    pub declares_none : unused_by used names w (field_at 1 line) ≡ false → false ≡ declares_unused used names line
-    declares_none f = sym f ∙ is_word_lem
-
-    pub declares_one : (k : Kind) → w ≡ Declare k → (name : List ℕ) → name ≡ field_at 1 line → (b : ℕ) → b ≡ index_of name names → (u : Bool) → u ≡ used b
-        → not u ≡ declares_unused used names line
-    declares_one k d name n b i u e =
-        ap not (e ∙ ap used (i ∙ ap (λ x. index_of x names) n)) ∙ sym (ap (λ x. unused_by used names x (field_at 1 line)) d) ∙ is_word_lem
 
   -- from place `at` on, which is in line `line`: the first line's, and those from the place behind it on
   module _ (source : List ℕ) (at next line : ℕ) (h : at < length source) (e : drop next source ≡ behind not_line_end (drop at source)) where

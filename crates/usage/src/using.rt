@@ -1,54 +1,45 @@
 // The declared signals that are in no part of a formula, line by line.
 ghost use Rattle.std.specs.Prelude.{◌≡◌, ◌&&◌, ◌+◌, ◌≤◌, eqb, length, [], ◌∷◌, ◌++◌};
+ghost use Rattle.std.specs.List.{list_any};
 ghost use Rattle.std.proofs.lemmas.List.Edits.{sets};
 ghost use Rattle.basics.specs.Lists.{written};
 ghost use Rattle.basics.specs.Pieces.{field_at};
 ghost use Rattle.formula.specs.Codes.{part_of, parts_in};
 ghost use Rattle.formula.specs.Parts.{is_signal, have_signal};
-ghost use Rattle.grammar.specs.Names.{Spans, names_in};
+ghost use Rattle.grammar.specs.Names.{names_in};
 ghost use Rattle.lines.specs.Lines.{lines};
 ghost use Rattle.usage.specs.Used.{names_text};
 ghost use Rattle.usage.specs.Declarations.{declares_unused, unused_from, first_line, first_of};
 
 use basics::{Class, LINE_END, behind, field, piece, put_byte, put_bytes};
-use grammar::lookup;
+use formula::{Op, part_of};
+use grammar::{BITS, Names, lookup};
 use lines::{Word, word_of};
-
-// The lowest byte of a signal's number.
-const SIGNAL: u32 = 97;
 
 // Whether the number of a part is that of signal b: an operator has the index of a part where a signal has its bit.
 fn is_signal(code: u32, b: usize) -> bool
     ensures { result ≡ (is_signal (part_of code).kind && eqb (part_of code).left b) }
 {
-    (code % 256 == SIGNAL) & ((code / 256 % 256) as usize == b)
+    let part = part_of(code);
+    part.kind == Op::Signal && part.left as usize == b
 }
 
 // Whether signal b is among the parts.
 fn is_used(parts: &[u32], b: usize) -> bool
-    ensures { result ≡ have_signal (parts_in parts.now) b }
+    ensures { result ≡ list_any (λ code. is_signal (part_of code).kind && eqb (part_of code).left b) parts.now }
 {
-    let mut i = 0;
-    while i < parts.len() {
-        if is_signal(parts[i], b) {
-            return true;
-        }
-        i += 1;
-    }
-    false
+    parts.iter().any(|&code| is_signal(code, b))
 }
 
 // Whether a line declares a signal that is in none of the parts.
-fn declares_unused(source: &[u8], spans: &[usize], parts: &[u32], line: &[u8]) -> bool
-    requires { Spans source.now spans.now }
-    ensures { result ≡ declares_unused (have_signal (parts_in parts.now)) (names_in source.now spans.now)
+#[tactic(auto, using(crate::proofs::SignalCodes::used_any, grammar::proofs::NamesLaws::or_bits), unfolding(crate::specs::Declarations::declares_unused))]
+fn declares_unused(names: &Names<'_>, parts: &[u32], line: &[u8]) -> bool
+    ensures { result ≡ declares_unused (have_signal (parts_in parts.now)) (names_in names.now)
         line.now }
 {
     match word_of(field(line, 0)) {
-        Word::Declare(_) => !is_used(parts, lookup(source, spans, field(line, 1))),
-        Word::Rule => false,
-        Word::Order => false,
-        Word::Unknown => false,
+        Word::Declare(_) => !is_used(parts, lookup(names, field(line, 1)).unwrap_or(BITS)),
+        _ => false,
     }
 }
 
@@ -56,20 +47,19 @@ fn declares_unused(source: &[u8], spans: &[usize], parts: &[u32], line: &[u8]) -
 fn first_of(found: usize, line: usize, counts: bool) -> usize
     ensures { result ≡ first_of found line counts }
 {
-    if counts & (found == 0) { line } else { found }
+    if counts && found == 0 { line } else { found }
 }
 
 // The line of the first declared signal that is in none of the parts, 0 where there is none.
-pub fn first_unused(source: &[u8], spans: &[usize], parts: &[u32]) -> usize
-    requires { Spans source.now spans.now }
-    ensures { result ≡ first_line (unused_from (have_signal (parts_in parts.now)) (names_in source.now spans.now) 1
+pub fn first_unused(source: &[u8], names: &Names<'_>, parts: &[u32]) -> usize
+    ensures { result ≡ first_line (unused_from (have_signal (parts_in parts.now)) (names_in names.now) 1
         (lines source.now)) }
 {
     let mut found = 0;
     let mut at = 0;
     let mut line = 1;
     while at < source.len() {
-        let counts = declares_unused(source, spans, parts, piece(source, at, Class::Line));
+        let counts = declares_unused(names, parts, piece(source, at, Class::Line));
         found = first_of(found, line, counts);
         at = behind(source, at, Class::Line);
         line += 1;
@@ -89,19 +79,18 @@ fn put_name(text: &mut [u8], at: usize, line: &[u8]) -> usize
 
 // Puts the names of the declared signals that are in none of the parts at the front of a text, in declared order, each with a line's end, and
 // answers their length. Each is shorter than its line, so a text as long as the source has room.
-pub fn put_unused(source: &[u8], spans: &[usize], parts: &[u32], text: &mut [u8]) -> usize
-    requires spans { Spans source.now spans.now }
-    requires source_in_bounds { length source.now ≤ length text.old }
-    ensures value { result ≡ length (names_text (unused_from (have_signal (parts_in parts.now)) (names_in source.now spans.now)
+pub fn put_unused(source: &[u8], names: &Names<'_>, parts: &[u32], text: &mut [u8]) -> usize
+    requires { length source.now ≤ length text.old }
+    ensures value { result ≡ length (names_text (unused_from (have_signal (parts_in parts.now)) (names_in names.now)
         1 (lines source.now))) }
     ensures text_after { text.new ≡ written (names_text (unused_from (have_signal (parts_in parts.now))
-        (names_in source.now spans.now) 1 (lines source.now))) text.old }
+        (names_in names.now) 1 (lines source.now))) text.old }
 {
     let mut end = 0;
     let mut at = 0;
     while at < source.len() {
         let line = piece(source, at, Class::Line);
-        if declares_unused(source, spans, parts, line) {
+        if declares_unused(names, parts, line) {
             end = put_name(text, end, line);
         }
         at = behind(source, at, Class::Line);

@@ -1,10 +1,9 @@
 // What a table must be: the tests of number 13.
-ghost use Rattle.std.specs.Prelude.{◌≡◌, ◌+◌, ◌*◌, ◌≤◌, ◌<◌, length};
-ghost use Rattle.basics.specs.Limits.{kind_limit};
+ghost use Rattle.std.specs.Prelude.{◌≡◌, ◌^◌, ◌<◌, ◌≤◌, false, length, MatchOption};
 ghost use Rattle.play.specs.Limits.{side_limit};
-ghost use Rattle.play.specs.Cells.{row_size, next_cell};
+ghost use Rattle.play.specs.Cells.{row_size, cell, first_cell, choice_cell, next_cell, rank_cell};
 ghost use Rattle.basics.specs.Bounded.{all};
-ghost use Rattle.wellformed.specs.WellFormed.{first_limit, is_sized, is_first, rank_fits, is_next, next_count, is_pair, leads_on};
+ghost use Rattle.wellformed.specs.WellFormed.{Sized, first_limit, is_sized, is_first, rank_fits, is_next, next_count, is_pair, leads_on};
 ghost use Rattle.wellformed.specs.WellFormed.{Leads, is_lower, is_ranked, is_row, is_blank_at, is_blank, is_printable_row, is_printable};
 
 use basics::{KIND_LIMIT, Order};
@@ -13,15 +12,13 @@ use tables::{
 };
 
 // Whether the row count, the cells and the number of observed signals are within their limits.
-pub fn is_sized(cells: usize, shape: Shape) -> bool
+fn is_sized(cells: usize, shape: Shape) -> bool
     ensures { result ≡ is_sized cells shape }
 {
-    let rows = shape.rows;
-    if (rows == 0) | (rows > BELIEF_LIMIT) {
-        return false;
-    }
-    let order = shape.order;
-    (rows * row_size(order) <= cells) & (shape.observed <= KIND_LIMIT)
+    shape.rows > 0
+        && shape.rows <= BELIEF_LIMIT
+        && shape.rows * row_size(shape.order) <= cells
+        && shape.observed <= KIND_LIMIT
 }
 
 // What the first cell of a row that does not stop is below.
@@ -41,198 +38,227 @@ fn is_first(order: Order, c: u16) -> bool
     (c < first_limit(order)) | (c == STOP)
 }
 
-// Whether a row's rank fits the row by itself: below the row count, 0 where the row stops and not 0 where it goes on.
-fn rank_fits(table: &[u16], shape: Shape, row: usize) -> bool
-    requires order_in_bounds { shape.rows * row_size shape.order ≤ length table.now }
-    requires row_lt_rows { row < shape.rows }
-    ensures { result ≡ rank_fits table.now shape row }
-{
-    let order = shape.order;
-    let rank = rank_cell(table, order, row) as usize;
-    if rank >= shape.rows {
-        return false;
-    }
-    if first_cell(table, order, row) == STOP {
-        return rank == 0;
-    }
-    rank > 0
+// A table whose sizes are within their limits, so that its cells have room for its rows.
+#[derive(Clone, Copy)]
+pub struct SizedTable<'a> {
+    pub cells: &'a [u16],
+    pub shape: Shape,
+    pub ghost sized: { Sized (length cells.now) shape },
 }
 
-// Whether a cell leads to a row.
-fn is_next(table: &[u16], shape: Shape, next: u16) -> bool
-    requires { shape.rows * row_size shape.order ≤ length table.now }
-    ensures { result ≡ is_next table.now shape next }
-{
-    let row = next as usize;
-    if row >= shape.rows {
-        return false;
+impl<'a> SizedTable<'a> {
+    // The table of these cells, where they have the sizes of the shape.
+    pub fn new(cells: &'a [u16], shape: Shape) -> Option<Self>
+        ensures { MatchOption result (is_sized (length cells.now) shape ≡ false) (λ t. (t.cells.now ≡ cells.now) × (t.shape ≡ shape)) }
+    {
+        if is_sized(cells.len(), shape) {
+            Some(SizedTable { cells, shape })
+        } else {
+            None
+        }
     }
-    let order = shape.order;
-    if !is_first(order, first_cell(table, order, row)) {
-        return false;
-    }
-    rank_fits(table, shape, row)
-}
 
-// How many observations a row has cells for.
-fn next_count(table: &[u16], shape: Shape, row: usize) -> usize
-    requires order_in_bounds { shape.rows * row_size shape.order ≤ length table.now }
-    requires row_lt_rows { row < shape.rows }
-    requires observed_le_kind_limit { shape.observed ≤ kind_limit }
-    ensures { result ≡ next_count table.now shape row }
-{
-    let order = shape.order;
-    if first_cell(table, order, row) == STOP {
-        0
-    } else {
-        1 << shape.observed
+    // Cell i of a row.
+    pub fn cell(&self, row: usize, i: usize) -> u16
+        requires row_lt_rows { row < self.now.shape.rows }
+        requires i_bound { i < row_size self.now.shape.order }
+        ensures { result ≡ cell self.now.shape.order self.now.cells.now row i }
+    {
+        self.cells[row * row_size(self.shape.order) + i]
     }
-}
 
-// Whether the cells of an observation are a choice, and lead to a row.
-fn is_pair(table: &[u16], shape: Shape, row: usize, s: usize) -> bool
-    requires order_in_bounds { shape.rows * row_size shape.order ≤ length table.now }
-    requires row_lt_rows { row < shape.rows }
-    requires s_lt_side_limit { s < side_limit }
-    ensures { result ≡ is_pair table.now shape row s }
-{
-    let order = shape.order;
-    if choice_cell(table, order, row, s) >= SIDE_LIMIT as u16 {
-        return false;
+    // A row's first cell, its rank, and for an observation its choice and its next row.
+    pub fn first(&self, row: usize) -> u16
+        requires { row < self.now.shape.rows }
+        ensures { result ≡ first_cell self.now.shape.order self.now.cells.now row }
+    {
+        first_cell(self.cells, self.shape.order, row)
     }
-    is_next(table, shape, next_cell(table, order, row, s))
-}
 
-// Whether a row's first cell is as it must be, and the cells of each of its observations are.
-fn leads_on(table: &[u16], shape: Shape, row: usize) -> bool
-    requires order_in_bounds { shape.rows * row_size shape.order ≤ length table.now }
-    requires row_lt_rows { row < shape.rows }
-    requires observed_le_kind_limit { shape.observed ≤ kind_limit }
-    ensures { result ≡ leads_on table.now shape row }
-{
-    let order = shape.order;
-    if !is_first(order, first_cell(table, order, row)) {
-        return false;
+    pub fn rank(&self, row: usize) -> u16
+        requires { row < self.now.shape.rows }
+        ensures { result ≡ rank_cell self.now.shape.order self.now.cells.now row }
+    {
+        rank_cell(self.cells, self.shape.order, row)
     }
-    let n = next_count(table, shape, row);
-    let mut s = 0;
-    while s < n {
-        if !is_pair(table, shape, row, s) {
+
+    pub fn choice(&self, row: usize, s: usize) -> u16
+        requires row_lt_rows { row < self.now.shape.rows }
+        requires s_lt_side_limit { s < side_limit }
+        ensures { result ≡ choice_cell self.now.shape.order self.now.cells.now row s }
+    {
+        choice_cell(self.cells, self.shape.order, row, s)
+    }
+
+    pub fn next(&self, row: usize, s: usize) -> u16
+        requires row_lt_rows { row < self.now.shape.rows }
+        requires s_lt_side_limit { s < side_limit }
+        ensures { result ≡ next_cell self.now.shape.order self.now.cells.now row s }
+    {
+        next_cell(self.cells, self.shape.order, row, s)
+    }
+
+    // Whether a row's rank fits the row by itself: below the row count, 0 where the row stops and not 0 where it goes on.
+    fn rank_fits(&self, row: usize) -> bool
+        requires { row < self.now.shape.rows }
+        ensures { result ≡ rank_fits self.now.cells.now self.now.shape row }
+    {
+        let rank = self.rank(row) as usize;
+        if rank >= self.shape.rows {
             return false;
         }
-        s += 1;
+        if self.first(row) == STOP {
+            return rank == 0;
+        }
+        rank > 0
     }
-    true
-}
 
-// Whether the next row for observation s ranks lower.
-fn is_lower(table: &[u16], shape: Shape, row: usize, s: usize) -> bool
-    requires order_in_bounds { shape.rows * row_size shape.order ≤ length table.now }
-    requires row_lt_rows { row < shape.rows }
-    requires s_lt_side_limit { s < side_limit }
-    requires s_bound { next_cell shape.order table.now row s < shape.rows }
-    ensures { result ≡ is_lower table.now shape row s }
-{
-    let order = shape.order;
-    let next = next_cell(table, order, row, s) as usize;
-    rank_cell(table, order, next) < rank_cell(table, order, row)
-}
-
-// Whether a row's rank fits the row, and each next row ranks lower.
-pub fn is_ranked(table: &[u16], shape: Shape, row: usize) -> bool
-    requires order_in_bounds { shape.rows * row_size shape.order ≤ length table.now }
-    requires row_lt_rows { row < shape.rows }
-    requires observed_le_kind_limit { shape.observed ≤ kind_limit }
-    requires leads { Leads table.now shape row }
-    ensures { result ≡ is_ranked table.now shape row }
-{
-    if !rank_fits(table, shape, row) {
-        return false;
+    // Whether a cell leads to a row.
+    fn is_next(&self, next: u16) -> bool
+        ensures { result ≡ is_next self.now.cells.now self.now.shape next }
+    {
+        let row = next as usize;
+        row < self.shape.rows && is_first(self.shape.order, self.first(row)) && self.rank_fits(row)
     }
-    let n = next_count(table, shape, row);
-    let mut s = 0;
-    while s < n {
-        if !is_lower(table, shape, row, s) {
+
+    // How many observations there are.
+    #[tactic(auto, using(crate::proofs::WellFormedLaws::side_le))]
+    pub fn observations(&self) -> usize
+        ensures value { result ≡ 2 ^ self.now.shape.observed }
+        ensures few { result ≤ side_limit }
+    {
+        1 << self.shape.observed
+    }
+
+    // How many observations a row has cells for.
+    fn next_count(&self, row: usize) -> usize
+        requires { row < self.now.shape.rows }
+        ensures value { result ≡ next_count self.now.cells.now self.now.shape row }
+        ensures few { result ≤ side_limit }
+    {
+        if self.first(row) == STOP {
+            0
+        } else {
+            self.observations()
+        }
+    }
+
+    // Whether the cells of an observation are a choice, and lead to a row.
+    fn is_pair(&self, row: usize, s: usize) -> bool
+        requires row_lt_rows { row < self.now.shape.rows }
+        requires s_lt_side_limit { s < side_limit }
+        ensures { result ≡ is_pair self.now.cells.now self.now.shape row s }
+    {
+        self.choice(row, s) < SIDE_LIMIT as u16 && self.is_next(self.next(row, s))
+    }
+
+    // Whether a row's first cell is as it must be, and the cells of each of its observations are.
+    #[tactic(auto, using(basics::proofs::BoundedLaws::all_more), unfolding(crate::specs::WellFormed::leads_on))]
+    fn leads_on(&self, row: usize) -> bool
+        requires { row < self.now.shape.rows }
+        ensures { result ≡ leads_on self.now.cells.now self.now.shape row }
+    {
+        if !is_first(self.shape.order, self.first(row)) {
             return false;
         }
-        s += 1;
-    }
-    true
-}
-
-// Whether the cabinet may stand on a row.
-pub fn is_row(table: &[u16], shape: Shape, row: usize) -> bool
-    requires order_in_bounds { shape.rows * row_size shape.order ≤ length table.now }
-    requires row_lt_rows { row < shape.rows }
-    requires observed_le_kind_limit { shape.observed ≤ kind_limit }
-    ensures { result ≡ is_row table.now shape row }
-{
-    if !leads_on(table, shape, row) {
-        return false;
-    }
-    is_ranked(table, shape, row)
-}
-
-// Whether an observation's own cells are 0.
-fn is_blank_at(table: &[u16], order: Order, row: usize, s: usize) -> bool
-    requires order_in_bounds { row * row_size order + row_size order ≤ length table.now }
-    requires s_lt_side_limit { s < side_limit }
-    ensures { result ≡ is_blank_at order table.now row s }
-{
-    match order {
-        Order::Set => next_cell(table, order, row, s) == 0,
-        Order::Read => {
-            (choice_cell(table, order, row, s) == 0) & (next_cell(table, order, row, s) == 0)
+        for s in 0..self.next_count(row) {
+            if !self.is_pair(row, s) {
+                return false;
+            }
         }
+        true
     }
-}
 
-// Whether the unused cells of a row are 0.
-fn is_blank(table: &[u16], shape: Shape, row: usize) -> bool
-    requires order_in_bounds { shape.rows * row_size shape.order ≤ length table.now }
-    requires row_lt_rows { row < shape.rows }
-    requires observed_le_kind_limit { shape.observed ≤ kind_limit }
-    ensures { result ≡ is_blank table.now shape row }
-{
-    let order = shape.order;
-    let n = next_count(table, shape, row);
-    let mut s = 0;
-    while s < SIDE_LIMIT {
-        if (s >= n) & !is_blank_at(table, order, row, s) {
+    // Whether the next row for observation s ranks lower.
+    fn is_lower(&self, row: usize, s: usize) -> bool
+        requires row_lt_rows { row < self.now.shape.rows }
+        requires s_lt_side_limit { s < side_limit }
+        requires s_bound { next_cell self.now.shape.order self.now.cells.now row s < self.now.shape.rows }
+        ensures { result ≡ is_lower self.now.cells.now self.now.shape row s }
+    {
+        self.rank(self.next(row, s) as usize) < self.rank(row)
+    }
+
+    // Whether a row's rank fits the row, and each next row ranks lower.
+    #[tactic(auto, using(basics::proofs::BoundedLaws::all_more), unfolding(crate::specs::WellFormed::is_ranked))]
+    pub fn is_ranked(&self, row: usize) -> bool
+        requires row_lt_rows { row < self.now.shape.rows }
+        requires leads { Leads self.now.cells.now self.now.shape row }
+        ensures { result ≡ is_ranked self.now.cells.now self.now.shape row }
+    {
+        if !self.rank_fits(row) {
             return false;
         }
-        s += 1;
-    }
-    true
-}
-
-// Whether every row can be printed.
-fn are_rows(table: &[u16], shape: Shape) -> bool
-    requires order_in_bounds { shape.rows * row_size shape.order ≤ length table.now }
-    requires observed_le_kind_limit { shape.observed ≤ kind_limit }
-    ensures { result ≡ all shape.rows (is_printable_row table.now shape) }
-{
-    let rows = shape.rows;
-    let mut row = 0;
-    while row < rows {
-        if !is_row(table, shape, row) | !is_blank(table, shape, row) {
-            return false;
+        for s in 0..self.next_count(row) {
+            if !self.is_lower(row, s) {
+                return false;
+            }
         }
-        row += 1;
+        true
     }
-    true
-}
 
-// Whether a table can be printed.
-pub fn is_printable(table: &[u16], shape: Shape, worst: usize) -> bool
-    ensures { result ≡ is_printable table.now shape worst }
-{
-    if !is_sized(table.len(), shape) {
-        return false;
+    // Whether the cabinet may stand on a row.
+    #[tactic(auto, using(crate::proofs::TestsSay::leads_asks), unfolding(crate::specs::WellFormed::is_row))]
+    pub fn is_row(&self, row: usize) -> bool
+        requires { row < self.now.shape.rows }
+        ensures { result ≡ is_row self.now.cells.now self.now.shape row }
+    {
+        self.leads_on(row) && self.is_ranked(row)
     }
-    let order = shape.order;
-    if rank_cell(table, order, 0) as usize != worst {
-        return false;
+
+    // Whether an observation's own cells are 0.
+    fn is_blank_at(&self, row: usize, s: usize) -> bool
+        requires row_lt_rows { row < self.now.shape.rows }
+        requires s_lt_side_limit { s < side_limit }
+        ensures { result ≡ is_blank_at self.now.shape.order self.now.cells.now row s }
+    {
+        match self.shape.order {
+            Order::Set => self.next(row, s) == 0,
+            Order::Read => self.choice(row, s) == 0 && self.next(row, s) == 0,
+        }
     }
-    are_rows(table, shape)
+
+    // Whether the unused cells of a row are 0.
+    #[tactic(auto, using(crate::proofs::WellFormedLaws::blank_more))]
+    fn is_blank(&self, row: usize) -> bool
+        requires { row < self.now.shape.rows }
+        ensures { result ≡ is_blank self.now.cells.now self.now.shape row }
+    {
+        let n = self.next_count(row);
+        for s in n..SIDE_LIMIT {
+            if !self.is_blank_at(row, s) {
+                return false;
+            }
+        }
+        true
+    }
+
+    // Whether a row can be printed.
+    #[tactic(auto, unfolding(crate::specs::WellFormed::is_printable_row))]
+    fn is_printable_row(&self, row: usize) -> bool
+        requires { row < self.now.shape.rows }
+        ensures { result ≡ is_printable_row self.now.cells.now self.now.shape row }
+    {
+        self.is_row(row) && self.is_blank(row)
+    }
+
+    // Whether every row can be.
+    #[tactic(auto, using(basics::proofs::BoundedLaws::all_more))]
+    fn are_rows(&self) -> bool
+        ensures { result ≡ all self.now.shape.rows (is_printable_row self.now.cells.now self.now.shape) }
+    {
+        for row in 0..self.shape.rows {
+            if !self.is_printable_row(row) {
+                return false;
+            }
+        }
+        true
+    }
+
+    // Whether the table can be printed.
+    pub fn is_printable(&self, worst: usize) -> bool
+        ensures { result ≡ is_printable self.now.cells.now self.now.shape worst }
+    {
+        self.rank(0) as usize == worst && self.are_rows()
+    }
 }

@@ -9,8 +9,8 @@ use mathlib.Core.Bool.{Bool, true, false, cond, not, ◌&&◌, ◌||◌, or_comm
 use mathlib.Core.List.{List, [], ◌∷◌, ◌++◌, append-nil}
 use lib.Bits.{bit_and, and_mask}
 use lib.Dec.{eqb}
-use lib.ListN.{length, get_or, set, drop, replicate, length-set, length-append}
-use lib.Seq.{get_or-set_same, get_or-set_other}
+use lib.ListN.{length, get_or, set, take, drop, replicate, length-set, length-append}
+use lib.Seq.{get_or-set_same, get_or-set_other, get_or-take, length-take-le}
 use borrow.Author.Tests.{eqb-true, eq-eqb, ne_eqb}
 use Rattle.basics.specs.Bits.{bit}
 use Rattle.basics.specs.Bounded.{all, any}
@@ -24,7 +24,7 @@ use Rattle.search.specs.Limits.{state_limit, set_size}
 use Rattle.search.specs.Slots.{item_in}
 use Rattle.play.specs.Belief.{has, every}
 use Rattle.beliefs.specs.BeliefMemory.{belief_size, pack_belief, belief_in, successor_in, Successors, belief_after, accepts_in}
-use Rattle.beliefs.specs.BeliefMemory.{passing, members_of, Members, Leads, is_member, belief_of, all_accept, with_hidden, after_members}
+use Rattle.beliefs.specs.BeliefMemory.{passing, members_of, Members, is_member, belief_of, all_accept, with_hidden, after_members}
 use Rattle.beliefs.proofs.LimitsLaws.{state_bits}
 use Rattle.beliefs.proofs.BeliefMemoryLaws.{Bits, bits_same, bits_unique, bits_none, bits_hidden, belief_bits, has_table, leads_to, letter_lt}
 
@@ -50,8 +50,23 @@ has_member : (n : ℕ) (members : List ℕ) (count s : ℕ) → s < n → has (b
 unfolding belief_of
 has_member n members count s h = get_d_tabulate n (is_member members count) s false h
 
-pub members_fewer : (n m : ℕ) (members : List ℕ) (count : ℕ) → n ≤ m → Members n members count → Members m members count
-members_fewer n m members count h g = record { fits = g.fits; small = λ i l. omega (arith, g.small i l) }
+-- the list of the first `count` alone has them too
+module _ (n : ℕ) (members : List ℕ) (count : ℕ) (g : Members n members count) where
+  front_length : length (take count members) ≡ count
+  front_length = length-take-le count members g.fits
+
+  pub members_front : Members n (take count members) (length (take count members))
+  members_front =
+      rw front_length (record {
+        fits = omega (arith, front_length);
+        small = λ i h. subst (λ x. x < n) (sym (get_or-take count members i 0 h)) (g.small i h);
+      })
+
+  pub belief_front : belief_of n (take count members) (length (take count members)) ≡ belief_of n members count
+  unfolding belief_of
+  belief_front =
+      ap (λ m. tabulate n (is_member (take count members) m)) front_length
+      ∙ tabulate_ext n _ _ (λ s h. member_ext (take count members) members count s (λ i l. get_or-take count members i 0 l))
 
 module _ (n : ℕ) (members : List ℕ) (count : ℕ) (g : Members n members count) where
   -- some member passes a test, if some state of the belief does
@@ -93,7 +108,7 @@ module _ (n : ℕ) (members : List ℕ) (count : ℕ) (g : Members n members cou
 
 -- ---- the belief after a pair
 
-after_start : (successors members : List ℕ) (q pairs hiddens : ℕ) → after_members successors members q pairs hiddens 0 ≡ replicate belief_size 0
+pub after_start : (successors members : List ℕ) (q pairs hiddens : ℕ) → replicate belief_size 0 ≡ after_members successors members q pairs hiddens 0
 unfolding after_members
 after_start successors members q pairs hiddens = refl
 
@@ -105,20 +120,16 @@ after_next successors members q pairs hiddens c = refl
 
 module _ (successors members : List ℕ) (n count pairs hiddens q : ℕ) (few : n ≤ state_limit) (right : Successors successors n pairs hiddens)
     (g : Members n members count) (q_lt : q < pairs) where
-  -- letters of all pairs lead to states
-  pub members_lead : Leads successors pairs hiddens members count
-  members_lead = record { small = λ i a h l. omega (arith, right.inside (get_or members i 0) a (g.small i h) l) }
-
   -- some of the first c members leads to p
   abbrev reaches : ℕ → ℕ → Bool
   reaches c p = any c (λ i. leads_to successors q pairs hiddens (get_or members i 0) p)
 
   after_bits : (c : ℕ) → c ≤ count → Bits (after_members successors members q pairs hiddens c) (reaches c)
-  after_bits zero h = subst (λ l. Bits l (reaches 0)) (sym (after_start successors members q pairs hiddens)) (bits_same _ bits_none (λ p l. refl))
+  after_bits zero h = subst (λ l. Bits l (reaches 0)) (after_start successors members q pairs hiddens) (bits_same _ bits_none (λ p l. refl))
   after_bits (suc c) h =
       subst (λ l. Bits l (reaches (suc c))) (sym (after_next successors members q pairs hiddens c))
       (bits_same _ (bits_hidden (after_bits c (omega arith)) successors (get_or members c 0) q pairs hiddens
-      (λ k l. omega (arith, state_bits, members_lead.small c (q + k * pairs) h (letter_lt q pairs k hiddens q_lt l))))
+      (λ k l. omega (arith, state_bits, right.inside (get_or members c 0) (q + k * pairs) (g.small c h) (letter_lt q pairs k hiddens q_lt l))))
       (λ p l. or_comm (reaches c p) (leads_to successors q pairs hiddens (get_or members c 0) p)
       ∙ sym (any_suc c (λ i. leads_to successors q pairs hiddens (get_or members i 0) p))))
 
@@ -287,11 +298,7 @@ module _ (sets members : List ℕ) where
   accept_fails count i h e =
       all_fails count _ i h (low_bit (get_or sets (get_or members i 0 * set_size) 0) ∙ ap (λ y. eqb y 1) e)
 
--- `put_after`
-pub after_none : (successors members : List ℕ) (q pairs hiddens : ℕ) (w : List ℕ) (m : ℕ) → m ≡ belief_size → w ≡ replicate m 0
-    → w ≡ after_members successors members q pairs hiddens 0
-after_none successors members q pairs hiddens w m e r = r ∙ ap (λ k. replicate k 0) e ∙ sym (after_start successors members q pairs hiddens)
-
+-- `after_members`
 pub after_more : (successors members : List ℕ) (q pairs hiddens i : ℕ) (w v : List ℕ) → w ≡ after_members successors members q pairs hiddens i
     → v ≡ with_hidden successors (get_or members i 0) q pairs hiddens w → v ≡ after_members successors members q pairs hiddens (i + 1)
 after_more successors members q pairs hiddens i w v e r =

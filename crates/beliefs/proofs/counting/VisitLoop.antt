@@ -1,5 +1,6 @@
 -- The turns of the search for all beliefs: the first one, the marks of those that are final, and what is left at the end.
 -- Assumes nothing.
+use Rattle.std.specs.Prelude.{None, Option, Some}
 use Prim.Native.Nat.{ℕ, ◌+◌, ◌*◌, ◌≤◌, ◌<◌}
 use native.Mathlib.Nat.{le_trans}
 use native.Mathlib.Omega.{arith}
@@ -20,8 +21,6 @@ use Rattle.basics.proofs.BitsLaws.{digit_is}
 use Rattle.basics.proofs.BoundedLaws.{last_or_before}
 use Rattle.basics.proofs.ListsLaws.{get_d_map_in}
 use Rattle.basics.proofs.ReachLaws.{added_all}
-use Rattle.search.specs.declared.searching.Explored.{Explored}
-use Rattle.search.specs.declared.searching.Explored.TheVariants.{Found, TooMany}
 use Rattle.search.specs.Limits.{state_limit}
 use Rattle.search.specs.ReachableSets.{same_set}
 use Rattle.search.specs.Slots.{count_up_to, explored_of, RanItems}
@@ -68,20 +67,17 @@ module _ (sets : List ℕ) (n : ℕ) (b : Belief) (finals finals' : List ℕ) (i
   other_pairs ne = rw (sym mark_tells ∙ ne_eqb _ 1 ne) refl
 
 -- what `visit_belief` answers and leaves
-module _ (sets successors : List ℕ) (n hiddens : ℕ) (mem : List ℕ) (k : ℕ) (row : List ℕ) (b : Belief) (finals finals' : List ℕ) (i : ℕ)
+module _ (sets successors : List ℕ) (n pairs hiddens : ℕ) (mem : List ℕ) (k : ℕ) (row : List ℕ) (b : Belief) (finals finals' : List ℕ) (i : ℕ)
     (h : i < length finals) (marked : finals' ≡ set finals i (mark_of sets n b)) where
-  abbrev pairs : ℕ
-  pairs = length row
-
-  abbrev Visited : Explored → List ℕ → List ℕ → Type 0
+  abbrev Visited : Option ℕ → List ℕ → List ℕ → Type 0
   Visited = TriedAll successors n hiddens mem k row pairs (pairs_from sets n pairs b) b
 
-  pub visited_final : get_or finals' i 0 ≡ 1 → k ≤ belief_limit → HoldsBeliefs n mem k → Visited (Found k) mem row
+  pub visited_final : get_or finals' i 0 ≡ 1 → k ≤ belief_limit → HoldsBeliefs n mem k → Visited (Some k) mem row
   visited_final e few held =
-      same_tried successors n hiddens mem k row pairs 0 (pairs_from sets n pairs b) b b (Found k) mem row
+      same_tried successors n hiddens mem k row pairs 0 (pairs_from sets n pairs b) b b (Some k) mem row
       (final_pairs sets n b finals finals' i pairs h marked e) refl (tried_none successors n hiddens mem k row pairs b few held)
 
-  pub visited_other : (get_or finals' i 0 ≡ 1 → ⊥) → (x : Belief) → x ≡ b → (r : Explored) (mem' row' : List ℕ)
+  pub visited_other : (get_or finals' i 0 ≡ 1 → ⊥) → (x : Belief) → x ≡ b → (r : Option ℕ) (mem' row' : List ℕ)
       → TriedAll successors n hiddens mem k row pairs pairs x r mem' row' → Visited r mem' row'
   visited_other ne x e r mem' row' =
       same_tried successors n hiddens mem k row pairs pairs (pairs_from sets n pairs b) x b r mem' row'
@@ -89,7 +85,7 @@ module _ (sets successors : List ℕ) (n hiddens : ℕ) (mem : List ℕ) (k : �
 
 -- the beliefs that are there stay where they are while pairs are tried
 pub belief_stays : (successors : List ℕ) (n pairs hiddens c : ℕ) (mem : List ℕ) (k : ℕ) (b : Belief) (m : ℕ) (row₀ mem' row : List ℕ)
-    → Found m ≡ count_up_to belief_limit (tried_from successors n pairs hiddens c mem k b) → Tried successors n pairs hiddens c mem k b row₀ mem' row
+    → Some m ≡ count_up_to belief_limit (tried_from successors n pairs hiddens c mem k b) → Tried successors n pairs hiddens c mem k b row₀ mem' row
     → (j : ℕ) → j < k → belief_in n mem' j ≡ belief_in n mem j
 unfolding grown_over
 belief_stays successors n pairs hiddens c mem k b m row₀ mem' row count tried j h =
@@ -162,11 +158,11 @@ module _ (sets successors : List ℕ) (n pairs hiddens : ℕ) where
   module _ {mem moves : List ℕ} {k i : ℕ} (t : BeliefTurn mem moves k i) where
     -- too many
     pub turn_many : i < k → (moves' finals : List ℕ)
-        → TooMany ≡ count_up_to belief_limit (tried_from successors n pairs hiddens (pairs_from sets n pairs (belief_in n mem i)) mem k (belief_in n mem i))
-        → (TooMany ≡ explored_of counted) × RanBeliefs sets successors n pairs hiddens counted moves' finals
+        → None ≡ count_up_to belief_limit (tried_from successors n pairs hiddens (pairs_from sets n pairs (belief_in n mem i)) mem k (belief_in n mem i))
+        → (None ≡ explored_of counted) × RanBeliefs sets successors n pairs hiddens counted moves' finals
     turn_many here moves' finals q =
         let tried = pairs_from sets n pairs (belief_in n mem i) in
-        subst (λ l. (TooMany ≡ explored_of l) × RanBeliefs sets successors n pairs hiddens l moves' finals)
+        subst (λ l. (None ≡ explored_of l) × RanBeliefs sets successors n pairs hiddens l moves' finals)
         (sym (turn_over t here tried refl
         (count_many belief_limit (tried_from successors n pairs hiddens tried mem k (belief_in n mem i)) q)))
         (refl, tt)
@@ -174,7 +170,7 @@ module _ (sets successors : List ℕ) (n pairs hiddens : ℕ) where
     -- all
     pub turn_ran : k ≤ i → n ≤ state_limit → pairs ≤ pair_limit → length mem ≡ (belief_limit + 1) * belief_size → length moves ≡ belief_limit * pair_limit
         → (finals : List ℕ) → Marked sets n mem i finals
-        → (Found k ≡ explored_of counted) × RanBeliefs sets successors n pairs hiddens counted moves finals
+        → (Some k ≡ explored_of counted) × RanBeliefs sets successors n pairs hiddens counted moves finals
     turn_ran none_left few few_pairs room space finals g = (
       turn_answer t none_left,
       subst (λ l. RanBeliefs sets successors n pairs hiddens l moves finals) (sym (turn_closed t none_left))

@@ -1,27 +1,32 @@
 -- From the beliefs that were explored to the answer: their rows and marks are the beliefs by their numbers.
 -- Assumes nothing.
-use Prim.Native.Nat.{ℕ, suc, ◌+◌, ◌*◌, ◌≤◌, ◌<◌}
-use native.Mathlib.Nat.{add_assoc, mul-le-mul}
+use Rattle.tables.specs.declared.answering.Outcome.{Outcome}
+use Rattle.lines.specs.declared.refusal.Refusal.{Refusal}
+use Rattle.tables.specs.declared.shape.Table.{Table}
+use Rattle.std.specs.Prelude.{Err, None, Option, Result, Some}
+use Prim.Native.Nat.{ℕ, suc, ◌+◌, ◌*◌, ◌%◌, ◌^◌, ◌≤◌, ◌<◌}
+use native.Mathlib.Nat.{add_assoc, mul-le-mul, pow-le-pow_right}
+use native.Mathlib.Omega.{arith}
 use mathlib.Core.Path.{◌≡◌, refl, sym, ap, ap₂, ◌∙◌, subst}
 use mathlib.Core.Bool.{false, cond}
 use mathlib.Core.List.{List, ◌++◌}
-use lib.Dec.{eqb}
+use lib.Dec.{eqb, lit<}
+use lib.Pow.{pow_pos, pow-add}
 use lib.ListN.{length, get_or, length-map, get_or-append}
 use Rattle.lines.specs.declared.refusal.Refusal.TheVariants as refusal
 use Rattle.basics.proofs.ListsLaws.{get_d_map_in}
-use Rattle.search.specs.declared.searching.Explored.TheVariants.{Found, TooMany}
 use Rattle.basics.specs.Lists.{padded, written}
 use Rattle.basics.specs.Member.{◌∈◌}
-use Rattle.basics.specs.Reach.{Listing, closed, index_in}
+use Rattle.basics.specs.Reach.{Listing, closed, over, index_in}
 use Rattle.search.specs.ReachableSets.{same_set}
 use Rattle.search.specs.Slots.{explored_of}
-use Rattle.basics.proofs.BitsLaws.{digit_is}
+use Rattle.basics.proofs.BitsLaws.{digit_is, shl_one}
+use Rattle.basics.specs.Limits.{kind_limit}
+use Rattle.lines.specs.declared.problem.Sizes.{Sizes}
+use Rattle.lines.specs.Memory.{order_in}
 use Rattle.search.proofs.ReachableSetsLaws.{same_set_says}
-use Rattle.tables.specs.declared.answering.Outcome.{Outcome}
-use Rattle.game.specs.declared.solving.Solved.{Solved}
-use Rattle.game.specs.declared.solving.Solved.TheVariants.{Refused}
 use Rattle.basics.specs.declared.order.Order.{Order}
-use Rattle.play.specs.Limits.{belief_limit, pair_limit}
+use Rattle.play.specs.Limits.{belief_limit, pair_limit, side_limit}
 use Rattle.play.specs.Rank.{Arena}
 use Rattle.play.specs.Belief.{Belief}
 use Rattle.play.specs.Table.{list_of}
@@ -30,7 +35,7 @@ use Rattle.tables.specs.Outcome.{outcome_of}
 use Rattle.game.specs.Solution.{Solution, too_many_beliefs, verdict, solution_of}
 use Rattle.game.specs.SolvedAs.{solved_with, solved_of, cells_of}
 use Rattle.beliefs.specs.BeliefMemory.{counted_beliefs, finals_of, moves_of}
-use Rattle.game.specs.StateMemory.{Widths, memory_solution}
+use Rattle.game.specs.StateMemory.{memory_solution}
 use Rattle.tables.specs.PositionMemory.{arena_in, Positions}
 use Rattle.play.proofs.AnswerLaws.{start_counted, move_counted}
 use Rattle.play.proofs.SameAnswer.{Renaming, verdict_image}
@@ -39,20 +44,61 @@ use Rattle.beliefs.proofs.ListedBeliefs.{counted_some, counted_over, beliefs_few
 use Rattle.game.proofs.LetterNumbers.{pair_lt}
 use Rattle.game.proofs.SameBeliefs.{beliefs_in, pair_move, counted_same}
 
-pub widths_pairs : (choices observations hiddens : ℕ) → Widths choices observations hiddens → choices * observations ≤ pair_limit
-widths_pairs choices observations hiddens w = mul-le-mul w.few_choices w.few_observations
+-- choices and observations of at most four signals each
+pub record Widths (choices observations : ℕ) : Type 0 where
+  pub some_choice : 0 < choices
+  pub few_choices : choices ≤ side_limit
+  pub some_observation : 0 < observations
+  pub few_observations : observations ≤ side_limit
+
+widths_pairs : (choices observations : ℕ) → Widths choices observations → choices * observations ≤ pair_limit
+widths_pairs choices observations w = mul-le-mul w.few_choices w.few_observations
+
+module _ (s : Sizes) where
+  -- how many there are, as the code shifts them
+  abbrev shifted_choices : ℕ
+  shifted_choices = 1 * 2 ^ s.outputs % 18446744073709551616
+
+  abbrev shifted_observations : ℕ
+  shifted_observations = 1 * 2 ^ s.observed % 18446744073709551616
+
+  module _ (outputs_few : s.outputs ≤ kind_limit) (observed_few : s.observed ≤ kind_limit) where
+    choices_are : shifted_choices ≡ 2 ^ s.outputs
+    choices_are = shl_one s.outputs (omega arith)
+
+    observations_are : shifted_observations ≡ 2 ^ s.observed
+    observations_are = shl_one s.observed (omega arith)
+
+    pub shifted_widths : Widths shifted_choices shifted_observations
+    shifted_widths =
+        rw (choices_are, observations_are)
+        (record {
+          some_choice = pow_pos s.outputs;
+          few_choices = pow-le-pow_right (lit< tt) outputs_few;
+          some_observation = pow_pos s.observed;
+          few_observations = pow-le-pow_right (lit< tt) observed_few;
+        })
+
+    shifted_pairs : (pairs : ℕ) → pairs ≡ 2 ^ (s.outputs + s.observed) → pairs ≡ shifted_choices * shifted_observations
+    shifted_pairs pairs e = rw (choices_are, observations_are) (e ∙ pow-add 2 s.outputs s.observed)
 
 -- ---- the rows are positions, closed under moves
 
-module _ (sets successors : List ℕ) (n choices observations hiddens : ℕ) (w : Widths choices observations hiddens) where
+-- what `explore_beliefs` answers and leaves where there are k beliefs
+module _ (sets successors : List ℕ) (n hiddens pairs : ℕ) where
   abbrev l : Listing Belief
-  l = counted_beliefs sets successors n (choices * observations) hiddens belief_limit
+  l = counted_beliefs sets successors n pairs hiddens belief_limit
 
-  pub counted_positions : (k : ℕ) → Found k ≡ explored_of l → (rows finals : List ℕ)
-      → rows ≡ padded (belief_limit * pair_limit) (moves_of sets successors n (choices * observations) hiddens l)
+  pub record Explored (k : ℕ) (rows finals room : List ℕ) : Type 0 where
+    pub count : Some k ≡ explored_of l
+    pub rows_are : rows ≡ padded (belief_limit * pair_limit) (moves_of sets successors n pairs hiddens l)
+    pub marked : finals ≡ written (finals_of sets n (list_of l)) room
+
+module _ (sets successors : List ℕ) (n choices observations hiddens : ℕ) (w : Widths choices observations) where
+  pub counted_positions : (k : ℕ) (rows finals room : List ℕ) → Explored sets successors n hiddens (choices * observations) k rows finals room
       → length rows ≡ belief_limit * pair_limit → length finals ≡ belief_limit → Positions k choices observations rows finals
-  counted_positions k got rows finals rows_are rows_long finals_long =
-      let (bs, counted, count) = counted_some l k got in
+  counted_positions k rows finals room x rows_long finals_long =
+      let (bs, counted, count) = counted_some (counted_beliefs sets successors n (choices * observations) hiddens belief_limit) k x.count in
       subst (λ m. Positions m choices observations rows finals) count (
       record {
         some = beliefs_some sets successors n (choices * observations) hiddens belief_limit bs counted;
@@ -65,10 +111,10 @@ module _ (sets successors : List ℕ) (n choices observations hiddens : ℕ) (w 
         finals_long = finals_long;
         inside = λ i c s h cb sb.
             subst (λ x. x < length bs)
-            (ap₂ (λ t j. get_or t j 0) (sym (rows_are ∙ ap (λ r. padded (belief_limit * pair_limit)
+            (ap₂ (λ t j. get_or t j 0) (sym (x.rows_are ∙ ap (λ r. padded (belief_limit * pair_limit)
             (moves_of sets successors n (choices * observations) hiddens r)) counted))
             (sym (add_assoc (i * pair_limit) (s * choices) c)))
-            (beliefs_inside sets successors n (choices * observations) hiddens belief_limit bs counted (widths_pairs choices observations hiddens w) _ i
+            (beliefs_inside sets successors n (choices * observations) hiddens belief_limit bs counted (widths_pairs choices observations w) _ i
             (s * choices + c) h
             (pair_lt choices observations c s cb sb));
       }
@@ -140,7 +186,7 @@ module _ (sets successors : List ℕ) (n choices observations hiddens : ℕ) (fe
 -- ---- what `solve_states` answers and writes
 
 -- a solution is answered, for an order and so many observed signals, and written to the table
-abbrev pub Answered : Order → ℕ → Solution → Solved → List ℕ → List ℕ → Type 0
+abbrev pub Answered : Order → ℕ → Solution → Result Table Refusal → List ℕ → List ℕ → Type 0
 Answered o observed x r table table' = (r ≡ solved_of o observed x) × (table' ≡ written (cells_of x) table)
 
 module _ (o : Order) (sets successors : List ℕ) (n choices observations hiddens observed : ℕ) where
@@ -150,29 +196,51 @@ module _ (o : Order) (sets successors : List ℕ) (n choices observations hidden
   abbrev counts : Listing Belief
   counts = counted_beliefs sets successors n (choices * observations) hiddens belief_limit
 
-  pub solved_verdict : Widths choices observations hiddens → (k : ℕ) → Found k ≡ explored_of counts
-      → (rows : List ℕ) → rows ≡ padded (belief_limit * pair_limit) (moves_of sets successors n (choices * observations) hiddens counts)
-      → (finals room : List ℕ) → finals ≡ written (finals_of sets n (list_of counts)) room
-      → (x : Outcome) (table table' : List ℕ) → x ≡ outcome_of (verdict_of o (arena_in choices rows finals) eqb choices observations k)
+  pub solved_verdict : Widths choices observations → (k : ℕ) (rows finals room : List ℕ)
+      → Explored sets successors n hiddens (choices * observations) k rows finals room
+      → (x : Option Outcome) (table table' : List ℕ) → x ≡ outcome_of (verdict_of o (arena_in choices rows finals) eqb choices observations k)
       → table' ≡ written (verdict_cells (verdict_of o (arena_in choices rows finals) eqb choices observations k)) table
       → Answered o observed solution (solved_with o observed x) table table'
   unfolding memory_solution
-  solved_verdict w k got rows rows_are finals room marked x table table' e f =
+  solved_verdict w k rows finals room g x table table' e f =
       (ap (solved_with o observed) e ∙ ap (solved_of o observed) same, f ∙ ap (λ r. written (cells_of r) table) same)
     where
       same : verdict (verdict_of o (arena_in choices rows finals) eqb choices observations k) ≡ solution
       same =
-          let (bs, tried, count) = counted_some counts k got in
+          let (bs, tried, count) = counted_some counts k g.count in
           ap (λ m. verdict (verdict_of o (arena_in choices rows finals) eqb choices observations m)) (sym count)
-          ∙ verdict_kept sets successors n choices observations hiddens (widths_pairs choices observations hiddens w) belief_limit bs tried finals _
-          (marked ∙ ap (λ r. written (finals_of sets n (list_of r)) room) tried) (belief_limit * pair_limit) rows
-          (rows_are ∙ ap (λ r. padded (belief_limit * pair_limit) (moves_of sets successors n (choices * observations) hiddens r)) tried) o w.some_observation
+          ∙ verdict_kept sets successors n choices observations hiddens (widths_pairs choices observations w) belief_limit bs tried finals _
+          (g.marked ∙ ap (λ r. written (finals_of sets n (list_of r)) room) tried) (belief_limit * pair_limit) rows
+          (g.rows_are ∙ ap (λ r. padded (belief_limit * pair_limit) (moves_of sets successors n (choices * observations) hiddens r)) tried) o
+          w.some_observation
 
-  pub solved_many : TooMany ≡ explored_of counts → (table : List ℕ) → Answered o observed solution (Refused refusal.TooManyBeliefs) table table
+  pub solved_many : (k : ℕ) → k ≡ choices * observations
+      → None ≡ explored_of (counted_beliefs sets successors n k hiddens belief_limit) → (table : List ℕ)
+      → Answered o observed solution (Err refusal.TooManyBeliefs) table table
   unfolding memory_solution
-  solved_many many table = (ap (solved_of o observed) same, ap (λ r. written (cells_of r) table) same)
+  solved_many k e many table = (ap (solved_of o observed) same, ap (λ r. written (cells_of r) table) same)
     where
+      is_over : counts ≡ over
+      is_over = counted_over counts (subst (λ p. None ≡ explored_of (counted_beliefs sets successors n p hiddens belief_limit)) e many)
+
       same : too_many_beliefs ≡ solution
       same =
           sym (ap (solution_of o (beliefs_in sets successors n choices observations hiddens) same_set choices observations)
-          (sym (counted_same sets successors n choices observations hiddens belief_limit) ∙ counted_over counts many))
+          (sym (counted_same sets successors n choices observations hiddens belief_limit) ∙ is_over))
+
+-- said of the powers that the code shifts, and of the order that is kept
+module _ (s : Sizes) (outputs_few : s.outputs ≤ kind_limit) (observed_few : s.observed ≤ kind_limit) (sets successors : List ℕ) (n hiddens : ℕ) where
+  pub explored_shifted : (m : ℕ) → m ≡ 2 ^ (s.outputs + s.observed) → (k : ℕ) (rows finals room : List ℕ)
+      → Explored sets successors n hiddens m k rows finals room
+      → Explored sets successors n hiddens (shifted_choices s * shifted_observations s) k rows finals room
+  explored_shifted m e k rows finals room =
+      subst (λ p. Explored sets successors n hiddens p k rows finals room) (shifted_pairs s outputs_few observed_few m e)
+
+  pub answered_shifted : (o : Order) → o ≡ order_in s → (r : Result Table Refusal) (table table' : List ℕ)
+      → Answered o s.observed (memory_solution o sets successors n (shifted_choices s) (shifted_observations s) hiddens) r table table'
+      → Answered (order_in s) s.observed (memory_solution (order_in s) sets successors n (2 ^ s.outputs) (2 ^ s.observed) hiddens) r table table'
+  answered_shifted o is r table table' a =
+      subst (λ q. Answered q s.observed (memory_solution q sets successors n (2 ^ s.outputs) (2 ^ s.observed) hiddens) r table table') is
+      (subst (λ x. Answered o s.observed x r table table')
+      (ap₂ (λ x y. memory_solution o sets successors n x y hiddens) (choices_are s outputs_few observed_few)
+      (observations_are s outputs_few observed_few)) a)

@@ -1,5 +1,7 @@
 -- From the list that holds a problem's parts to the answer for its text.
 -- Assumes nothing.
+use Rattle.tables.specs.declared.shape.Table.{Table}
+use Rattle.std.specs.Prelude.{Err, Result}
 use Prim.Native.Nat.{ℕ, ◌≤◌, ◌<◌}
 use native.Mathlib.Omega.{arith}
 use mathlib.Core.Path.{◌≡◌, refl, sym, ap, ap₂, ◌∙◌, subst}
@@ -8,8 +10,6 @@ use lib.ListN.{length, take}
 use Rattle.lines.specs.declared.refusal.Refusal.{Refusal}
 use Rattle.lines.specs.declared.problem.Sizes.{Sizes}
 use Rattle.lines.specs.Memory.{order_in}
-use Rattle.lines.specs.declared.problem.Reading.{Reading}
-use Rattle.lines.specs.declared.problem.Reading.TheVariants as reading
 use Rattle.basics.specs.Limits.{operator_limit}
 use Rattle.rules.specs.Reading.{reading_of, sizes_of}
 use Rattle.formula.specs.Codes.{parts_in}
@@ -24,8 +24,6 @@ use Rattle.obligations.specs.Values.{Stored}
 use Rattle.rules.proofs.ReadingLaws.{not_refused, same_refusal}
 use Rattle.states.specs.Planes.{Sized}
 use Rattle.obligations.proofs.OperatorSpots.{operators_are}
-use Rattle.game.specs.declared.solving.Solved.{Solved}
-use Rattle.game.specs.declared.solving.Solved.TheVariants.{Refused}
 use Rattle.game.specs.Solution.{parts_solution, solution}
 use Rattle.basics.specs.Lists.{padded, written}
 use Rattle.obligations.specs.Letters.{letters_of}
@@ -36,10 +34,10 @@ use Rattle.game.specs.SolvedAs.{solved_of, solved_from, cells_of, cells_from}
 use Rattle.game.specs.StateMemory.{sets_from}
 
 -- a refusal is handed on
-pub refused_right : (o : Outcome) (r : Reading) (x : Refusal) (table sets : List ℕ) → r ≡ reading_of o → r ≡ reading.Refused x
-    → (Refused x ≡ solved_from o) × ((table ≡ written (cells_from o) table) × (sets ≡ sets_from o sets))
+pub refused_right : (o : Outcome) (r : Result Sizes Refusal) (x : Refusal) (table sets : List ℕ) → r ≡ reading_of o → r ≡ Err x
+    → (Err x ≡ solved_from o) × ((table ≡ written (cells_from o) table) × (sets ≡ sets_from o sets))
 refused_right (accepted p) r x table sets e h = not_refused x _ (sym h ∙ e)
-refused_right (refused y) r x table sets e h = (ap Refused (same_refusal x y (sym h ∙ e)), (refl, refl))
+refused_right (refused y) r x table sets e h = (ap Err (same_refusal x y (sym h ∙ e)), (refl, refl))
 
 module _ {o : Outcome} {s : Sizes} {codes : List ℕ} (t : Taken o s codes) where
   -- the numbers of the formula's parts
@@ -73,7 +71,7 @@ module _ {o : Outcome} {s : Sizes} {codes : List ℕ} (t : Taken o s codes) wher
       }
 
   -- the answer for these parts and signals is that for the text
-  pub source_right : (r : Solved) (table table' sets sets' : List ℕ)
+  pub source_right : (r : Result Table Refusal) (table table' sets sets' : List ℕ)
       → r ≡ solved_of (order_in s) s.observed (parts_solution (order_in s) (parts_in front) (counts_of s))
       → table' ≡ written (cells_of (parts_solution (order_in s) (parts_in front) (counts_of s))) table
       → sets' ≡ padded (length sets) (sets_of (states_of (parts_in front) (letters_of (counts_of s)) state_limit))

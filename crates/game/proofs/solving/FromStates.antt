@@ -1,12 +1,15 @@
 -- From the states that were explored to the answer for a problem.
 -- Assumes nothing.
-use Prim.Native.Nat.{ℕ, ◌*◌, ◌%◌, ◌^◌, ◌≤◌, ◌<◌}
-use native.Mathlib.Nat.{pow-le-pow_right}
+use Rattle.lines.specs.declared.refusal.Refusal.{Refusal}
+use Rattle.tables.specs.declared.shape.Table.{Table}
+use Rattle.std.specs.Prelude.{Err, None, Result, Some}
+use Prim.Native.Nat.{ℕ, ◌+◌, ◌*◌, ◌%◌, ◌^◌, ◌≤◌, ◌<◌}
+use native.Mathlib.Nat.{mul-le-mul, pow-le-pow_right}
 use native.Mathlib.Omega.{arith}
-use mathlib.Core.Path.{◌≡◌, sym, ap, ap₂, ◌∙◌, subst}
+use mathlib.Core.Path.{◌≡◌, sym, ap, ◌∙◌, subst}
 use mathlib.Core.List.{List}
 use lib.Dec.{lit<}
-use lib.Pow.{pow_pos}
+use lib.Pow.{pow_pos, pow-add}
 use lib.ListN.{length}
 use Rattle.basics.specs.declared.order.Order.{Order}
 use Rattle.lines.specs.declared.problem.Sizes.{Sizes}
@@ -16,8 +19,8 @@ use Rattle.formula.specs.declared.parts.Part.{Part}
 use Rattle.formula.specs.Codes.{parts_in}
 use Rattle.rules.specs.Trace.{counts_of}
 use Rattle.formula.specs.Letter.{Counts, letter_from}
-use Rattle.search.specs.declared.searching.Explored.TheVariants.{Found, TooMany}
 use Rattle.search.specs.Limits.{state_limit, letter_limit}
+use Rattle.play.specs.Limits.{side_limit, pair_limit}
 use Rattle.obligations.specs.Letters.{letters_of}
 use Rattle.basics.specs.Lists.{padded, written}
 use Rattle.states.specs.Planes.{Sized}
@@ -34,11 +37,9 @@ use Rattle.states.proofs.ExploredStates.{letters_few}
 use Rattle.basics.proofs.BitsLaws.{shl_one}
 use Rattle.states.proofs.StatesLaws.{states_closed}
 use Rattle.game.specs.Solution.{automaton_of, solution_from, parts_solution}
-use Rattle.game.specs.declared.solving.Solved.{Solved}
-use Rattle.game.specs.declared.solving.Solved.TheVariants.{Refused}
 use Rattle.game.specs.SolvedAs.{solved_of, cells_of}
 use Rattle.beliefs.specs.BeliefMemory.{Successors}
-use Rattle.game.specs.StateMemory.{Widths, memory_solution}
+use Rattle.game.specs.StateMemory.{memory_solution}
 use Rattle.game.proofs.LetterNumbers.{letter_count_lem}
 use Rattle.basics.proofs.ReachLaws.{closed_begins}
 use Rattle.game.proofs.SameBeliefs.{memory_same}
@@ -56,45 +57,40 @@ module _ (codes : List ℕ) (s : Sizes) where
   abbrev l : Listing PatternSet
   l = states_of ps (letters_of c) state_limit
 
-  pub solved_many : TooMany ≡ explored_of l → (table : List ℕ)
-      → Answered (order_in s) s.observed (parts_solution (order_in s) ps c) (Refused refusal.TooManyStates) table table
+  pub solved_many : None ≡ explored_of l → (table : List ℕ)
+      → Answered (order_in s) s.observed (parts_solution (order_in s) ps c) (Err refusal.TooManyStates) table table
   solved_many e table =
       let same = ap (solution_from (order_in s) ps c) (sym (counted_over l e)) in
       (ap (solved_of (order_in s) s.observed) same, ap (λ x. written (cells_of x) table) same)
 
-  -- how many choices, observations and hidden values there are, as the code shifts them
-  abbrev choices : ℕ
-  choices = 1 * 2 ^ s.outputs % 18446744073709551616
-
-  abbrev observations : ℕ
-  observations = 1 * 2 ^ s.observed % 18446744073709551616
+  -- how many pairs and hidden values there are, as the code shifts them
+  abbrev pairs : ℕ
+  pairs = 1 * 2 ^ (s.outputs + s.observed) % 18446744073709551616
 
   abbrev hiddens : ℕ
   hiddens = 1 * 2 ^ s.hidden % 18446744073709551616
 
   module _ (sized : Sized codes s) where
-    choices_are : choices ≡ 2 ^ s.outputs
-    choices_are = shl_one s.outputs (omega (arith, sized.outputs_few))
-
-    observations_are : observations ≡ 2 ^ s.observed
-    observations_are = shl_one s.observed (omega (arith, sized.observed_few))
+    pub pairs_are : pairs ≡ 2 ^ (s.outputs + s.observed)
+    pairs_are = shl_one (s.outputs + s.observed) (omega (arith, sized.outputs_few, sized.observed_few))
 
     hiddens_are : hiddens ≡ 2 ^ s.hidden
     hiddens_are = shl_one s.hidden (omega (arith, sized.hidden_few))
 
-    pub widths_right : Widths choices observations hiddens
-    widths_right =
-        rw (choices_are, observations_are, hiddens_are)
-        (record {
-          some_choice = pow_pos s.outputs;
-          few_choices = pow-le-pow_right (lit< tt) sized.outputs_few;
-          some_observation = pow_pos s.observed;
-          few_observations = pow-le-pow_right (lit< tt) sized.observed_few;
-          few_letters = subst (λ m. m ≤ letter_limit) (letter_count_lem c) (letters_few c sized.signals_few);
-        })
+    sides_are : pairs ≡ 2 ^ s.outputs * 2 ^ s.observed
+    sides_are = pairs_are ∙ pow-add 2 s.outputs s.observed
+
+    pub pairs_few : pairs ≤ pair_limit
+    pairs_few =
+        let choices_few : 2 ^ s.outputs ≤ side_limit = pow-le-pow_right (lit< tt) sized.outputs_few in
+        let observations_few : 2 ^ s.observed ≤ side_limit = pow-le-pow_right (lit< tt) sized.observed_few in
+        rw sides_are (mul-le-mul choices_few observations_few)
+
+    pub letters_fit : hiddens * pairs ≤ letter_limit
+    letters_fit = rw (sides_are, hiddens_are) (subst (λ m. m ≤ letter_limit) (letter_count_lem c) (letters_few c sized.signals_few))
 
   module _ (sized : Sized codes s) (a b : ℕ) (sets successors : List ℕ) (sets_are : sets ≡ padded a (sets_of l))
-      (successors_are : successors ≡ padded b (successors_of s.operators (back ps) (letters_of c) l)) (n : ℕ) (got : Found n ≡ explored_of l) where
+      (successors_are : successors ≡ padded b (successors_of s.operators (back ps) (letters_of c) l)) (n : ℕ) (got : Some n ≡ explored_of l) where
     abbrev found : (xs : List PatternSet) × (l ≡ closed xs) × (length xs ≡ n)
     found = counted_some l n got
 
@@ -104,9 +100,9 @@ module _ (codes : List ℕ) (s : Sizes) where
     successors_of_lem : successors ≡ padded b (successors_of (operators_of ps) (back ps) (letters_of c) l)
     successors_of_lem = successors_are ∙ ap (λ d. padded b (successors_of d (back ps) (letters_of c) l)) sized.operators_are
 
-    pub states_successors : Successors successors n (choices * observations) hiddens
+    pub states_successors : Successors successors n pairs hiddens
     states_successors =
-        rw (choices_are sized, observations_are sized, hiddens_are sized, sym found.2)
+        rw (sides_are sized, hiddens_are sized, sym found.2)
         (explored_successors ps c sized.signals_few xs found.1 b successors successors_of_lem)
 
     pub states_few : n ≤ state_limit
@@ -121,18 +117,15 @@ module _ (codes : List ℕ) (s : Sizes) where
         omega (arith, sym found.2 ∙ ap length e)
 
     -- what is answered from memory is what is answered from the parts
-    states_solution : (o : Order) → memory_solution o sets successors n choices observations hiddens ≡ parts_solution o ps c
+    states_solution : (o : Order) → memory_solution o sets successors n (2 ^ s.outputs) (2 ^ s.observed) hiddens ≡ parts_solution o ps c
     states_solution o =
-        ap (λ m. memory_solution o sets successors m choices observations hiddens) (sym found.2)
-        ∙ ap₂ (λ x y. memory_solution o sets successors (length xs) x y hiddens) (choices_are sized) (observations_are sized)
+        ap (λ m. memory_solution o sets successors m (2 ^ s.outputs) (2 ^ s.observed) hiddens) (sym found.2)
         ∙ ap (memory_solution o sets successors (length xs) (2 ^ s.outputs) (2 ^ s.observed)) (hiddens_are sized)
         ∙ memory_same (automaton_of ps xs) (2 ^ s.outputs) (2 ^ s.observed) (2 ^ s.hidden) letter_from sets successors
         (explored_tables ps c sized.signals_few xs found.1 a sets sets_are b successors successors_of_lem) o (pow_pos s.outputs) (pow_pos s.observed)
         ∙ ap (solution_from o ps c) (sym found.1)
 
-    pub solved_some : (o : Order) → o ≡ order_in s → (r : Solved) (table table' : List ℕ)
-        → Answered o s.observed (memory_solution o sets successors n choices observations hiddens) r table table'
+    pub solved_some : (r : Result Table Refusal) (table table' : List ℕ)
+        → Answered (order_in s) s.observed (memory_solution (order_in s) sets successors n (2 ^ s.outputs) (2 ^ s.observed) hiddens) r table table'
         → Answered (order_in s) s.observed (parts_solution (order_in s) ps c) r table table'
-    solved_some o is r table table' a =
-        subst (λ q. Answered q s.observed (parts_solution q ps c) r table table') is
-        (subst (λ x. Answered o s.observed x r table table') (states_solution o) a)
+    solved_some r table table' = subst (λ x. Answered (order_in s) s.observed x r table table') (states_solution (order_in s))

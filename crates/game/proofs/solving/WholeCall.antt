@@ -1,5 +1,8 @@
 -- The whole call: what it answers and leaves is what is due.
 -- Assumes nothing.
+use Rattle.tables.specs.declared.shape.Table.{Table}
+use Rattle.lines.specs.declared.refusal.Refusal.{Refusal}
+use Rattle.std.specs.Prelude.{Ok, Err, Result}
 use Prim.Native.Nat.{ℕ, ◌*◌, ◌≤◌}
 use native.Mathlib.Omega.{arith}
 use borrow.Author.Tests.{ltb-false}
@@ -16,23 +19,21 @@ use Rattle.lines.specs.Refusal.{refused}
 use Rattle.rules.specs.Limits.{work_size}
 use Rattle.rules.specs.Problem.{read_problem}
 use Rattle.play.specs.Cells.{row_size, table_size}
-use Rattle.game.specs.declared.solving.Solved.{Solved}
-use Rattle.game.specs.declared.solving.Solved.TheVariants.{Table, Refused}
 use Rattle.game.specs.SolvedAs.{is_short, solved_from, solved_by, told_solved, cells_from, cells_by, table_after, work_after, used_rows}
 use Rattle.game.specs.SolvedAs.{SolvedAs, short_memory}
 use Rattle.game.proofs.SolvedAsLaws.{not_short, short_says, due_read, RowCells, due_cells}
 
 -- ---- the rows that are used are the cells that are due
 
-used_rows_lem : (r : Solved) (cells room : List ℕ) → RowCells (told_solved r) cells → used_rows r (written cells room) ≡ cells
-used_rows_lem (Table shape q) cells room e =
-    take_at cells (drop (length cells) room) (shape.rows * row_size shape.order) (e shape.rows shape.observed q shape.order refl)
-used_rows_lem (Refused x) cells room e = sym e
+used_rows_lem : (r : Result Table Refusal) (cells room : List ℕ) → RowCells (told_solved r) cells → used_rows r (written cells room) ≡ cells
+used_rows_lem (Ok t) cells room e =
+    take_at cells (drop (length cells) room) (t.shape.rows * row_size t.shape.order) (e t.shape.rows t.shape.observed t.worst_case t.shape.order refl)
+used_rows_lem (Err x) cells room e = sym e
 
 -- ---- memory that is too short
 
 pub short_right : (source work room : List ℕ) → is_short (length work) (length room) ≡ true
-    → (Refused refusal.ShortMemory ≡ solved_by (length work) (length room) source) × (room ≡ table_after (length work) source room)
+    → (Err refusal.ShortMemory ≡ solved_by (length work) (length room) source) × (room ≡ table_after (length work) source room)
     × (work ≡ work_after (length room) work) × SolvedAs (length work) (length room) source (refused 12 0) []
 unfolding solved_by cells_by work_after
 short_right source work room e = rw e (refl, refl, refl, short_memory ((short_says (length work) (length room)).0 e))
@@ -46,7 +47,7 @@ module _ (work room : List ℕ) (e : is_short (length work) (length room) ≡ fa
   pub long_table : table_size ≤ length room
   long_table = omega (arith, ltb-false (length room) table_size (or_right (ltb (length work) work_size) (ltb (length room) table_size) e))
 
-  pub long_right : (source : List ℕ) (r : Solved) (room' : List ℕ) → r ≡ solved_from (read_problem source)
+  pub long_right : (source : List ℕ) (r : Result Table Refusal) (room' : List ℕ) → r ≡ solved_from (read_problem source)
       → room' ≡ written (cells_from (read_problem source)) room → (m : ℕ) → m ≡ length work
       → (r ≡ solved_by (length work) (length room) source) × (room' ≡ table_after (length work) source room)
       × (replicate m 0 ≡ work_after (length room) work) × SolvedAs (length work) (length room) source (told_solved r) (used_rows r room')

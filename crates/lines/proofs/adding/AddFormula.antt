@@ -1,5 +1,6 @@
 -- A line that states a formula: what its text is read as, and what each test of it leads to.
 -- Assumes nothing.
+use Rattle.std.specs.Prelude.{Err, Ok, Result}
 use Prim.Native.Nat.{ℕ, ◌+◌, ◌-◌, ◌≤◌, ◌<◌}
 use native.Mathlib.Omega.{arith}
 use mathlib.Core.Path.{◌≡◌, refl, sym, subst, ap, ap₂, ◌∙◌}
@@ -9,22 +10,22 @@ use borrow.Author.Tests.{lt-ltb, le-ltb}
 use lib.ListN.{length, take}
 use lib.Seq.{sets}
 use Rattle.syntax.specs.declared.lex.Token.{Token}
-use Rattle.grammar.specs.declared.phrase.Read.{Read}
-use Rattle.grammar.specs.declared.phrase.Read.TheVariants.{At, Bad}
+use Rattle.std.specs.Prelude.{Option, Some, None, ok_or}
+use Rattle.basics.proofs.HandedOn.{there_is}
+use Rattle.std.proofs.lemmas.Option.{none-some, same_Some}
+use Rattle.grammar.specs.declared.phrase.Phrase.{Phrase}
 use Rattle.syntax.specs.Lex.{tokens}
 use Rattle.syntax.specs.Tree.{Tree, cells}
 use Rattle.syntax.specs.Tree as trees
 use Rattle.grammar.specs.Parse.{Res, none, some}
 use Rattle.grammar.specs.PlanParse.{parse_formula}
-use Rattle.grammar.specs.Names.{names_in, leaf_value}
+use Rattle.grammar.specs.Names.{Name, bits, leaf_value}
 use Rattle.grammar.specs.Answer.{answer, cells_after}
 use Rattle.grammar.proofs.ReadIffDerived.{sound}
 use Rattle.syntax.proofs.TreeLaws.{length_cells, stored_taken}
 use Rattle.lines.specs.declared.refusal.Refusal.{Refusal}
 use Rattle.lines.specs.declared.refusal.Refusal.TheVariants.{BadLine, BadFormula, UnknownName, TooManyParts}
 use Rattle.lines.specs.declared.problem.Sizes.{Sizes}
-use Rattle.lines.specs.declared.problem.Reading.{Reading}
-use Rattle.lines.specs.declared.problem.Reading.TheVariants.{Accepted, Refused}
 use Rattle.basics.specs.Limits.{operator_limit, index_limit}
 use Rattle.formula.specs.Limits.{part_limit}
 use Rattle.formula.specs.Formula.{Formula, size, operators}
@@ -37,14 +38,13 @@ use Rattle.lines.specs.Memory.{join_part, stored_from, more_parts, reading_after
 use Rattle.basics.proofs.Stores.{sets_append}
 use Rattle.syntax.proofs.CellsLaws.{length_codes}
 use Rattle.lines.proofs.TreeCodes.{Stands, derived_stands, operators_standing}
-use Rattle.lines.proofs.SignalSpans.{length_names}
 use Rattle.lines.proofs.DeclaredNames.{leaf_values}
 
 -- ---- what a text is read as
 
-module _ (source spans text : List ℕ) where
+module _ (names : List Name) (text : List ℕ) where
   abbrev values : Token → ℕ
-  values = leaf_value (names_in source spans) text
+  values = leaf_value names text
 
   abbrev pub formula_in : Tree → Formula
   formula_in a = formula_of values a
@@ -65,25 +65,26 @@ module _ (source spans text : List ℕ) where
     pub counted : temporals (kinds_in cs) ≡ operators (formula_in tree)
     pub codes : (n : ℕ) → codes_from n cs ≡ codes_of (parts_from (formula_in tree) n)
 
-  module _ {r : Read} (e : r ≡ answer (parse_formula text) 0) where
-    pub not_parsed : r ≡ Bad → parse_formula text ≡ none
+  module _ {r : Option Phrase} (e : r ≡ answer (parse_formula text) 0) where
+    pub not_parsed : r ≡ None → parse_formula text ≡ none
     not_parsed h = go (parse_formula text) (sym e ∙ h)
       where
-        go : (res : Res) → answer res 0 ≡ Bad → res ≡ none
+        go : (res : Res) → answer res 0 ≡ None → res ≡ none
         go none i = refl
-        go (some a next) i = let z : ◌≡◌ {A = ℕ} 0 1 = cc in absurd (omega arith)
+        go (some a next) i = absurd (none-some _ (sym i))
 
-    pub parsed : {next count : ℕ} → r ≡ At next count → Parsed count
-    parsed {next} {count} h = go (parse_formula text) refl (sym e ∙ h)
+    pub parsed : (x : Refusal) {ph : Phrase} → ok_or r x ≡ Ok ph → Parsed ph.count
+    parsed x {ph} h = go (parse_formula text) refl (sym e ∙ there_is r x ph h)
       where
-        go : (res : Res) → parse_formula text ≡ res → answer res 0 ≡ At next count → Parsed count
-        go none i a = let z : ◌≡◌ {A = ℕ} 0 1 = cc in absurd (omega arith)
-        go (some b m) i a = let c : 0 + trees.size b ≡ count = cc in record { tree = b; next = m; is = i; counted = omega arith }
+        go : (res : Res) → parse_formula text ≡ res → answer res 0 ≡ Some ph → Parsed ph.count
+        go none i a = absurd (none-some _ a)
+        go (some b m) i a =
+            record { tree = b; next = m; is = i; counted = omega (arith, ap (λ (p : Phrase). p.count) (same_Some _ _ a)) }
 
-  module _ {count : ℕ} (f : Parsed count) where
+  module _ (l : length names ≡ bits) {count : ℕ} (f : Parsed count) where
     stands : Stands (cells values f.tree) (formula_in f.tree)
     stands =
-        derived_stands (leaf_values (names_in source spans) text (length_names source spans)) text (sound text f.tree f.next f.is)
+        derived_stands (leaf_values names text l) text (sound text f.tree f.next f.is)
 
     cells_count : length (cells values f.tree) ≡ count
     cells_count = length_cells values f.tree ∙ sym f.counted
@@ -92,11 +93,11 @@ module _ (source spans text : List ℕ) where
     size_count = sym stands.sized ∙ cells_count
 
     -- the cells that were written to a list that has room for them
-    module _ (p : List ℕ) {q : List ℕ} (l : q ≡ cells_after values (parse_formula text) p) (h : count ≤ length p)
+    module _ (p : List ℕ) {q : List ℕ} (w : q ≡ cells_after values (parse_formula text) p) (h : count ≤ length p)
         (few : count ≤ part_limit) where
       taken : take count q ≡ cells values f.tree
       taken =
-          ap₂ take f.counted (l ∙ ap (λ res. cells_after values res p) f.is)
+          ap₂ take f.counted (w ∙ ap (λ res. cells_after values res p) f.is)
           ∙ stored_taken values f.tree p (omega (arith, f.counted, h))
 
       pub taken_count : length (take count q) ≡ count
@@ -149,14 +150,14 @@ module _ (line : ℕ) (text : List ℕ) (g : Signals) (n m : ℕ) where
 -- ---- what is answered
 
 -- the answer and the parts after an effect
-abbrev pub Answers : Effect → Sizes → List ℕ → List ℕ → Reading → Type 0
+abbrev pub Answers : Effect → Sizes → List ℕ → List ℕ → Result Sizes Refusal → Type 0
 Answers x s p q r = (r ≡ reading_after x s) × (q ≡ parts_after x s p)
 
-pub refused : (x : Effect) (r : Refusal) (s : Sizes) (p : List ℕ) → x ≡ refuses r → Answers x s p p (Refused r)
-refused x r s p e = subst (λ y. Answers y s p p (Refused r)) (sym e) (refl, refl)
+pub refused : (x : Effect) (r : Refusal) (s : Sizes) (p : List ℕ) → x ≡ refuses r → Answers x s p p (Err r)
+refused x r s p e = subst (λ y. Answers y s p p (Err r)) (sym e) (refl, refl)
 
 -- the answer and the parts after some cells
-abbrev pub Left : List ℕ → ℕ → Sizes → List ℕ → List ℕ → Reading → Type 0
+abbrev pub Left : List ℕ → ℕ → Sizes → List ℕ → List ℕ → Result Sizes Refusal → Type 0
 Left cs line s p q r = (r ≡ cells_reading cs line s) × (q ≡ cells_stored cs s p)
 
 -- with the cells there are `count` parts, and `all` with the one that joins them
@@ -165,16 +166,16 @@ module _ (cs : List ℕ) (line : ℕ) (s : Sizes) (p : List ℕ) (count all : �
   all_is : all ≡ s.parts + length cs + joint s.parts
   all_is = j ∙ ap (λ k. k + joint s.parts) c
 
-  pub many_parts : part_limit < all → Left cs line s p p (Refused (TooManyParts line))
+  pub many_parts : part_limit < all → Left cs line s p p (Err (TooManyParts line))
   many_parts h = rw (← all_is, lt-ltb part_limit all h) (refl, refl)
 
   module _ (h : all ≤ part_limit) (o : ℕ) (e : o ≡ temporals (kinds_in cs)) where
-    pub many_operators : operator_limit < s.operators + o → Left cs line s p p (Refused (TooManyParts line))
+    pub many_operators : operator_limit < s.operators + o → Left cs line s p p (Err (TooManyParts line))
     many_operators u = rw (← all_is, le-ltb part_limit all h, ← e, lt-ltb operator_limit (s.operators + o) u) (refl, refl)
 
     pub few_operators : s.operators + o ≤ operator_limit → (q r : List ℕ) → q ≡ sets p s.parts (codes_from s.parts cs)
         → r ≡ stored_from (join_part s.parts (count - s.parts)) count q
-        → Left cs line s p r (Accepted (record {
+        → Left cs line s p r (Ok (record {
           outputs = s.outputs;
           observed = s.observed;
           hidden = s.hidden;
@@ -192,19 +193,19 @@ module _ (cs : List ℕ) (line : ℕ) (s : Sizes) (p : List ℕ) (count all : �
         rw (← all_is, le-ltb part_limit all h, ← e, le-ltb operator_limit (s.operators + o) u) (refl, joined)
 
 -- the cells of a formula leave what its line does
-module _ {source spans text cs : List ℕ} (f : Formed source spans text cs) (line : ℕ) (s : Sizes) (p : List ℕ) where
+module _ {names : List Name} {text cs : List ℕ} (f : Formed names text cs) (line : ℕ) (s : Sizes) (p : List ℕ) where
   abbrev stated : Formula
-  stated = formula_in source spans text f.tree
+  stated = formula_in names text f.tree
 
   abbrev by_fit : Bool → Effect
   by_fit b = cond b (refuses (TooManyParts line)) (states stated)
 
   by_fit_lem : (b : Bool) → Answers (by_fit b) s p
       (cond (not b) (sets p s.parts (codes_of (parts_from stated s.parts) ++ codes_of (join_part s.parts (size stated)))) p)
-      (cond (not b) (Accepted (more_parts (size stated) (operators stated) s)) (Refused (TooManyParts line)))
+      (cond (not b) (Ok (more_parts (size stated) (operators stated) s)) (Err (TooManyParts line)))
   by_fit_lem true = (refl, refl)
   by_fit_lem false = (refl, ap (sets p s.parts) (sym (map-append code_of (parts_from stated s.parts) (join_part s.parts (size stated)))))
 
-  pub left_answers : (x : Effect) → x ≡ by_fit (is_large s.parts s.operators stated) → {q : List ℕ} {r : Reading}
+  pub left_answers : (x : Effect) → x ≡ by_fit (is_large s.parts s.operators stated) → {q : List ℕ} {r : Result Sizes Refusal}
       → Left cs line s p q r → Answers x s p q r
   left_answers x e l = rw (e, l.0, l.1, f.sized, f.counted, f.codes s.parts) (by_fit_lem (is_large s.parts s.operators stated))

@@ -19,20 +19,23 @@ use Rattle.syntax.specs.Lex.{token_from, token_at, is_reserved, word_kind}
 use Rattle.lines.specs.Limits.{name_limit}
 use Rattle.lines.specs.Lines.{is_name}
 
--- one token of the kind of names and nothing else, not too long
+-- a token of the kind of names that is the whole text, not too long
+abbrev pub names_all : Token → List ℕ → Bool
+names_all t s = eqb t.kind name_kind && eqb t.from 0 && eqb t.next (length s) && leb (length s) name_limit
+
 is_token : List ℕ → Bool
-is_token s = eqb (token_at s 0).kind name_kind && (eqb (token_at s 0).from 0 && (eqb (token_at s 0).next (length s) && leb (length s) name_limit))
+is_token s = names_all (token_at s 0) s
 
 -- the two orders of the tests
-swap : (x l : Bool) → (x && (true && (true && l))) ≡ (true && (true && (l && x)))
+swap : (x l : Bool) → (x && true && true && l) ≡ (true && (true && (l && x)))
 swap true true = refl
 swap true false = refl
 swap false true = refl
 swap false false = refl
 
-fails : (x : Bool) → (x && (true && false)) ≡ false
-fails true = refl
-fails false = refl
+fails : (x l : Bool) → (x && true && false && l) ≡ false
+fails true l = refl
+fails false l = refl
 
 module _ (b : ℕ) (s : List ℕ) where
   not_space : lower b ≡ true → is_space b ≡ false
@@ -66,13 +69,13 @@ module _ (b : ℕ) (s : List ℕ) where
   token_letter l = rw (← letter_token l, l) (by_end (test (eqb r (length s))))
     where
       by_end : (eqb r (length s) ≡ true) ⊎ (eqb r (length s) ≡ false)
-          → (is_word && (true && (eqb (suc r) (suc (length s)) && leb (suc (length s)) name_limit)))
+          → (is_word && true && eqb (suc r) (suc (length s)) && leb (suc (length s)) name_limit)
           ≡ (true && (eqb r (length s) && (leb (suc (length s)) name_limit && is_other)))
       by_end (inl e) =
           let q = eqb-true r (length s) e in
           rw (whole q, reserved_kind (b ∷ s), e, eq-eqb (suc r) (suc (length s)) (ap suc q)) (swap is_other (leb (suc (length s)) name_limit))
       by_end (inr e) =
-          let n = ne_eqb (suc r) (suc (length s)) (λ q. eqb-false r (length s) e (omega arith)) in rw (e, n) (fails is_word)
+          let n = ne_eqb (suc r) (suc (length s)) (λ q. eqb-false r (length s) e (omega arith)) in rw (e, n) (fails is_word (leb (suc (length s)) name_limit))
 
   -- another byte begins no name: the token stands behind it, or is none
   token_other : lower b ≡ false → is_token (b ∷ s) ≡ false
@@ -80,33 +83,16 @@ module _ (b : ℕ) (s : List ℕ) where
   token_other l = elim (test (is_token (b ∷ s))) [ inl t ↦ absurd (no_letter t) | inr e ↦ e ]
     where
       no_letter : is_token (b ∷ s) ≡ true → ⊥
-      no_letter t =
-          let k = eqb-true _ name_kind (and_left (eqb (token_at (b ∷ s) 0).kind name_kind) _ t) in
-          let f = eqb-true _ 0 (and_left (eqb (token_at (b ∷ s) 0).from 0) _ (and_right (eqb (token_at (b ∷ s) 0).kind name_kind) _ t)) in
+      no_letter passes =
+          let t = token_at (b ∷ s) 0 in
+          let is_name = eqb t.kind name_kind in
+          let starts = eqb t.from 0 in
+          let both = and_left (is_name && starts) _ (and_left (is_name && starts && eqb t.next (length (b ∷ s))) _ passes) in
+          let k = eqb-true _ name_kind (and_left is_name starts both) in
+          let f = eqb-true _ 0 (and_right is_name starts both) in
           clash (ap (λ i. lower (get_or (b ∷ s) i 0)) (sym f ∙ token_from_lem (b ∷ s) 0) ∙ name_letter (b ∷ s) 0 k) l
 
-token_name : (s : List ℕ) → is_token s ≡ is_name s
+pub token_name : (s : List ℕ) → names_all (token_at s 0) s ≡ is_name s
 unfolding is_token is_name token_at token_from past run
 token_name [] = refl
 token_name (b ∷ s) = elim (test (lower b)) [ inl l ↦ token_letter b s l | inr l ↦ token_other b s l ∙ rw l ]
-
--- ---- the tests of the code
-
-module _ (name : List ℕ) (t : Token) (it : t ≡ token_at name 0) where
-  pub name_kind_lem : (t.kind ≡ name_kind → ⊥) → false ≡ is_name name
-  unfolding is_token
-  name_kind_lem n = rw (← token_name name, ← it, ne_eqb _ _ n)
-
-  module _ (k : t.kind ≡ name_kind) where
-    pub name_from : (t.from ≡ 0 → ⊥) → false ≡ is_name name
-    unfolding is_token
-    name_from n = rw (← token_name name, ← it, eq-eqb _ _ k, ne_eqb _ _ n)
-
-    module _ (f : t.from ≡ 0) where
-      pub name_next : (t.next ≡ length name → ⊥) → false ≡ is_name name
-      unfolding is_token
-      name_next n = rw (← token_name name, ← it, eq-eqb _ _ k, eq-eqb _ _ f, ne_eqb _ _ n)
-
-      pub name_length : t.next ≡ length name → leb (length name) name_limit ≡ is_name name
-      unfolding is_token
-      name_length e = rw (← token_name name, ← it, eq-eqb _ _ k, eq-eqb _ _ f, eq-eqb _ _ e)

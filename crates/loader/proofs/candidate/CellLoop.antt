@@ -20,12 +20,6 @@ module _ (shape : Shape) (line cells₀ : List ℕ) (row size : ℕ) (is_size : 
   ends : row * size + length cells ≤ length cells₀
   ends = rw (is_size, row_length shape line) room
 
-  pub cell_place : (i : ℕ) → i < size → row * size + i < length cells₀
-  cell_place i h = omega (arith, ends, row_length shape line)
-
-  pub row_place : row * size ≤ length cells₀
-  row_place = omega (arith, ends)
-
   module _ (i : ℕ) (w : List ℕ) (so_far : w ≡ paste cells₀ (row * size) cells i) where
     pub cell_more : i < size → (x : ℕ) → x ≡ get_or cells i 0 → set w (row * size + i) x ≡ paste cells₀ (row * size) cells (i + 1)
     cell_more h x e =

@@ -2,25 +2,22 @@
 -- Assumes nothing.
 use Prim.Native.Nat.{ℕ, suc, ◌+◌, ◌*◌, ◌≤◌, ◌<◌}
 use native.Mathlib.Omega.{arith}
-use mathlib.Core.Path.{◌≡◌, refl, sym, ap, ap₂, subst, ◌∙◌}
+use mathlib.Core.Path.{◌≡◌, refl, sym, ap, subst, ◌∙◌}
 use mathlib.Core.Bool.{Bool, true, not}
 use mathlib.Core.List.{List, flat_map}
 use lib.ListN.{length, drop}
-use lib.Seq.{sets, length-sets}
+use lib.Seq.{sets}
 use Rattle.basics.specs.Bounded.{first_that}
 use Rattle.basics.specs.Bytes.{not_line_end}
-use Rattle.basics.specs.Limits.{kind_limit}
 use Rattle.basics.specs.Lists.{below, written}
 use Rattle.basics.specs.Pieces.{piece, behind, behind_all, line_at}
-use Rattle.basics.specs.declared.order.Order.{Order}
-use Rattle.basics.proofs.BoundedLaws.{first_found, first_end}
+use Rattle.basics.proofs.BoundedLaws.{first_found}
 use Rattle.basics.proofs.PiecesLaws.{behind_more}
 use Rattle.basics.proofs.Stores.{Put, put_front}
 use Rattle.basics.proofs.TextLaws.{turn}
 use Rattle.play.specs.Cells.{row_size}
-use Rattle.wellformed.proofs.WellFormedLaws.{row_room as room_of_row}
 use Rattle.tables.specs.declared.shape.Shape.{Shape}
-use Rattle.loader.specs.Candidate.{says_stop, row_in, observed_in, order_in, rows_in, goes_on, shape_in, cells_in}
+use Rattle.loader.specs.Candidate.{says_stop, row_in, goes_on, cells_in}
 use Rattle.loader.proofs.CandidateLaws.{rows_length}
 
 -- ---- their places
@@ -47,20 +44,6 @@ module _ (text : List ℕ) where
       pub move_here : i < rows → goes_on text i ≡ true → RowAt at (first_that (goes_on text) rows)
       move_here h t = subst (RowAt at) (sym (first_found (goes_on text) rows i h none t)) here
 
-      pub move_none : i ≡ rows → RowAt at (first_that (goes_on text) rows)
-      move_none e = subst (RowAt at) (e ∙ first_end (goes_on text) rows i e none) here
-
-  -- the shape, from line 0 and that line
-  pub shape_is : (rows observed at : ℕ) (order : Order) (head l : List ℕ) → head ≡ line_at 0 text → rows ≡ rows_in head → order ≡ order_in head
-      → RowAt at (first_that (goes_on text) rows) → l ≡ piece not_line_end (drop at text) → observed ≡ observed_in order kind_limit l
-      → record { rows = rows; observed = observed; order = order } ≡ shape_in text
-  unfolding shape_in
-  shape_is rows observed at order head l first n q here is k =
-      let line = row_line at (first_that (goes_on text) rows) here l is in
-      let seen : ℕ → Order → ℕ = λ m o. observed_in o kind_limit (line_at (suc (first_that (goes_on text) m)) text) in
-      ap (λ (j : ℕ). record { rows = rows; observed = j; order = order }) (k ∙ ap (observed_in order kind_limit) line)
-      ∙ ap₂ {C = Shape} (λ m o. record { rows = m; observed = seen m o; order = o }) (n ∙ ap rows_in first) (q ∙ ap order_in first)
-
 -- ---- their cells
 
 module _ (shape : Shape) (text : List ℕ) where
@@ -85,11 +68,6 @@ module _ (shape : Shape) (text : List ℕ) where
     rows_none = refl
 
     module _ (room : shape.rows * row_size shape.order ≤ length cells₀) (i : ℕ) (cells : List ℕ) (so_far : RowsTo i cells) where
-      pub row_room : i < shape.rows → i * row_size shape.order + row_size shape.order ≤ length cells
-      row_room h =
-          let all : shape.rows * row_size shape.order ≤ length cells = omega (arith, ap length so_far, length-sets cells₀ 0 (cells_to i)) in
-          room_of_row shape.order shape.rows i (length cells) all h
-
       pub rows_more : i < shape.rows → (l after : List ℕ) → l ≡ line_at (suc i) text → after ≡ sets cells (i * row_size shape.order) (row_in shape l)
           → RowsTo (i + 1) after
       unfolding cells_to

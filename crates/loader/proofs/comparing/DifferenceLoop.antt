@@ -1,63 +1,46 @@
 -- The line of the first difference, byte by byte.
 -- Assumes nothing.
-use Prim.Native.Nat.{ℕ, ◌+◌, ◌≤◌, ◌<◌}
-use native.Mathlib.Decide.{dec_lt}
+use Prim.Native.Nat.{ℕ, ◌+◌}
+use Rattle.std.specs.Prelude.{Some, None}
 use native.Mathlib.Numerals.{add-one}
 use native.Mathlib.Omega.{arith}
 use mathlib.Core.Path.{◌≡◌, refl}
-use mathlib.Core.Bool.{true, false, ◌&&◌}
-use mathlib.Core.List.{List}
-use lib.Dec.{ltb}
-use lib.ListN.{length, get_or, drop, drop_of_length-le}
-use lib.Seq.{drop-cons}
-use borrow.Author.Tests.{lt-ltb, ltb-true, eq-eqb, ne_eqb}
-use Rattle.basics.proofs.Booleans.{clash, and_true, and_left, and_right}
+use mathlib.Core.Logic.{◌⊎◌, inl, inr}
+use mathlib.Core.List.{List, [], ◌∷◌}
+use lib.ListN.{length}
+use borrow.Author.Tests.{eq-eqb, ne_eqb}
 use Rattle.loader.specs.Difference.{difference}
 
--- the loop's test: the place stands in both
-pub in_both : (i m n : ℕ) → ltb i m && ltb i n ≡ true → (i < m) × (i < n)
-in_both i m n e = (ltb-true i m (and_left (ltb i m) (ltb i n) e), ltb-true i n (and_right (ltb i m) (ltb i n) e))
+-- where both go on
+module _ (n : ℕ) (a b : List ℕ) (x y : ℕ) where
+  pub differs_here : (x ≡ y → ⊥) → Some n ≡ difference n (x ∷ a) (y ∷ b)
+  unfolding difference
+  differs_here ne = rw (ne_eqb _ _ ne) refl
 
-pub not_both : (i m n : ℕ) → ltb i m && ltb i n ≡ false → i < m → i < n → ⊥
-not_both i m n e h k = clash (and_true (lt-ltb i m h) (lt-ltb i n k)) e
+  pub line_more : x ≡ y → x ≡ 10 → difference n (x ∷ a) (y ∷ b) ≡ difference (n + 1) a b
+  unfolding difference
+  line_more same e = rw (eq-eqb _ _ same, eq-eqb _ _ e, add-one n) refl
 
-module _ (a b : List ℕ) (n i : ℕ) where
-  module _ (in_a : i < length a) (in_b : i < length b) where
-    pub differs_here : (get_or a i 0 ≡ get_or b i 0 → ⊥) → n ≡ difference n (drop i a) (drop i b)
-    unfolding difference
-    differs_here ne = rw (drop-cons a i 0 in_a, drop-cons b i 0 in_b, ne_eqb _ _ ne) refl
+  pub line_same : x ≡ y → (x ≡ 10 → ⊥) → difference n (x ∷ a) (y ∷ b) ≡ difference n a b
+  unfolding difference
+  line_same same ne = rw (eq-eqb _ _ same, ne_eqb _ _ ne) refl
 
-    module _ (same : get_or a i 0 ≡ get_or b i 0) where
-      pub line_more : get_or a i 0 ≡ 10 → difference n (drop i a) (drop i b) ≡ difference (n + 1) (drop (i + 1) a) (drop (i + 1) b)
-      unfolding difference
-      line_more e = rw (drop-cons a i 0 in_a, drop-cons b i 0 in_b, eq-eqb _ _ same, eq-eqb _ _ e, add-one n, add-one i) refl
+-- where one of them ends, or both
+module _ (n : ℕ) {X Y : Type 0} {P : X → Type 0} {Q : Y → Type 0} where
+  pub both_end : (a b : List ℕ) → ((x : X) × (length a ≡ 0 × P x)) ⊎ ((y : Y) × (length b ≡ 0 × Q y)) → length a ≡ length b
+      → None ≡ difference n a b
+  unfolding difference
+  both_end [] [] ends e = refl
+  both_end [] (y ∷ b) ends e = absurd (omega arith)
+  both_end (x ∷ a) [] ends e = absurd (omega arith)
+  both_end (x ∷ a) (y ∷ b) (inl w) e = absurd (omega (arith, w.1.0))
+  both_end (x ∷ a) (y ∷ b) (inr w) e = absurd (omega (arith, w.1.0))
 
-      pub line_same : (get_or a i 0 ≡ 10 → ⊥) → difference n (drop i a) (drop i b) ≡ difference n (drop (i + 1) a) (drop (i + 1) b)
-      unfolding difference
-      line_same ne = rw (drop-cons a i 0 in_a, drop-cons b i 0 in_b, eq-eqb _ _ same, ne_eqb _ _ ne, add-one i) refl
-
-  -- one of them ends, or both
-  module _ (in_a : i ≤ length a) (in_b : i ≤ length b) (ends : i < length a → i < length b → ⊥) where
-    pub both_end : length a ≡ length b → 0 ≡ difference n (drop i a) (drop i b)
-    unfolding difference
-    both_end e =
-        elim (dec_lt i (length a)) [
-          | yes h ↦ absurd (ends h (omega arith))
-          | no h ↦ rw (drop_of_length-le a {i = i} (omega arith), drop_of_length-le b {i = i} (omega arith)) refl
-        ]
-
-    pub one_ends : (length a ≡ length b → ⊥) → n ≡ difference n (drop i a) (drop i b)
-    unfolding difference
-    one_ends ne =
-        elim (dec_lt i (length a)) [
-          | yes h ↦
-              elim (dec_lt i (length b)) [
-                | yes k ↦ absurd (ends h k)
-                | no k ↦ rw (drop-cons a i 0 h, drop_of_length-le b {i = i} (omega arith)) refl
-              ]
-          | no h ↦
-              elim (dec_lt i (length b)) [
-                | yes k ↦ rw (drop_of_length-le a {i = i} (omega arith), drop-cons b i 0 k) refl
-                | no k ↦ absurd (ne (omega arith))
-              ]
-        ]
+  pub one_ends : (a b : List ℕ) → ((x : X) × (length a ≡ 0 × P x)) ⊎ ((y : Y) × (length b ≡ 0 × Q y)) → (length a ≡ length b → ⊥)
+      → Some n ≡ difference n a b
+  unfolding difference
+  one_ends [] [] ends ne = absurd (ne refl)
+  one_ends [] (y ∷ b) ends ne = refl
+  one_ends (x ∷ a) [] ends ne = refl
+  one_ends (x ∷ a) (y ∷ b) (inl w) ne = absurd (omega (arith, w.1.0))
+  one_ends (x ∷ a) (y ∷ b) (inr w) ne = absurd (omega (arith, w.1.0))

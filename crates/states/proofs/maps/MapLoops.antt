@@ -9,14 +9,12 @@ use mathlib.Core.Logic.{◌⊎◌, inl, inr}
 use mathlib.Core.Bool.{Bool, true, false, cond, true≢false}
 use mathlib.Core.List.{List, ◌++◌}
 use lib.Arith.{digits_div, digits_mod}
-use lib.Bits.{bit_and}
-use lib.Pow.{pow_mono}
 use lib.Dec.{eqb}
 use lib.ListN.{length, get_or, drop}
 use lib.Seq.{sets, length-sets}
 use borrow.Author.Tests.{eq-eqb, ne_eqb}
 use borrow.Rule.Slice.PartMut.{mid_of, put_mid}
-use Rattle.basics.specs.Bits.{bit, digit, from_bits}
+use Rattle.basics.specs.Bits.{bit, from_bits}
 use Rattle.basics.specs.Lists.{tabulate}
 use Rattle.basics.proofs.ListsLaws.{length_tabulate, get_d_tabulate, tabulate_ext, get_d_table}
 use Rattle.basics.specs.Limits.{word_size}
@@ -24,11 +22,10 @@ use Rattle.search.specs.Limits.{letter_limit, map_size}
 use Rattle.basics.specs.Bounded.{agree}
 use Rattle.states.specs.Limits.{slot_size, plane_size, plane_count}
 use Rattle.states.specs.Planes.{slot_at, lane_of, map_of, place_of, same_words, first_of, maps_to}
-use Rattle.basics.proofs.BitsLaws.{low_digit, table_from, from_all, bits_small}
 use Rattle.basics.proofs.BoundedLaws.{agree_none, agree_more, agree_fails, agree_at, first_le, first_passes, first_least, agree_all}
 use Rattle.basics.proofs.Stores.{get_d_sets_other, get_d_sets_same}
 use Rattle.basics.proofs.LentPart.{mid_sets}
-use Rattle.states.proofs.LimitsLaws.{slot_byte, letter_bytes, planes_fit}
+use Rattle.states.proofs.LimitsLaws.{letter_bytes, planes_fit}
 
 -- ---- the words of two letters
 
@@ -60,27 +57,6 @@ module _ (words : List ℕ) (a b : ℕ) where
   pub same_all : (y : ℕ) → y ≡ plane_count * slot_size → agree (word_at words a) (word_at words b) y ≡ true → true ≡ same_words words a b
   unfolding same_words word_at
   same_all y e h = sym h ∙ ap (agree (word_at words a) (word_at words b)) e
-
--- ---- a number across a letter's words
-
--- bit j of word k
-unfoldable pub bit_in : List ℕ → ℕ → ℕ → ℕ → Bool
-bit_in words at j k = bit (get_or words (at + k) 0) j
-
--- a bit more leaves it a byte
-pub lane_small : (f : ℕ → Bool) (n k : ℕ) → 0 < k → n ≡ table_from f k (slot_size - k) → n < 2 ^ 7
-lane_small f n k h e =
-    let fits : slot_size - 1 ≤ 7 = omega (arith, slot_byte) in
-    lt_of_lt_of_le (bits_small slot_size f n k h e) (pow_mono {i = slot_size - 1} {j = 7} fits)
-
-module _ (words : List ℕ) (at j : ℕ) where
-  pub lane_digit : (k : ℕ) → bit_and (get_or words (at + k) 0 / 2 ^ j) 1 ≡ digit (bit_in words at j k)
-  unfolding bit_in
-  lane_digit k = low_digit (get_or words (at + k) 0 / 2 ^ j)
-
-  pub lane_all : table_from (bit_in words at j) 0 slot_size ≡ lane_of words at j
-  unfolding lane_of bit_in
-  lane_all = from_all (bit_in words at j) slot_size
 
 -- ---- a letter's map
 
@@ -191,7 +167,7 @@ module _ (words : List ℕ) (m a : ℕ) (d : List ℕ) (b : ℕ) (is : b ≡ fir
   maps_other q = e ∙ rw (add-one a, ne_eqb (first_of words a) a (λ p. q (is ∙ p)))
 
 module _ (words : List ℕ) (m : ℕ) (few : m ≤ plane_count) (d : List ℕ) where
-  length_maps : (n : ℕ) → length (maps_to words m n d) ≡ length d
+  pub length_maps : (n : ℕ) → length (maps_to words m n d) ≡ length d
   unfolding maps_to
   length_maps zero = refl
   length_maps (suc a) = at (eqb (first_of words a) a) (length_maps a)

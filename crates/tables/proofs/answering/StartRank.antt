@@ -1,5 +1,6 @@
 -- From ranks and table to the verdict.
 -- Assumes nothing.
+use Rattle.std.specs.Prelude.{None}
 use Prim.Native.Nat.{ℕ, ◌<◌}
 use native.Mathlib.Omega.{arith}
 use mathlib.Core.Path.{◌≡◌, refl, sym, ap, ap₂, ◌∙◌}
@@ -11,13 +12,12 @@ use lib.ListN.{length, get_or, take, drop}
 use borrow.Author.Tests.{ltb-true, lt-ltb}
 use Rattle.basics.proofs.Booleans.{test}
 use Rattle.play.specs.Limits.{belief_limit}
-use Rattle.tables.specs.declared.answering.Outcome.TheVariants.{Table, Unrealizable}
 use Rattle.play.specs.Rank.{Arena}
 use Rattle.play.specs.Table.{rows, table_cells}
 use Rattle.basics.specs.Lists.{written}
 use Rattle.basics.specs.declared.order.Order.{Order}
 use Rattle.play.specs.Answer.{start_rank, verdict_of, cells_of}
-use Rattle.tables.specs.Outcome.{outcome_of}
+use Rattle.tables.specs.Outcome.{outcome_of, found}
 use Rattle.tables.specs.PositionMemory.{arena_in, Positions, ranks_below, no_rank}
 use Rattle.tables.proofs.PositionMemoryLaws.{rank_read}
 
@@ -55,12 +55,12 @@ module _ (o : Order) (n choices observations : ℕ) (moves finals ranks : List �
 
   -- the two answers
   pub none_answer : (table : List ℕ) → get_or ranks 0 0 ≡ no_rank
-      → (Unrealizable ≡ outcome_of (verdict_of o A eqb choices observations n)) × (table ≡ written (cells_of (verdict_of o A eqb choices observations n)) table)
+      → (None ≡ outcome_of (verdict_of o A eqb choices observations n)) × (table ≡ written (cells_of (verdict_of o A eqb choices observations n)) table)
   none_answer table e = rw (start_none e) (refl, refl)
 
   pub table_answer : (k r : ℕ) (table table' : List ℕ) → (get_or ranks 0 0 ≡ no_rank → ⊥) → r ≡ get_or ranks 0 0 → k ≡ length (rows o A eqb choices observations n)
       → table' ≡ table_cells o A eqb choices observations n ++ drop (length (table_cells o A eqb choices observations n)) table
-      → (Table k r ≡ outcome_of (verdict_of o A eqb choices observations n)) × (table' ≡ written (cells_of (verdict_of o A eqb choices observations n)) table)
+      → (found k r ≡ outcome_of (verdict_of o A eqb choices observations n)) × (table' ≡ written (cells_of (verdict_of o A eqb choices observations n)) table)
   table_answer k r table table' ne e l t =
       let b = start_found ne in
-      rw (lt-ltb start n b) (ap₂ Table l (e ∙ rank_found b), t)
+      rw (lt-ltb start n b) (ap₂ found l (e ∙ rank_found b), t)

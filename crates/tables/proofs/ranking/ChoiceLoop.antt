@@ -1,34 +1,31 @@
 -- The searches for choices that lead to a rank below r, in the shape of their loops: one choice for all observations, or one for each.
 -- Assumes nothing.
-use Prim.Native.Nat.{ℕ, ◌+◌, ◌*◌, ◌≤◌, ◌<◌}
+use Prim.Native.Nat.{ℕ, ◌+◌, ◌≤◌, ◌<◌}
 use native.Mathlib.Nat.{le_refl}
 use mathlib.Core.Path.{◌≡◌, refl, sym, ap, ◌∙◌, subst}
 use mathlib.Core.Bool.{Bool, true, false}
 use mathlib.Core.List.{List}
 use lib.Dec.{ltb}
-use lib.ListN.{get_or}
 use borrow.Author.Tests.{lt-ltb, le-ltb}
 use Rattle.basics.proofs.BoundedLaws.{first_more, first_found, all_fails, all_more, any_of, any_first}
-use Rattle.play.specs.Limits.{pair_limit}
 use Rattle.basics.specs.Bounded.{all, any, first_that}
 use Rattle.basics.specs.declared.order.Order.TheVariants.{Set, Read}
-use Rattle.tables.specs.PositionMemory.{next_of, rank_after, works, can_lead}
+use Rattle.tables.specs.PositionMemory.{rank_after, works, can_lead}
 
 module _ (moves ranks : List ℕ) (choices observations r k : ℕ) where
+  abbrev reached : ℕ → ℕ → ℕ
+  reached c s = rank_after moves ranks choices k c s
+
   -- observation s after choice c leads to a rank below r
   unfoldable pub leads : ℕ → ℕ → Bool
-  leads c s = ltb (rank_after moves ranks choices k c s) r
-
-  -- the rank read
-  abbrev reached : ℕ → ℕ → ℕ
-  reached c s = get_or ranks (get_or moves (k * pair_limit + s * choices + c) 0) 0
+  leads c s = ltb (reached c s) r
 
   passes : (c s : ℕ) → reached c s < r → leads c s ≡ true
-  unfolding leads rank_after next_of
+  unfolding leads
   passes c s h = lt-ltb (reached c s) r h
 
   fails : (c s : ℕ) → r ≤ reached c s → leads c s ≡ false
-  unfolding leads rank_after next_of
+  unfolding leads
   fails c s h = le-ltb (reached c s) r h
 
   -- ---- one choice for all observations
@@ -87,7 +84,3 @@ module _ (moves ranks : List ℕ) (choices observations r k : ℕ) where
 
   pub observations_pass : (s : ℕ) → s ≡ observations → all s some_at ≡ true → true ≡ can_lead Read moves ranks choices observations r k
   observations_pass s q a = sym (lead_read_is ∙ subst (λ i. all i some_at ≡ true) q a)
-
--- the loops are through
-pub none_left : (c n : ℕ) (ok : ℕ → Bool) → c ≡ n → first_that ok c ≡ c → n ≡ first_that ok n
-none_left c n ok e l = subst (λ i. i ≡ first_that ok i) e (sym l)

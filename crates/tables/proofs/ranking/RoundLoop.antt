@@ -5,12 +5,12 @@ use native.Mathlib.Numerals.{add-one}
 use native.Mathlib.Nat.{le_refl}
 use native.Mathlib.Decide.{dec_lt}
 use native.Mathlib.Omega.{arith}
-use mathlib.Core.Path.{◌≡◌, refl, sym, ap, ap₂, ◌∙◌, subst}
+use mathlib.Core.Path.{◌≡◌, sym, ap, ap₂, ◌∙◌}
 use mathlib.Core.Logic.{inl, inr}
 use mathlib.Core.List.{List, ◌++◌}
 use mathlib.Core.Bool.{Bool, true, false, cond, ◌||◌}
 use lib.Dec.{ltb}
-use lib.ListN.{length, get_or, set, take, drop, length-set, take-append-drop}
+use lib.ListN.{length, get_or, set, take, drop}
 use lib.Seq.{set-get_or, take_at, drop_at}
 use borrow.Author.Tests.{eq-eqb, ne_eqb, ltb-false, le-ltb}
 use Rattle.basics.specs.Lists.{tabulate}
@@ -26,7 +26,7 @@ use Rattle.play.proofs.StepOrder.{order_of, can_of}
 use Rattle.play.proofs.RankLaws.{In}
 use Rattle.tables.specs.PositionMemory.{arena_in, Positions, first_rank, can_lead, rank_if_below, ranks_below, has_rank, no_rank}
 use Rattle.tables.proofs.RanksBelow.{Below, entry_none, entry_below, below_of, below_within, below_suc, below_more, rank_kept, rank_from_lem}
-use Rattle.tables.proofs.PositionMemoryLaws.{ranks_taken, ranks_passed, rank_read, lead_read}
+use Rattle.tables.proofs.PositionMemoryLaws.{rank_read, lead_read}
 
 -- ---- before any round
 
@@ -100,30 +100,20 @@ module _ (o : Order) (n choices observations : ℕ) (moves finals : List ℕ) wh
     -- round r has come to position k: those passed have their ranks up to r, the others what they had
     abbrev pub Halfway : ℕ → List ℕ → Bool → Type 0
     Halfway k ranks more =
-        (k ≤ n) × (length ranks ≡ belief_limit) × (ranks ≡ ranks_below o k choices observations (suc r) moves finals ++ drop k d)
+        (ranks ≡ ranks_below o k choices observations (suc r) moves finals ++ drop k d)
         × (more ≡ any k (has_rank o choices observations r moves finals))
-
-    pub round_begin : length d ≡ belief_limit → Halfway 0 d false
-    unfolding ranks_below
-    round_begin long = (omega arith, long, refl, refl)
-
-    -- the round is through
-    pub round_end : (k : ℕ) (ranks : List ℕ) (more : Bool) → k ≡ n → Halfway k ranks more
-        → (ranks ≡ ranks_to (suc r) ++ drop n d) × (more ≡ any n (has r))
-    round_end k ranks more e H =
-        subst (λ i. (ranks ≡ ranks_below o i choices observations (suc r) moves finals ++ drop i d) × (more ≡ any i (has r))) e (H.2, H.3)
 
     module _ (P : Positions n choices observations moves finals) (over : 0 < r) (small : r < no_rank) (long : length d ≡ belief_limit)
         (before : take n d ≡ ranks_to r) (k : ℕ) (inside : k < n) (ranks : List ℕ) (more : Bool) (H : Halfway k ranks more) where
       -- what the round reads, its own entries included
       read_passed : (j : ℕ) → j < k → get_or ranks j 0 ≡ entry (suc r) j
       unfolding ranks_below
-      read_passed j h = ap (λ l. get_or l j 0) H.2 ∙ get_d_table (entry (suc r)) k j (drop k d) h
+      read_passed j h = ap (λ l. get_or l j 0) H.0 ∙ get_d_table (entry (suc r)) k j (drop k d) h
 
       read_ahead : (j : ℕ) → k ≤ j → j < n → get_or ranks j 0 ≡ entry r j
       unfolding ranks_below
       read_ahead j l h =
-          front_behind (tabulate k (entry (suc r))) d ranks k j (length_tabulate k (entry (suc r))) l H.2
+          front_behind (tabulate k (entry (suc r))) d ranks k j (length_tabulate k (entry (suc r))) l H.0
           ∙ rank_read o n choices observations r moves finals d before j h
 
       reads : (j : ℕ) → j < n → ltb (get_or ranks j 0) r ≡ low r j
@@ -138,10 +128,8 @@ module _ (o : Order) (n choices observations : ℕ) (moves finals : List ℕ) wh
           → (ranks' : List ℕ) (more' : Bool) → ranks' ≡ set ranks k v → more' ≡ (b || more) → Halfway (k + 1) ranks' more'
       unfolding ranks_below
       turned v b is-v is_b ranks' more' e f = (
-        omega arith,
-        ap length e ∙ length-set ranks k v ∙ H.1,
-        e ∙ table_more k (entry (suc r)) d ranks v (omega (arith, P.few)) H.2 is-v,
-        f ∙ ap₂ ◌||◌ (sym is_b) H.3 ∙ sym (any_suc k (has r)) ∙ ap (λ i. any i (has r)) (sym (add-one k)),
+        e ∙ table_more k (entry (suc r)) d ranks v (omega (arith, P.few)) H.0 is-v,
+        f ∙ ap₂ ◌||◌ (sym is_b) H.1 ∙ sym (any_suc k (has r)) ∙ ap (λ i. any i (has r)) (sym (add-one k)),
       )
 
       stays : get_or ranks k 0 ≡ entry (suc r) k → has r k ≡ false
@@ -216,25 +204,10 @@ module _ (o : Order) (n choices observations : ℕ) (moves finals : List ℕ) wh
     unfolding ranks_below
     ranks_last = tabulate_ext n (entry (suc r)) (entry n) (λ k h. settled (suc r) k h (omega arith) ∙ sym (settled n k h (omega arith)))
 
-  -- ---- the rounds one after the other, from the first ranks on
+  module _ (first ranks : List ℕ) (rest : drop n ranks ≡ drop n first) (d : List ℕ) (begun : first ≡ tabulate n (first_rank finals) ++ drop n d) where
+    behind : drop n ranks ≡ drop n d
+    behind = rest ∙ ap (drop n) begun ∙ drop_at (tabulate n (first_rank finals)) (drop n d) n (length_tabulate n (first_rank finals))
 
-  module _ (first ranks : List ℕ) (rest : drop n ranks ≡ drop n first) where
-    pub rounds_on : (r : ℕ) (ranks' : List ℕ) → ranks' ≡ ranks_to (suc r) ++ drop n ranks
-        → (take n ranks' ≡ ranks_to (r + 1)) × (drop n ranks' ≡ drop n first)
-    rounds_on r ranks' e = (
-      ranks_taken o n choices observations (suc r) moves finals ranks' (drop n ranks) e ∙ ap ranks_to (sym (add-one r)),
-      ranks_passed o n choices observations (suc r) moves finals ranks' (drop n ranks) e ∙ rest,
-    )
-
-    module _ (d : List ℕ) (begun : first ≡ tabulate n (first_rank finals) ++ drop n d) where
-      behind : drop n ranks ≡ drop n d
-      behind = rest ∙ ap (drop n) begun ∙ drop_at (tabulate n (first_rank finals)) (drop n d) n (length_tabulate n (first_rank finals))
-
-      -- all rounds are done
-      pub rounds_done : (r : ℕ) → r ≡ n → take n ranks ≡ ranks_to r → ranks ≡ ranks_to n ++ drop n d
-      rounds_done r e taken = sym (take-append-drop n ranks) ∙ ap₂ ◌++◌ (taken ∙ ap ranks_to e) behind
-
-      -- or no further one is needed
-      pub round_last : Positions n choices observations moves finals → (r : ℕ) → 0 < r → r < n → (more : Bool) → more ≡ any n (has r) → more ≡ false
-          → (ranks' : List ℕ) → ranks' ≡ ranks_to (suc r) ++ drop n ranks → ranks' ≡ ranks_to n ++ drop n d
-      round_last P r over before more is none ranks' e = e ∙ ap₂ ◌++◌ (ranks_last P r over before (sym is ∙ none)) behind
+    pub round_last : Positions n choices observations moves finals → (r : ℕ) → 0 < r → r < n → (more : Bool) → more ≡ any n (has r) → more ≡ false
+        → (ranks' : List ℕ) → ranks' ≡ ranks_to (suc r) ++ drop n ranks → ranks' ≡ ranks_to n ++ drop n d
+    round_last P r over before more is none ranks' e = e ∙ ap₂ ◌++◌ (ranks_last P r over before (sym is ∙ none)) behind

@@ -18,24 +18,13 @@ use Rattle.basics.specs.declared.order.Order.TheVariants.{Set, Read}
 use Rattle.basics.proofs.Booleans.{test}
 use Rattle.basics.proofs.ListsLaws.{tabulate_ext}
 use Rattle.play.specs.Limits.{side_limit}
-use Rattle.play.specs.Cells.{choice_at, next_at, rank_at, row_size, stop_cell, first_of, stop_row, choice_row, pair_cell, with_rank}
-use Rattle.tables.specs.PositionMemory.{with_choice, with_pair}
+use Rattle.play.specs.Cells.{choice_at, next_at, rank_at, row_size, first_of, stop_row, choice_row, pair_cell, with_rank}
+use Rattle.tables.specs.PositionMemory.{with_pair}
 
 -- ---- the first cell
 
 pub first_at : (o : Order) → 0 * row_size o ≡ 0
 first_at o = omega arith
-
--- written over zeros
-pub first_put : (o : Order) (n : ℕ) (cells : List ℕ) (v w : ℕ) → n ≡ row_size o → cells ≡ replicate n 0 → v ≡ w
-    → set cells (0 * row_size o) v ≡ set (replicate (row_size o) 0) 0 w
-first_put o n cells v w e f g = ap₂ (λ l i. set l i v) (f ∙ ap (λ i. replicate i 0) e) (first_at o) ∙ ap (set (replicate (row_size o) 0) 0) g
-
--- where the table stops that is all
-pub stop_is : (o : Order) → set (replicate (row_size o) 0) 0 stop_cell ≡ stop_row o
-unfolding stop_row
-stop_is Set = refl
-stop_is Read = refl
 
 -- ---- the last cell
 
@@ -53,21 +42,6 @@ stop_ranked Set = refl
 stop_ranked Read = refl
 
 -- ---- the cells of the observations
-
-module _ (o : Order) (cells : List ℕ) (s c : ℕ) (after : List ℕ) where
-  -- the choice is written under `Read` alone
-  pub choice_none : o ≡ Set → after ≡ cells → after ≡ with_choice o cells s c
-  choice_none told e = e ∙ ap (λ (o : Order). with_choice o cells s c) (sym told)
-
-  pub choice_put : o ≡ Read → after ≡ set cells (0 * row_size o + choice_at o s) c → after ≡ with_choice o cells s c
-  choice_put told e =
-      let at : 0 * row_size o + choice_at o s ≡ choice_at o s = omega arith in
-      e ∙ ap (λ i. set cells i c) at ∙ ap (λ (o : Order). set cells (choice_at o s) c) told ∙ ap (λ (o : Order). with_choice o cells s c) (sym told)
-
-  pub next_put : after ≡ with_choice o cells s c → (next : ℕ) → set after (0 * row_size o + next_at o s) next ≡ with_pair o cells s c next
-  next_put is next =
-      let at : 0 * row_size o + next_at o s ≡ next_at o s = omega arith in
-      ap₂ (λ l i. set l i next) is at
 
 -- a table with one entry stored
 set_table : (n i v : ℕ) (f g : ℕ → ℕ) → g i ≡ v → ((j : ℕ) → (j ≡ i → ⊥) → f j ≡ g j) → set (tabulate n f) i v ≡ tabulate n g

@@ -17,10 +17,9 @@ use Rattle.basics.proofs.ListsLaws.{length_tabulate, get_d_tabulate}
 use Rattle.basics.specs.Reach.{is_in, index_in, add_new, add_all}
 use Rattle.basics.proofs.ReachLaws.{added_all}
 use Rattle.basics.proofs.GrowingList.{add_old, add_new_lem, index_kept, index_last}
-use Rattle.play.specs.Limits.{belief_limit, pair_limit}
+use Rattle.play.specs.Limits.{belief_limit}
 use Rattle.play.specs.Cells.{rank_at, row_size, first_of, choice_row, with_rank}
-use Rattle.tables.specs.PositionMemory.{next_of, next_by, rows_with, row_with, with_pair}
-use Rattle.play.proofs.CellsLaws.{choice_length}
+use Rattle.tables.specs.PositionMemory.{next_by, rows_with, row_with, with_pair}
 use Rattle.tables.proofs.writing.RowNumbers.{index_le, index_out, index_in_lem}
 use Rattle.tables.proofs.writing.RowCells.{rank_put, row_begin, row_more}
 use Rattle.basics.proofs.SaysLaws.{eqb_says}
@@ -72,7 +71,6 @@ module _ (o : Order) (moves answers : List ℕ) (choices observations k m : ℕ)
 
   -- the observations below s are done, and there are n rows
   pub record Adding (s n : ℕ) (rows cells : List ℕ) : Type 0 where
-    pub turn : s ≤ observations
     pub long : length rows ≡ belief_limit
     pub few : n ≤ belief_limit
     pub count : n ≡ length (rows_to s)
@@ -115,7 +113,6 @@ module _ (o : Order) (moves answers : List ℕ) (choices observations k m : ℕ)
   unfolding cells_to
   adding_begin cells few long is =
       record {
-        turn = omega arith;
         long = long;
         few = few;
         count = sym (ap length rows_none ∙ length-take-le m rows₀ (omega arith));
@@ -124,18 +121,9 @@ module _ (o : Order) (moves answers : List ℕ) (choices observations k m : ℕ)
         cells_are = is ∙ row_begin (λ t. get_or answers t 0) (λ t. index_in eqb (next t) rows_all) o;
       }
 
-  -- the cells have room
-  pub cells_room : (s n : ℕ) (rows cells : List ℕ) → Adding s n rows cells → length cells ≡ row_size o
-  unfolding cells_to
-  cells_room s n rows cells a = ap length a.cells_are ∙ choice_length s (λ t. get_or answers t 0) (λ t. index_in eqb (next t) rows_all) o
-
   -- observation s leads to position t, which is found at row j
   module _ (s n : ℕ) (rows cells : List ℕ) (a : Adding s n rows cells) (inside : s < observations) (t j : ℕ)
-      (is_t : t ≡ get_or moves (k * pair_limit + s * choices + get_or answers s 0) 0) (found : j ≡ index_in eqb t (take n rows)) where
-    next_is : t ≡ next s
-    unfolding next_of
-    next_is = is_t
-
+      (next_is : t ≡ next s) (found : j ≡ index_in eqb t (take n rows)) where
     place : j ≡ index_in eqb t (rows_to s)
     place = found ∙ ap (index_in eqb t) a.front
 
@@ -160,7 +148,6 @@ module _ (o : Order) (moves answers : List ℕ) (choices observations k m : ℕ)
         let is = cells_more (number_kept s t there ∙ sym place) cells' q in
         rw (p, r) (
         record {
-          turn = omega arith;
           long = a.long;
           few = a.few;
           count = a.count ∙ ap length e;
@@ -197,7 +184,6 @@ module _ (o : Order) (moves answers : List ℕ) (choices observations k m : ℕ)
           let is = cells_more (number_kept (s + 1) t last.1 ∙ last.0 ∙ sym is_new) cells' q in
           rw (p, r) (
           record {
-            turn = omega arith;
             long = length-set rows n t ∙ a.long;
             few = omega arith;
             count = sym longer;
@@ -210,17 +196,16 @@ module _ (o : Order) (moves answers : List ℕ) (choices observations k m : ℕ)
           )
 
   -- all is done, and the rank is written
-  pub adding_end : (s n : ℕ) (rows cells : List ℕ) → observations ≤ s → Adding s n rows cells
+  pub adding_end : (s n : ℕ) (rows cells : List ℕ) → s ≡ observations → Adding s n rows cells
       → (rank : ℕ) (cells' : List ℕ) → cells' ≡ set cells (0 * row_size o + rank_at o) rank
       → (n ≡ length rows_all)
       × ((rows ≡ rows_all ++ drop (length rows_all) rows₀) × (cells' ≡ with_rank o rank (row_with o moves choices observations k answers rows_all)))
   unfolding cells_to
-  adding_end s n rows cells past a rank cells' q =
-      let e : rows_to s ≡ rows_all = rows_end s past in
+  adding_end s n rows cells is_s a rank cells' q =
+      let e : rows_to s ≡ rows_all = rows_end s (omega arith) in
       let is_n : n ≡ length rows_all = a.count ∙ ap length e in
-      let is-s : s ≡ observations = omega (arith, a.turn) in
       let is : cells ≡ row_with o moves choices observations k answers rows_all =
-      a.cells_are ∙ ap (λ i. choice_row o i (λ t. get_or answers t 0) (λ t. index_in eqb (next t) rows_all)) is-s in (
+      a.cells_are ∙ ap (λ i. choice_row o i (λ t. get_or answers t 0) (λ t. index_in eqb (next t) rows_all)) is_s in (
         is_n,
         (
           sym (take-append-drop n rows) ∙ ap₂ ◌++◌ (a.front ∙ e) (a.rest ∙ ap (λ i. drop i rows₀) is_n),

@@ -88,7 +88,3 @@ module _ (rows : List ℕ) (k : ℕ) where
       ∙ ap (λ t. length (take i rows) + index_in eqb k (take (suc (m - suc i)) t)) (drop-cons rows i 0 (omega arith))
       ∙ ap (λ b. length (take i rows) + cond b 0 (suc (index_in eqb k w))) d ∙ omega (arith, l)
       )
-
-  -- there is none
-  pub passed_all : (m i : ℕ) → i ≤ m → m ≤ i → Passed i → m ≡ index_in eqb k (take m rows)
-  passed_all m i g h e = let q : i ≡ m = omega arith in sym (rw q at e)

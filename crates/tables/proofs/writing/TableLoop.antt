@@ -20,7 +20,6 @@ use Rattle.basics.specs.Reach.{closed, index_in, add_all, reachable}
 use Rattle.basics.proofs.MemberLaws.{in_below, in_tabulate, get_d_in}
 use Rattle.basics.proofs.ReachLaws.{added_all, closed_lists}
 use Rattle.basics.proofs.EqualRows.{length_rows}
-use Rattle.basics.proofs.LentPart.{part_length}
 use Rattle.basics.proofs.BreadthFirst.{search_from, search_begin, search_turn}
 use Rattle.play.specs.Limits.{belief_limit}
 use Rattle.play.specs.Cells.{row_size, table_size, stop_row, choice_row, with_rank}
@@ -222,12 +221,6 @@ module _ (o : Order) (n choices observations : ℕ) (moves finals : List ℕ) wh
       met_le : m ≤ length all_rows
       met_le = subst (λ j. j ≤ length all_rows) xs_length (search_length eqb after 0 n eqb_says all_rows xs i t.goes)
 
-      -- the cells of row i, as they are lent
-      pub row_part : (size : ℕ) → i < m → size ≡ row_size o → table_size ≤ length table₀
-          → length (take (i * size + size - i * size) (drop (i * size) table)) ≡ row_size o
-      row_part size here e room =
-          part_length (i * size) size table (omega (arith, row_room o i size (omega (arith, t.few)) e, t.wide)) ∙ e
-
       module _ (here : i < m) (k : ℕ) (is-k : k ≡ get_or met i 0) where
         here' : i < length xs
         here' = subst (λ j. i < j) (sym xs_length) here
@@ -241,8 +234,8 @@ module _ (o : Order) (n choices observations : ℕ) (moves finals : List ℕ) wh
         row_in : k ∈ all_rows
         row_in = subst (λ x. x ∈ all_rows) at_all (get_d_in all_rows i 0 (omega (arith, met_le)))
 
-        pub row_small : k < belief_limit
-        row_small = omega (arith, row_lt k row_in, P.few)
+        pub row_lt_count : k < n
+        row_lt_count = row_lt k row_in
 
         goes_on_lem : search_from eqb after 0 n (add_all eqb xs (after k)) (i + 1) ≡ closed all_rows
         goes_on_lem =

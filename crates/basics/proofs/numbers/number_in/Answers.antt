@@ -1,6 +1,6 @@
 use native.Mathlib.Omega.{arith}
 use mathlib.Core.Path.{sym, ◌∙◌}
-use Rattle.basics.specs.declared.numbers.Number.TheVariants.{Value}
+use Rattle.std.specs.Prelude.{Some}
 use Rattle.basics.proofs.NumbersLaws.{number_none, number_some, number_more, number_bad, number_end}
 use Rattle.basics.proofs.numbers.number_in.Goals as goal
 
@@ -8,20 +8,20 @@ pub returns-then-digits-eq0 : goal.returns-then-digits-eq0
 returns-then-digits-eq0 c =
     number_none c.args.digits.now c.if-digits-eq0.true
 
-pub loop-i-init : goal.loop-i-init
-loop-i-init c =
+pub loop-digit-init : goal.loop-digit-init
+loop-digit-init c =
     number_some c.args.digits.now c.if-digits-eq0.false
 
-pub returns-in-Bad : goal.returns-in-Bad
-returns-in-Bad c =
-    let e = sym c.in-Bad.is ∙ c.with_digit.ensures in
-    number_bad c.args.digits.now c.loop-i.i (Value c.loop-i.n) (omega arith) e ∙ sym c.loop-i.invariant
+pub returns-in_err-n : goal.returns-in_err-n
+returns-in_err-n c =
+    let e = sym c.in_err-n.was ∙ c.with_digit.ensures in
+    c.from_residual.ensures ∙ number_bad c.args.digits.now c.loop-digit.digit-index (Some c.loop-digit.n) c.loop-digit-test.true e ∙ sym c.loop-digit.invariant
 
-pub loop-i-preserved : goal.loop-i-preserved
-loop-i-preserved c =
-    let e = sym c.in-Value.is ∙ c.with_digit.ensures in
-    c.loop-i.invariant ∙ number_more c.args.digits.now c.loop-i.i (Value c.loop-i.n) _ (omega arith) e
+pub loop-digit-preserved : goal.loop-digit-preserved
+loop-digit-preserved c =
+    let e = sym c.in_ok-n.was ∙ c.with_digit.ensures in
+    c.loop-digit.invariant ∙ number_more c.args.digits.now c.loop-digit.digit-index (Some c.loop-digit.n) _ c.loop-digit-test.true e
 
 pub returns : goal.returns
 returns c =
-    number_end c.args.digits.now c.loop-i.i (Value c.loop-i.n) c.loop-i-test.false ∙ sym c.loop-i.invariant
+    number_end c.args.digits.now c.loop-digit.digit-index (Some c.loop-digit.n) c.loop-digit-test.false ∙ sym c.loop-digit.invariant

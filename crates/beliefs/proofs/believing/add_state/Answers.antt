@@ -5,4 +5,4 @@ use Rattle.beliefs.proofs.believing.add_state.Goals as goal
 
 pub returns : goal.returns
 returns c =
-    state_set c.args.place.now c.args.t
+    state_set c.args.belief.now c.args.t

@@ -1,27 +1,19 @@
--- `cabinet::printing::print` meets its contract, by that of `put_table`.
+-- `cabinet::printing::print` meets its contract: a table without the sizes of its shape is refused.
 -- Assumes nothing.
-use Rattle.cabinet.proofs.PrintLaws.{print_short, print_refused, print_asks, print_done}
+use lib.ListN.{length}
+use borrow.Author.Tests.{le-ltb}
+use Rattle.printer.specs.Limits.{text_size}
+use Rattle.cabinet.specs.Print.{printed_by, bytes_by}
+use Rattle.cabinet.proofs.PrintLaws.{unsized, refused_due}
 use Rattle.cabinet.proofs.printing.print.Goals as goal
 
-pub returns-then-text-lt-TEXT_SIZE : goal.returns-then-text-lt-TEXT_SIZE
-returns-then-text-lt-TEXT_SIZE c =
-    let whole = print_short c.args.table.now c.args.shape c.args.worst c.args.text.now c.if-text-lt-TEXT_SIZE.true in
-    record { answer = whole.0; bytes = whole.1.0; due = whole.1.1 }
-
-pub returns-then-not-is_printable : goal.returns-then-not-is_printable
-returns-then-not-is_printable c =
-    let whole = print_refused c.args.table.now c.args.shape c.args.worst c.args.text.now c.if-text-lt-TEXT_SIZE.false _
-    c.is_printable.ensures (rw c.if-not-is_printable.true) in
-    record { answer = whole.0; bytes = whole.1.0; due = whole.1.1 }
-
-pub put_table-requires : goal.put_table-requires
-put_table-requires c =
-    let whole = print_asks c.args.table.now c.args.shape c.args.worst c.args.text.now c.if-text-lt-TEXT_SIZE.false _ c.is_printable.ensures (rw c.if-not-is_printable.false) in
-    record { observed_le_kind_limit = whole.0; order_in_bounds = whole.1.0; worst_in_bounds = whole.1.1 }
-
-pub returns : goal.returns
-returns c =
-    let whole = print_done c.args.table.now c.args.shape c.args.worst c.args.text.now c.if-text-lt-TEXT_SIZE.false _ c.is_printable.ensures
-    (rw c.if-not-is_printable.false)
-    _ _ c.put_table.ensures.value c.put_table.ensures.text_after in
-    record { answer = whole.0; bytes = whole.1.0; due = whole.1.1 }
+pub returns-in_default-2 : goal.returns-in_default-2
+unfolding printed_by bytes_by
+returns-in_default-2 c =
+    let room = le-ltb (length c.args.text.now) text_size c.if-text-lt-TEXT_SIZE.false in
+    let fails = unsized c.args.table.now c.args.shape c.args.worst (rw c.in_default.is at c.new.ensures) in
+    record {
+      answer = rw (room, fails);
+      bytes = rw (room, fails);
+      due = refused_due _ _ _ _ c.if-text-lt-TEXT_SIZE.false fails;
+    }

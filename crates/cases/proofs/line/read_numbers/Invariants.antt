@@ -1,12 +1,10 @@
--- `cases::line::read_numbers` meets its contract: no more numbers are kept than there is room for. Assumes nothing.
-use Prim.Native.Nat.{◌≤◌, ◌-◌}
-use mathlib.Core.Path.{◌≡◌}
-use lib.ListN.{length}
+-- `cases::line::read_numbers` is safe and ends: no more numbers are kept than there is room for. Assumes nothing.
+use Rattle.std.proofs.Common.{◌≤◌, ◌-◌, length}
 use Rattle.cases.proofs.line.read_numbers.Given as goal
 
 abbrev pub invariant-loop-i : goal.invariant-loop-i
 invariant-loop-i l =
-    (l.n ≤ length l.numbers) × (length l.numbers ≡ length l.initial.numbers)
+    l.n ≤ length l.numbers
 
 abbrev pub decreases-loop-i : goal.decreases-loop-i
 decreases-loop-i l =

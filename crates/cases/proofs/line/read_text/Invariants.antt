@@ -1,12 +1,10 @@
--- `cases::line::read_text` meets its contract: what is written stays within the text. Assumes nothing.
-use Prim.Native.Nat.{◌≤◌, ◌-◌}
-use mathlib.Core.Path.{◌≡◌}
-use lib.ListN.{length}
+-- `cases::line::read_text` is safe and ends: what is written stays within the text. Assumes nothing.
+use Rattle.std.proofs.Common.{◌≤◌, ◌-◌, length}
 use Rattle.cases.proofs.line.read_text.Given as goal
 
 abbrev pub invariant-loop-i : goal.invariant-loop-i
 invariant-loop-i l =
-    (l.n ≤ length l.text) × (length l.text ≡ length l.initial.text)
+    l.n ≤ length l.text
 
 abbrev pub decreases-loop-i : goal.decreases-loop-i
 decreases-loop-i l =

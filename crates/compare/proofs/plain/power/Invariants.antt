@@ -1,11 +1,7 @@
--- `compare::plain::power` is safe and ends. Assumes nothing.
-use Rattle.std.proofs.Common.{◌-◌, ◌≤◌}
+-- `compare::plain::power` meets its contract. Assumes nothing.
+use Rattle.std.proofs.Common.{◌≤◌}
 use Rattle.compare.proofs.plain.power.Given as goal
 
 abbrev pub invariant-loop : goal.invariant-loop
 invariant-loop l =
-    (l.counter ≤ l.k) × (l.n ≤ l.most)
-
-abbrev pub decreases-loop : goal.decreases-loop
-decreases-loop l =
-    l.k - l.counter
+    l.n ≤ l.most

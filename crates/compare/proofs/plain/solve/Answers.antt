@@ -5,13 +5,13 @@ use Rattle.compare.proofs.plain.solve.Goals as goal
 
 pub slice_bounds-parts-end : goal.slice_bounds-parts-end
 slice_bounds-parts-end c =
-    omega (arith, few_parts (taken c.args.source.now c.in-Accepted.s c.read.result c.read.ensures.value c.in-Accepted.is _ c.read.ensures.parts_after), c.read.auto.parts)
+    omega (arith, few_parts (taken c.args.source.now c.in_ok-s.s c.read.result c.read.ensures.value c.in_ok-s.was _ c.read.ensures.parts_after), c.read.auto.parts)
 
 pub slice_bounds-solve_parts-end : goal.slice_bounds-solve_parts-end
 slice_bounds-solve_parts-end c =
-    sym (taken_length (taken c.args.source.now c.in-Accepted.s c.read.result c.read.ensures.value c.in-Accepted.is _ c.read.ensures.parts_after))
+    sym (taken_length (taken c.args.source.now c.in_ok-s.s c.read.result c.read.ensures.value c.in_ok-s.was _ c.read.ensures.parts_after))
 
 pub solve_parts-requires : goal.solve_parts-requires
 solve_parts-requires c =
-    let t = taken c.args.source.now c.in-Accepted.s c.read.result c.read.ensures.value c.in-Accepted.is _ c.read.ensures.parts_after in
-    record { parts_len_bound = omega (arith, taken_length t, few_parts t); choices_le_side_limit = c.widths.ensures }
+    let t = taken c.args.source.now c.in_ok-s.s c.read.result c.read.ensures.value c.in_ok-s.was _ c.read.ensures.parts_after in
+    omega (arith, taken_length t, few_parts t)

@@ -1,12 +1,7 @@
 -- `compare::plain_patterns::number_of` is safe and ends. Assumes nothing.
-use Rattle.std.proofs.Common.{◌-◌, ◌^◌, ◌<◌, ◌≤◌}
-use Rattle.compare.specs.Sizes.{bit_count}
+use Rattle.std.proofs.Common.{◌^◌, ◌<◌}
 use Rattle.compare.proofs.plain_patterns.number_of.Given as goal
 
 abbrev pub invariant-loop-k : goal.invariant-loop-k
 invariant-loop-k l =
-    (l.k ≤ bit_count) × (l.n < 2 ^ l.k)
-
-abbrev pub decreases-loop-k : goal.decreases-loop-k
-decreases-loop-k l =
-    bit_count - l.k
+    l.n < 2 ^ l.k

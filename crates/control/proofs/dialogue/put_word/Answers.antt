@@ -1,11 +1,7 @@
 -- `control::dialogue::put_word` meets its contract: the word, the number and the end (places w, n) are its three parts.
 -- Assumes nothing.
-use Rattle.control.proofs.DialogueLaws.{word_room_lem, number_room, end_room, word_put}
+use Rattle.control.proofs.DialogueLaws.{number_room, end_room, word_put}
 use Rattle.control.proofs.dialogue.put_word.Goals as goal
-
-pub put_bytes-end-requires : goal.put_bytes-end-requires
-put_bytes-end-requires c =
-    word_room_lem c.args.word.now c.requires.word_len_bound c.args.n c.ranges.n.fits c.args.text.now c.requires.text_size_in_bounds
 
 pub put_field-number-requires : goal.put_field-number-requires
 put_field-number-requires c =

@@ -6,7 +6,7 @@ use Rattle.formula.proofs.evaluate.+entries_at.Goals as goal
 
 pub returns-then-t-trace : goal.returns-then-t-trace
 returns-then-t-trace t c =
-    c.clear.ensures ∙ entries_end c.args.parts.now (length c.args.entries.now) c.args.trace.now c.args.t c.if-t-trace.true
+    c.fill.ensures.after (λ y e. e) ∙ entries_end c.args.parts.now (length c.args.entries.now) c.args.trace.now c.args.t c.if-t-trace.true
 
 pub entries_at-requires : goal.entries_at-requires
 entries_at-requires t c =

@@ -17,6 +17,6 @@ pub returns : goal.returns
 returns t c =
     let one : c.args.n ≡ c.args.n - 1 + 1 = omega arith in
     values_more (parts_in c.args.parts.now) c.args.entries.now c.args.letter c.args.n (c.args.n - 1) one (omega arith) _
-    c.values_back.ensures _ c.part_at-q.ensures
+    c.values_back.ensures _ c.part_at-kind.ensures
     _ _ _ _ _ _ c.bit_of.ensures c.owed_in-o.ensures c.value_in.ensures
-    c.value_in-2.ensures c.combined-v.ensures c.entry_of.ensures
+    c.value_in-2.ensures (c.combined-v.ensures 0 (omega arith)) c.entry_of.ensures

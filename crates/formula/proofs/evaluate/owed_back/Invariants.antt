@@ -1,16 +1,10 @@
 -- `formula::evaluate::owed_back` meets its contract. The invariant: the obligations of the parts passed are written, from the entries as they were.
 -- Assumes nothing.
-use Prim.Native.Nat.{◌-◌, ◌≤◌}
 use mathlib.Core.Path.{◌≡◌}
-use lib.ListN.{length}
 use Rattle.formula.specs.Codes.{parts_in}
 use Rattle.formula.specs.Entries.{with_owed}
 use Rattle.formula.proofs.evaluate.owed_back.Given as goal
 
 abbrev pub invariant-loop-i : goal.invariant-loop-i
 invariant-loop-i l =
-    (l.i ≤ length l.parts) × (length l.entries ≡ length l.initial.entries) × (l.entries ≡ with_owed (parts_in l.parts) l.i l.initial.entries)
-
-abbrev pub decreases-loop-i : goal.decreases-loop-i
-decreases-loop-i l =
-    length l.parts - l.i
+    l.entries ≡ with_owed (parts_in l.parts) l.i l.initial.entries

@@ -26,4 +26,4 @@ pub returns : goal.returns
 returns c =
     let m = long_right c.args.work.now c.args.table.now c.if-work-table.false c.args.source.now c.solve_source-r.result c.solve_source-r.new.table c.solve_source-r.ensures.value c.solve_source-r.ensures.table_after
     _ (length_front c.args.work.now c.solve_source-r.new.sets 4128 c.solve_source-r.auto.sets) in
-    record { answer = m.0; rows = m.1; cleared = c.clear.ensures ∙ m.2; due = m.3 }
+    record { answer = m.0; rows = m.1; cleared = c.fill.ensures.after (λ y e. e) ∙ m.2; due = m.3 }

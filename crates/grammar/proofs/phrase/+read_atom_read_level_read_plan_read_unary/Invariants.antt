@@ -18,10 +18,10 @@ decreases-read_plan l = 8 * (length l.text.now - l.at)
 abbrev pub decreases-read_unary : goal.decreases-read_unary
 decreases-read_unary l = 8 * (length l.text.now - l.at) + 2
 
-abbrev pub invariant-read_level-loop-temporal : goal.invariant-read_level-loop-temporal
-invariant-read_level-loop-temporal l =
-    Loop (leaf_value (names_in l.source l.spans) l.text) (formulas_laws l.temporal) l.text l.l l.r l.at l.n l.initial.to l.initial.c
-    l.initial.cells l.to l.c l.cells
+abbrev pub invariant-read_level-loop-op : goal.invariant-read_level-loop-op
+invariant-read_level-loop-op l =
+    Loop (leaf_value (names_in l.names) l.text) (formulas_laws l.temporal) l.text l.l l.r l.at l.n l.initial.read
+    l.initial.cells l.read l.cells
 
-abbrev pub decreases-read_level-loop-temporal : goal.decreases-read_level-loop-temporal
-decreases-read_level-loop-temporal l = length l.text - l.to
+abbrev pub decreases-read_level-loop-op : goal.decreases-read_level-loop-op
+decreases-read_level-loop-op l = length l.text - l.read.next

@@ -1,65 +1,52 @@
 use native.Mathlib.Omega.{arith}
-use mathlib.Core.Path.{refl, sym, ◌∙◌}
+use mathlib.Core.Path.{sym, ap, ◌∙◌}
 use Rattle.syntax.proofs.LexLaws.{tok_high, tok_ordered}
-use Rattle.lines.proofs.DeclaredNames.{index_below, declared_end, token_past, declared_other, declared_name, declared_none}
+use mathlib.Core.Bool.{not}
+use Rattle.grammar.specs.Names.{names_in}
+use Rattle.lines.specs.Memory.{signals_in}
+use Rattle.lines.proofs.DeclaredNames.{declared_some, declared_end, token_past, declared_other, declared_name, declared_none}
+use Rattle.lines.proofs.adding.all_declared.Goals.{else-t-eq-NAME-via-then-t-eq-NAME+else-is_none, else-t-eq-NAME-via-else-t-eq-NAME}
 use Rattle.lines.proofs.adding.all_declared.Goals as goal
 
-pub loop-at-init : goal.loop-at-init
-loop-at-init c =
-    (omega arith, λ s. refl)
-
-pub returns-then-kind-eq-END : goal.returns-then-kind-eq-END
-returns-then-kind-eq-END c =
-    sym (c.loop-at.invariant.1 c.args.s
-    ∙ declared_end _ _ c.loop-at.invariant.0 _ c.token_at-t.ensures _ c.if-kind-eq-END.true)
+pub returns-then-t-eq-END : goal.returns-then-t-eq-END
+returns-then-t-eq-END c s =
+    sym (c.loop-t.invariant.1 s
+    ∙ declared_end _ _ c.loop-t.invariant.0 _ c.token_at-t.ensures _ c.if-t-eq-END.true)
 
 pub slice_bounds-lookup-count : goal.slice_bounds-lookup-count
 slice_bounds-lookup-count c =
-    tok_ordered _ _ c.loop-at.invariant.0 _ c.token_at-t.ensures
+    tok_ordered _ _ c.loop-t.invariant.0 _ c.token_at-t.ensures
 
 pub slice_bounds-lookup-start : goal.slice_bounds-lookup-start
 slice_bounds-lookup-start c =
-    let o = tok_ordered _ _ c.loop-at.invariant.0 _ c.token_at-t.ensures in
-    let h = tok_high _ _ c.loop-at.invariant.0 _ c.token_at-t.ensures in
+    let o = tok_ordered _ _ c.loop-t.invariant.0 _ c.token_at-t.ensures in
+    let h = tok_high _ _ c.loop-t.invariant.0 _ c.token_at-t.ensures in
     omega arith
 
 pub slice_bounds-lookup-end : goal.slice_bounds-lookup-end
 slice_bounds-lookup-end c =
-    tok_high _ _ c.loop-at.invariant.0 _ c.token_at-t.ensures
+    tok_high _ _ c.loop-t.invariant.0 _ c.token_at-t.ensures
 
-pub lookup-requires : goal.lookup-requires
-lookup-requires c =
-    c.requires
+pub returns-then-is_none : goal.returns-then-is_none
+returns-then-is_none c s =
+    let d = sym (declared_some (signals_in s (names_in c.args.names.now)) _ c.lookup.ensures) ∙ c.is_none.ensures ∙ ap not c.if-is_none.true in
+    sym (c.loop-t.invariant.1 s
+    ∙ declared_none _ _ c.loop-t.invariant.0 _ c.token_at-t.ensures c.if-t-eq-END.false _ c.if-t-eq-NAME.true d)
 
-pub returns-then-lookup-eq-BITS : goal.returns-then-lookup-eq-BITS
-returns-then-lookup-eq-BITS c =
-    sym (c.loop-at.invariant.1 c.args.s
-    ∙ declared_none _ _ c.loop-at.invariant.0 _ c.token_at-t.ensures c.if-kind-eq-END.false _ _ c.lookup.ensures
-    c.if-kind-eq-NAME.true c.if-lookup-eq-BITS.true)
-
-pub loop-at-smaller-else-lookup-eq-BITS : goal.loop-at-smaller-else-lookup-eq-BITS
-loop-at-smaller-else-lookup-eq-BITS c =
-    let p = token_past _ _ c.loop-at.invariant.0 _ c.token_at-t.ensures c.if-kind-eq-END.false in
-    let h = tok_high _ _ c.loop-at.invariant.0 _ c.token_at-t.ensures in
+pub loop-t-smaller : goal.loop-t-smaller
+loop-t-smaller c =
+    let p = token_past _ _ c.loop-t.invariant.0 _ c.token_at-t.ensures c.if-t-eq-END.false in
+    let h = tok_high _ _ c.loop-t.invariant.0 _ c.token_at-t.ensures in
     omega arith
 
-pub loop-at-preserved-else-lookup-eq-BITS : goal.loop-at-preserved-else-lookup-eq-BITS
-loop-at-preserved-else-lookup-eq-BITS c = (
-  tok_high _ _ c.loop-at.invariant.0 _ c.token_at-t.ensures,
-  λ s. c.loop-at.invariant.1 s ∙ declared_name _ _ c.loop-at.invariant.0 _ c.token_at-t.ensures
-      c.if-kind-eq-END.false _ _ c.lookup.ensures c.if-kind-eq-NAME.true
-      (index_below _ _ _ _ c.lookup.ensures c.if-lookup-eq-BITS.false),
-)
-
-pub loop-at-smaller : goal.loop-at-smaller
-loop-at-smaller c =
-    let p = token_past _ _ c.loop-at.invariant.0 _ c.token_at-t.ensures c.if-kind-eq-END.false in
-    let h = tok_high _ _ c.loop-at.invariant.0 _ c.token_at-t.ensures in
-    omega arith
-
-pub loop-at-preserved : goal.loop-at-preserved
-loop-at-preserved c = (
-  tok_high _ _ c.loop-at.invariant.0 _ c.token_at-t.ensures,
-  λ s. c.loop-at.invariant.1 s ∙ declared_other _ _ c.loop-at.invariant.0 _ c.token_at-t.ensures c.if-kind-eq-END.false _
-      c.if-kind-eq-NAME.false,
+pub loop-t-preserved : goal.loop-t-preserved
+loop-t-preserved c = (
+  tok_high _ _ c.loop-t.invariant.0 _ c.token_at-t.ensures,
+  λ s. c.loop-t.invariant.1 s ∙ elim c.else-t-eq-NAME.branch [
+    | else-t-eq-NAME-via-then-t-eq-NAME+else-is_none w ↦
+        let d = sym (declared_some (signals_in s (names_in c.args.names.now)) _ w.lookup.ensures) ∙ w.is_none.ensures ∙ ap not w.if-is_none.false in
+        declared_name _ _ c.loop-t.invariant.0 _ c.token_at-t.ensures c.if-t-eq-END.false _ w.if-t-eq-NAME.true d
+    | else-t-eq-NAME-via-else-t-eq-NAME w ↦
+        declared_other _ _ c.loop-t.invariant.0 _ c.token_at-t.ensures c.if-t-eq-END.false _ w.if-t-eq-NAME.false
+  ],
 )

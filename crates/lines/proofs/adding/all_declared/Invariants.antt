@@ -5,17 +5,18 @@ use Prim.Native.Nat.{◌-◌, ◌≤◌}
 use mathlib.Core.Path.{◌≡◌}
 use lib.ListN.{length}
 use Rattle.syntax.specs.Lex.{tokens}
+use Rattle.grammar.specs.Names.{names_in}
 use Rattle.lines.specs.declared.problem.Sizes.{Sizes}
 use Rattle.lines.specs.Effect.{all_declared}
 use Rattle.lines.specs.Memory.{signals_in}
 use Rattle.lines.proofs.adding.all_declared.Given as goal
 
-abbrev pub invariant-loop-at : goal.invariant-loop-at
-invariant-loop-at l =
+abbrev pub invariant-loop-t : goal.invariant-loop-t
+invariant-loop-t l =
     (l.at ≤ length l.text)
     × ((s : Sizes)
-    → all_declared (signals_in l.source s l.spans) l.text (tokens l.text 0) ≡ all_declared (signals_in l.source s l.spans) l.text (tokens l.text l.at))
+    → all_declared (signals_in s (names_in l.names)) l.text (tokens l.text 0) ≡ all_declared (signals_in s (names_in l.names)) l.text (tokens l.text l.at))
 
-abbrev pub decreases-loop-at : goal.decreases-loop-at
-decreases-loop-at l =
+abbrev pub decreases-loop-t : goal.decreases-loop-t
+decreases-loop-t l =
     length l.text - l.at

@@ -1,18 +1,18 @@
 use native.Mathlib.Omega.{arith}
 use Rattle.lines.proofs.declaring.more_signals.Goals as goal
 
-pub overflow_add-t : goal.overflow_add-t
-overflow_add-t c =
+pub overflow_add-result : goal.overflow_add-result
+overflow_add-result c =
     let h = rw c.in-Output.is at c.requires in
     omega arith
 
-pub overflow_add-t-in-Observed : goal.overflow_add-t-in-Observed
-overflow_add-t-in-Observed c =
+pub overflow_add-result-in-Observed : goal.overflow_add-result-in-Observed
+overflow_add-result-in-Observed c =
     let h = rw c.in-Observed.is at c.requires in
     omega arith
 
-pub overflow_add-t-in-Hidden : goal.overflow_add-t-in-Hidden
-overflow_add-t-in-Hidden c =
+pub overflow_add-result-in-Hidden : goal.overflow_add-result-in-Hidden
+overflow_add-result-in-Hidden c =
     let h = rw c.in-Hidden.is at c.requires in
     omega arith
 

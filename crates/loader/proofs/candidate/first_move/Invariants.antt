@@ -1,6 +1,5 @@
 -- `loader::candidate::first_move` meets its contract. The invariant: the line of the row begins at the place, and all rows before it stop.
 -- Assumes nothing.
-use Prim.Native.Nat.{◌≤◌, ◌-◌}
 use mathlib.Core.Path.{◌≡◌}
 use Rattle.basics.specs.Bounded.{first_that}
 use Rattle.loader.specs.Candidate.{goes_on}
@@ -9,8 +8,4 @@ use Rattle.loader.proofs.candidate.first_move.Given as goal
 
 abbrev pub invariant-loop-row : goal.invariant-loop-row
 invariant-loop-row l =
-    (l.row ≤ l.rows) × RowAt l.text l.at l.row × (first_that (goes_on l.text) l.row ≡ l.row)
-
-abbrev pub decreases-loop-row : goal.decreases-loop-row
-decreases-loop-row l =
-    l.rows - l.row
+    RowAt l.text l.at l.row × (first_that (goes_on l.text) l.row ≡ l.row)

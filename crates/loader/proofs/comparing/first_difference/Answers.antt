@@ -1,52 +1,39 @@
 use native.Mathlib.Omega.{arith}
-use mathlib.Core.Path.{◌≡◌, refl, sym, ◌∙◌}
-use lib.ListN.{length}
-use Rattle.loader.proofs.comparing.DifferenceLoop.{in_both, not_both, differs_here, line_more, line_same, both_end, one_ends}
+use mathlib.Core.Path.{sym, ap, ap₂, ◌∙◌}
+use lib.ListN.{length, length-append}
+use Rattle.loader.specs.Difference.{difference}
+use Rattle.loader.proofs.comparing.DifferenceLoop.{differs_here, line_more, line_same, both_end, one_ends}
 use Rattle.loader.proofs.comparing.first_difference.Goals as goal
-use Rattle.loader.proofs.comparing.first_difference.Goals.{else-a-i-eq-LINE_END, then-a-i-eq-LINE_END}
 
-pub loop-i-init : goal.loop-i-init
-loop-i-init c =
-    (omega arith, omega arith, omega arith, refl)
+pub returns-then-x-y : goal.returns-then-x-y
+returns-then-x-y c =
+    let (a, b) = c.in-Some.ensures.steps in
+    differs_here c.loop-x.line _ _ _ _ c.if-x-y.true ∙ sym (c.loop-x.invariant.differs ∙ ap₂ (difference c.loop-x.line) a b)
 
-pub bounds-a-i : goal.bounds-a-i
-bounds-a-i c =
-    (in_both _ _ _ c.loop-i-test.true).0
+pub loop-x-preserved-then-x-eq-LINE_END : goal.loop-x-preserved-then-x-eq-LINE_END
+loop-x-preserved-then-x-eq-LINE_END c =
+    let (a, b) = c.in-Some.ensures.steps in
+    record {
+      few = simp length-append (omega arith);
+      lengths = omega (arith, c.loop-x.invariant.lengths, ap length a, ap length b);
+      differs = c.loop-x.invariant.differs ∙ ap₂ (difference c.loop-x.line) a b
+          ∙ line_more c.loop-x.line _ _ _ _ c.if-x-y.false c.if-x-eq-LINE_END.true;
+    }
 
-pub bounds-b-i : goal.bounds-b-i
-bounds-b-i c =
-    (in_both _ _ _ c.loop-i-test.true).1
-
-pub returns-then-a-i : goal.returns-then-a-i
-returns-then-a-i c =
-    let (in_a, in_b) = in_both c.loop-i.i (length c.args.a.now) (length c.args.b.now) c.loop-i-test.true in
-    differs_here c.args.a.now c.args.b.now c.loop-i.line c.loop-i.i in_a in_b c.if-a-i.true ∙ sym c.loop-i.invariant.3
-
-pub bounds-a-i-in-loop-i : goal.bounds-a-i-in-loop-i
-bounds-a-i-in-loop-i c =
-    (in_both _ _ _ c.loop-i-test.true).0
-
-pub loop-i-smaller : goal.loop-i-smaller
-loop-i-smaller c =
-    omega (arith, (in_both c.loop-i.i (length c.args.a.now) (length c.args.b.now) c.loop-i-test.true).0)
-
-pub loop-i-preserved : goal.loop-i-preserved
-loop-i-preserved c =
-    let (in_a, in_b) = in_both c.loop-i.i (length c.args.a.now) (length c.args.b.now) c.loop-i-test.true in
-    elim c.if-a-i-eq-LINE_END.branch [
-      | then-a-i-eq-LINE_END w ↦ rw w.line-is
-          (omega arith, omega arith, omega arith, c.loop-i.invariant.3 ∙ line_more c.args.a.now c.args.b.now c.loop-i.line c.loop-i.i in_a in_b c.if-a-i.false w.if-a-i-eq-LINE_END.true)
-      | else-a-i-eq-LINE_END w ↦ rw w.line-is
-          (omega arith, omega arith, omega arith, c.loop-i.invariant.3 ∙ line_same c.args.a.now c.args.b.now c.loop-i.line c.loop-i.i in_a in_b c.if-a-i.false w.if-a-i-eq-LINE_END.false)
-    ]
+pub loop-x-preserved : goal.loop-x-preserved
+loop-x-preserved c =
+    let (a, b) = c.in-Some.ensures.steps in
+    record {
+      few = simp length-append (omega arith);
+      lengths = omega (arith, c.loop-x.invariant.lengths, ap length a, ap length b);
+      differs = c.loop-x.invariant.differs ∙ ap₂ (difference c.loop-x.line) a b
+          ∙ line_same c.loop-x.line _ _ _ _ c.if-x-y.false c.if-x-eq-LINE_END.false;
+    }
 
 pub returns-then-a-b : goal.returns-then-a-b
 returns-then-a-b c =
-    let long : length c.args.a.now ≡ length c.args.b.now = omega (arith, c.if-a-b.true) in
-    both_end c.args.a.now c.args.b.now c.loop-i.line c.loop-i.i c.loop-i.invariant.0 c.loop-i.invariant.1 (not_both _ _ _ c.loop-i-test.false) long
-    ∙ sym c.loop-i.invariant.3
+    both_end c.loop-x.line _ _ c.in-None.ensures.steps (omega (arith, c.loop-x.invariant.lengths)) ∙ sym c.loop-x.invariant.differs
 
 pub returns : goal.returns
 returns c =
-    one_ends c.args.a.now c.args.b.now c.loop-i.line c.loop-i.i c.loop-i.invariant.0 c.loop-i.invariant.1 (not_both _ _ _ c.loop-i-test.false) c.if-a-b.false
-    ∙ sym c.loop-i.invariant.3
+    one_ends c.loop-x.line _ _ c.in-None.ensures.steps (omega (arith, c.loop-x.invariant.lengths)) ∙ sym c.loop-x.invariant.differs

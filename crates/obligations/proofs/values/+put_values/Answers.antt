@@ -17,8 +17,8 @@ pub bounds-numbers-i : goal.bounds-numbers-i
 bounds-numbers-i t c =
     number_there c.args.parts.now c.requires.stored c.args.numbers.now c.requires.numbers_value _ (omega arith)
 
-pub obligation_lanes-requires : goal.obligation_lanes-requires
-obligation_lanes-requires t c =
+pub obligation_lanes-o-requires : goal.obligation_lanes-o-requires
+obligation_lanes-o-requires t c =
     number_small c.args.parts.now c.requires.stored c.args.numbers.now c.requires.numbers_value (c.args.n - 1) (omega arith)
 
 pub returns : goal.returns
@@ -26,6 +26,6 @@ returns t c =
     let i = c.args.n - 1 in
     let inside : i < length c.args.parts.now = omega (arith, c.if-n-eq0.false) in
     values_more _ c.args.letters.now c.args.w c.args.v.now c.args.n c.if-n-eq0.false _ _ _ _ _
-    c.part_at.ensures c.obligation_lanes.ensures
+    c.part_at.ensures c.obligation_lanes-o.ensures
     (number_at c.args.parts.now c.requires.stored c.args.numbers.now c.requires.numbers_value i inside)
     c.put_values.ensures c.put_part.ensures

@@ -15,16 +15,16 @@ pub put_line-requires : goal.put_line-requires
 put_line-requires c =
     omega (
       arith,
-      words_fit (bytes_of "refused") c.number-n.result c.place-p.result (omega arith) c.number-n.type_inv c.place-p.type_inv,
+      words_fit (bytes_of "refused") c.number.result c.place.result (omega arith) c.number.type_inv c.place.type_inv,
       c.requires,
     )
 
 pub returns : goal.returns
 returns c =
-    let same = ap₂ (λ a b. line (bytes_of "refused") (decimal a ∷ decimal b ∷ [])) c.number-n.ensures c.place-p.ensures in
-    let fits = words_fit (bytes_of "refused") c.number-n.result c.place-p.result (omega arith) c.number-n.type_inv c.place-p.type_inv in
+    let same = ap₂ (λ a b. line (bytes_of "refused") (decimal a ∷ decimal b ∷ [])) c.number.ensures c.place.ensures in
+    let fits = words_fit (bytes_of "refused") c.number.result c.place.result (omega arith) c.number.type_inv c.place.type_inv in
     record {
       value = c.put_line.ensures.value ∙ ap length same;
-      text_after = c.put_line.ensures.text_after ∙ put_front (line (bytes_of "refused") (decimal c.number-n.result ∷ decimal c.place-p.result ∷ [])) c.args.text.now
+      text_after = c.put_line.ensures.text_after ∙ put_front (line (bytes_of "refused") (decimal c.number.result ∷ decimal c.place.result ∷ [])) c.args.text.now
           (omega (arith, fits, c.requires)) ∙ ap (λ b. written b c.args.text.now) same;
     }

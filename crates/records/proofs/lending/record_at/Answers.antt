@@ -1,5 +1,5 @@
 -- `records::lending::record_at` meets its contract. Inside, it does not matter what would stand past the end. Assumes nothing.
-use Rattle.std.proofs.Common.{◌∙◌, sym}
+use Rattle.std.proofs.Common.{sym}
 use Rattle.std.proofs.lemmas.List.{get_or_default}
 use Rattle.std.proofs.Math.ListN.{get_or-eq_default}
 use Rattle.formula.specs.Parts.{no_part, part_at}
@@ -9,6 +9,6 @@ pub returns-then-i-parts : goal.returns-then-i-parts
 unfolding part_at
 returns-then-i-parts c = get_or_default c.args.parts.now c.args.i _ no_part c.if-i-parts.true
 
-pub returns : goal.returns
+pub returns-else-i-parts : goal.returns-else-i-parts
 unfolding part_at
-returns c = c.no_part.ensures ∙ sym (get_or-eq_default c.args.parts.now no_part c.if-i-parts.false)
+returns-else-i-parts c = sym (get_or-eq_default c.args.parts.now no_part c.if-i-parts.false)

@@ -13,4 +13,4 @@ pub returns : goal.returns
 returns c =
     let m = long_memory c.args.source.now c.args.work.now c.args.trace.now c.if-work-lt-WORK_SIZE.false c.judge_source-r.result
     c.judge_source-r.ensures in
-    record { answer = m.0; cleared = c.clear.ensures ∙ m.1; due = m.2 }
+    record { answer = m.0; cleared = c.fill.ensures.after (λ y e. e) ∙ m.1; due = m.2 }

@@ -2,12 +2,13 @@
 -- Assumes nothing.
 use Prim.Native.Nat.{◌-◌}
 use lib.ListN.{length}
+use Rattle.grammar.specs.Names.{names_in}
 use Rattle.rules.proofs.ReadingLaws.{Going}
 use Rattle.rules.proofs.reader.read_lines.Given as goal
 
 abbrev pub invariant-loop-at : goal.invariant-loop-at
 invariant-loop-at l =
-    Going l.source l.initial.parts l.at l.line l.s l.spans l.parts
+    Going l.source l.initial.parts l.at l.line l.s (names_in l.names) l.parts
 
 abbrev pub decreases-loop-at : goal.decreases-loop-at
 decreases-loop-at l =

@@ -11,17 +11,16 @@ use Rattle.search.proofs.searching.put_set.Goals as goal
 
 pub put_next-requires : goal.put_next-requires
 put_next-requires c =
-    let asked = put_next_asked _ c.requires.d_le_operator_limit c.args.maps.now c.args.a c.requires.maps_len c.requires.a_lt_letter_limit c.requires.map c.args.mem.now c.args.i c.args.present.now
-    c.requires.present_value c.half_of-h.result c.half_of-h.ensures in
-    let few = asked.4 in
-    record { each_below = asked.0; h_in_bounds = asked.1; each_below_2 = asked.2; h_nonzero = asked.3; h_in_bounds_2 = search rules }
+    let asked = put_next_asked c.args.letters.now c.args.a c.requires.a_lt_count c.requires.own_map c.half_of-h.result c.half_of-h.ensures in
+    let few = asked.2 in
+    record { h_in_bounds = asked.0; h_nonzero = asked.1; h_in_bounds_2 = search rules }
 
 pub returns : goal.returns
 returns c =
     record {
-      mem_after = item_made set_size state_limit c.args.mem.now (λ n. next_bytes n c.args.present.now (entries c.args.maps.now c.args.a) c.half_of-h.result) _ c.args.m
+      mem_after = item_made set_size state_limit c.args.mem.now (λ n. next_bytes n c.args.present.now (entries c.args.letters.now.maps.now c.args.a) c.half_of-h.result) _ c.args.m
           c.requires.m_le_state_limit c.requires.mem_len c.put_next.ensures
           ∙ ap (with_item set_size c.args.mem.now c.args.m)
-          (next_made _ c.requires.d_le_operator_limit c.args.maps.now c.args.a c.requires.maps_len c.requires.a_lt_letter_limit c.requires.map c.args.mem.now c.args.i c.args.present.now c.requires.present_value c.half_of-h.result c.half_of-h.ensures);
+          (next_made c.args.letters.now c.args.a c.requires.a_lt_count c.requires.own_map c.half_of-h.result c.half_of-h.ensures c.args.mem.now c.args.i c.args.present.now c.requires.present_value);
       value = c.find.ensures;
     }

@@ -6,28 +6,24 @@ use Rattle.obligations.proofs.OperatorSpots.{listed_held, listed_spot}
 use Rattle.states.proofs.blocks.CarriedWords.{read_low, read_top, read_above}
 use Rattle.states.proofs.blocks.carried_lane.Goals as goal
 
-pub bounds-spots-k : goal.bounds-spots-k
-bounds-spots-k c =
-    listed_held _ _ _ c.requires.d_value c.requires.spots_value _ c.if-k-d.true
+pub bounds-formula-k : goal.bounds-formula-k
+bounds-formula-k c =
+    listed_held _ _ _ c.args.formula.now.counted c.args.formula.now.listed _ c.if-k-formula.true
 
 pub part_at-part-requires : goal.part_at-part-requires
 part_at-part-requires c =
-    let spot = listed_spot _ _ _ c.requires.d_value c.requires.spots_value _ c.if-k-d.true in
-    omega (arith, spot.0, length_in c.args.parts.now)
+    let spot = listed_spot _ _ _ c.args.formula.now.counted c.args.formula.now.listed _ c.if-k-formula.true in
+    omega (arith, spot.0, length_in c.args.formula.now.parts.now)
 
-pub bounds-v-i : goal.bounds-v-i
-bounds-v-i c =
-    omega (arith, c.type_inv.spots c.args.k)
-
-pub returns-then-k-d : goal.returns-then-k-d
-returns-then-k-d c =
-    read_low c.args.parts.now c.args.spots.now c.args.v.now c.args.d c.args.x c.args.k c.if-k-d.true
+pub returns-then-k-formula : goal.returns-then-k-formula
+returns-then-k-formula c =
+    read_low c.args.formula.now.parts.now c.args.formula.now.spots.now c.args.v.now c.args.formula.now.operators c.args.x c.args.k c.if-k-formula.true
     c.part_at-part.result c.owed_lanes.result c.part_at-part.ensures c.owed_lanes.ensures
 
-pub returns-then-k-d-2 : goal.returns-then-k-d-2
-returns-then-k-d-2 c =
-    read_top c.args.parts.now c.args.spots.now c.args.v.now c.args.d c.args.x c.args.k c.if-k-d-2.true
+pub returns-then-k-formula-2 : goal.returns-then-k-formula-2
+returns-then-k-formula-2 c =
+    read_top c.args.formula.now.parts.now c.args.formula.now.spots.now c.args.v.now c.args.formula.now.operators c.args.x c.args.k c.if-k-formula-2.true
 
 pub returns : goal.returns
 returns c =
-    read_above c.args.parts.now c.args.spots.now c.args.v.now c.args.d c.args.x c.args.k c.if-k-d.false c.if-k-d-2.false
+    read_above c.args.formula.now.parts.now c.args.formula.now.spots.now c.args.v.now c.args.formula.now.operators c.args.x c.args.k c.if-k-formula.false c.if-k-formula-2.false

@@ -1,8 +1,7 @@
 -- `states::blocks::put_planes` meets its contract. The invariant: the planes passed are right.
 -- Assumes nothing.
-use Prim.Native.Nat.{◌-◌, ◌*◌, ◌≤◌}
+use Prim.Native.Nat.{◌*◌}
 use mathlib.Core.Path.{◌≡◌}
-use lib.ListN.{length}
 use Rattle.formula.specs.Codes.{parts_in}
 use Rattle.obligations.specs.Values.{block_size}
 use Rattle.states.specs.Planes.{planes_to}
@@ -10,8 +9,4 @@ use Rattle.states.proofs.blocks.put_planes.Given as goal
 
 abbrev pub invariant-loop-w : goal.invariant-loop-w
 invariant-loop-w l =
-    (l.w ≤ l.m) × (length l.words ≡ length l.initial.words) × (l.words ≡ planes_to (parts_in l.parts) l.letters (l.blocks * block_size) l.w l.initial.words)
-
-abbrev pub decreases-loop-w : goal.decreases-loop-w
-decreases-loop-w l =
-    l.m - l.w
+    l.words ≡ planes_to (parts_in l.parts) l.letters (l.blocks * block_size) l.w l.initial.words

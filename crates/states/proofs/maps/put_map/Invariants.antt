@@ -1,18 +1,11 @@
 -- `states::maps::put_map` meets its contract. The invariant: the entries passed are stored, the rest is as it was.
 -- Assumes nothing.
-use Prim.Native.Nat.{◌*◌, ◌≤◌, ◌-◌}
 use mathlib.Core.Path.{◌≡◌}
 use mathlib.Core.List.{◌++◌}
-use lib.ListN.{length, drop}
-use Rattle.basics.specs.Limits.{word_size}
+use lib.ListN.{drop}
 use Rattle.basics.specs.Lists.{tabulate}
 use Rattle.states.proofs.maps.MapLoops.{map_entry}
 use Rattle.states.proofs.maps.put_map.Given as goal
 
 abbrev pub invariant-loop-p : goal.invariant-loop-p
-invariant-loop-p l =
-    (l.p ≤ l.m * word_size) × (length l.map ≡ length l.initial.map) × (l.map ≡ tabulate l.p (map_entry l.words l.a) ++ drop l.p l.initial.map)
-
-abbrev pub decreases-loop-p : goal.decreases-loop-p
-decreases-loop-p l =
-    l.m * word_size - l.p
+invariant-loop-p l = l.map ≡ tabulate l.p (map_entry l.words l.a) ++ drop l.p l.initial.map

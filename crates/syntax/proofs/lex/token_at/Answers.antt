@@ -2,30 +2,13 @@
 -- Assumes nothing.
 use native.Mathlib.Omega.{arith}
 use mathlib.Core.Path.{sym, ◌∙◌}
-use Rattle.basics.specs.Bytes.{word_byte}
 use Rattle.syntax.proofs.LexLaws.{tok_end, tok_word, tok_arrow, tok_dash, tok_none, tok_sign}
-use Rattle.basics.proofs.BytesLaws.{past_in}
 use Rattle.syntax.proofs.lex.token_at.Goals as goal
-use Rattle.syntax.proofs.lex.token_at.Goals.{then-i-text+else-text-i-eq62, else-i-text}
+use Rattle.syntax.proofs.lex.token_at.Goals.{else-i-text-via-then-i-text+else-text-i-eq62, else-i-text-via-else-i-text}
 
 pub returns-then-text-i : goal.returns-then-text-i
 returns-then-text-i c =
     tok_end _ _ _ c.past-i.ensures c.if-text-i.true
-
-pub slice_bounds-word_kind-count : goal.slice_bounds-word_kind-count
-slice_bounds-word_kind-count c =
-    let p = past_in word_byte c.args.text.now c.past-i.result (omega arith) in
-    omega arith
-
-pub slice_bounds-word_kind-start : goal.slice_bounds-word_kind-start
-slice_bounds-word_kind-start c =
-    let p = past_in word_byte c.args.text.now c.past-i.result (omega arith) in
-    omega arith
-
-pub slice_bounds-word_kind-end : goal.slice_bounds-word_kind-end
-slice_bounds-word_kind-end c =
-    let p = past_in word_byte c.args.text.now c.past-i.result (omega arith) in
-    omega arith
 
 pub returns-then-is_lower : goal.returns-then-is_lower
 returns-then-is_lower c =
@@ -40,7 +23,7 @@ returns-then-text-i-eq62 c =
 pub returns-then-b-eq45 : goal.returns-then-b-eq45
 returns-then-b-eq45 c =
     tok_dash _ _ _ c.past-i.ensures (omega arith) (sym c.is_lower.ensures ∙ c.if-is_lower.false) c.if-b-eq45.true
-    (elim c.if-i-text.branch [ then-i-text+else-text-i-eq62 w ↦ λ _. w.if-text-i-eq62.false | else-i-text w ↦ λ h e. omega arith ])
+    (elim c.else-i-text.branch [ else-i-text-via-then-i-text+else-text-i-eq62 w ↦ λ _. w.if-text-i-eq62.false | else-i-text-via-else-i-text w ↦ λ h e. omega arith ])
 
 pub returns-then-b-eq0 : goal.returns-then-b-eq0
 returns-then-b-eq0 c =

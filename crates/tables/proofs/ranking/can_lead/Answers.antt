@@ -7,10 +7,5 @@ use Rattle.tables.proofs.ranking.can_lead.Goals as goal
 
 pub returns-in-Set : goal.returns-in-Set
 returns-in-Set c =
-    lead_set c.args.moves.now c.args.ranks.now c.args.choices c.args.observations c.args.r c.args.k _ c.smallest_choice.ensures
-    ∙ ap (λ o. can_lead o c.args.moves.now c.args.ranks.now c.args.choices c.args.observations c.args.r c.args.k) (sym c.in-Set.is)
-
-pub returns-in-Read : goal.returns-in-Read
-returns-in-Read c =
-    c.each_has_choice.ensures
-    ∙ ap (λ o. can_lead o c.args.moves.now c.args.ranks.now c.args.choices c.args.observations c.args.r c.args.k) (sym c.in-Read.is)
+    lead_set c.args.arena.now.moves.now c.args.ranks.now c.args.arena.now.choices c.args.arena.now.observations c.args.r c.args.k _ c.smallest_choice.ensures
+    ∙ ap (λ o. can_lead o c.args.arena.now.moves.now c.args.ranks.now c.args.arena.now.choices c.args.arena.now.observations c.args.r c.args.k) (sym c.in-Set.is)

@@ -1,7 +1,5 @@
--- `tables::ranking::smallest_choice` meets its contract. Outer loop: no choice passed works. Inner loop: every observation passed leads below r,
--- and the choice is still the outer loop's.
+-- `tables::ranking::smallest_choice` meets its contract. Outer loop: no choice passed works. Inner loop: every observation passed leads below r.
 -- Assumes nothing.
-use Prim.Native.Nat.{◌-◌, ◌≤◌, ◌<◌}
 use mathlib.Core.Path.{◌≡◌}
 use mathlib.Core.Bool.{true}
 use Rattle.basics.specs.Bounded.{all, first_that}
@@ -11,17 +9,8 @@ use Rattle.tables.proofs.ranking.smallest_choice.Given as goal
 
 abbrev pub invariant-loop-s : goal.invariant-loop-s
 invariant-loop-s l =
-    (l.c ≡ l.initial.c) × (l.c < l.choices) × (l.s ≤ l.observations) × (first_that (works l.moves l.ranks l.choices l.observations l.r l.k) l.c ≡ l.c)
-    × (all l.s (leads l.moves l.ranks l.choices l.observations l.r l.k l.c) ≡ true)
-
-abbrev pub decreases-loop-s : goal.decreases-loop-s
-decreases-loop-s l =
-    l.observations - l.s
+    all l.s (leads l.arena.moves.now l.ranks l.arena.choices l.arena.observations l.r l.k l.c) ≡ true
 
 abbrev pub invariant-choices : goal.invariant-choices
 invariant-choices l =
-    (first_that (works l.moves l.ranks l.choices l.observations l.r l.k) l.c ≡ l.c) × (l.c ≤ l.choices)
-
-abbrev pub decreases-choices : goal.decreases-choices
-decreases-choices l =
-    l.choices - l.c
+    first_that (works l.arena.moves.now l.ranks l.arena.choices l.arena.observations l.r l.k) l.c ≡ l.c

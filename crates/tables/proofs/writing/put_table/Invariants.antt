@@ -2,15 +2,13 @@
 -- passed have the cells that they have in the end.
 -- Assumes nothing.
 use Prim.Native.Nat.{◌-◌}
-use mathlib.Core.Path.{◌≡◌}
-use lib.ListN.{length}
-use Rattle.play.specs.Limits.{belief_limit, side_limit}
+use Rattle.play.specs.Limits.{belief_limit}
 use Rattle.tables.proofs.writing.TableLoop.{Turn}
 use Rattle.tables.proofs.writing.put_table.Given as goal
 
 abbrev pub invariant-loop-i : goal.invariant-loop-i
 invariant-loop-i l =
-    Turn l.order l.n l.choices l.observations l.moves l.finals l.initial.table l.i l.m l.rows l.table × (length l.answers ≡ side_limit)
+    Turn l.order l.arena.count l.arena.choices l.arena.observations l.arena.moves.now l.arena.finals.now l.initial.table l.i l.m l.rows l.table
 
 abbrev pub decreases-loop-i : goal.decreases-loop-i
 decreases-loop-i l =

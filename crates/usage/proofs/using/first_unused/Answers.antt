@@ -23,7 +23,7 @@ loop-at-smaller c =
 pub loop-at-preserved : goal.loop-at-preserved
 loop-at-preserved c =
     let u = have_signal (parts_in c.args.parts.now) in
-    let names = names_in c.args.source.now c.args.spans.now in
+    let names = names_in c.args.names.now in
     look_on u names c.args.source.now c.loop-at.invariant (omega arith) c.behind-at.result c.behind-at.ensures.upper_bound c.behind-at.ensures.text_value _ _
     (c.declares_unused-counts.ensures ∙ ap (declares_unused u names) c.piece.ensures) c.first_of-found.ensures
 

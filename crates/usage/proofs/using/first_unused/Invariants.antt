@@ -10,7 +10,7 @@ use Rattle.usage.proofs.using.first_unused.Given as goal
 
 abbrev pub invariant-loop-at : goal.invariant-loop-at
 invariant-loop-at l =
-    Looking (have_signal (parts_in l.parts)) (names_in l.source l.spans) l.source l.found l.at l.line
+    Looking (have_signal (parts_in l.parts)) (names_in l.names) l.source l.found l.at l.line
 
 abbrev pub decreases-loop-at : goal.decreases-loop-at
 decreases-loop-at l =

@@ -16,7 +16,7 @@ use Rattle.usage.proofs.using.put_unused.Goals.{else-declares_unused, then-decla
 
 pub loop-at-init : goal.loop-at-init
 loop-at-init c =
-    (c.requires.source_in_bounds, begin _ _ _ _)
+    (c.requires, begin _ _ _ _)
 
 pub put_name-end-requires : goal.put_name-end-requires
 put_name-end-requires c =
@@ -36,7 +36,7 @@ loop-at-smaller c =
 pub loop-at-preserved : goal.loop-at-preserved
 loop-at-preserved c =
     let u = have_signal (parts_in c.args.parts.now) in
-    let names = names_in c.args.source.now c.args.spans.now in
+    let names = names_in c.args.names.now in
     let tested = sym (c.declares_unused.ensures ∙ ap (declares_unused u names) c.piece-line.ensures) in (
       c.loop-at.invariant.0,
       elim c.if-declares_unused.branch [

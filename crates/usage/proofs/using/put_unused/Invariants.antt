@@ -10,7 +10,7 @@ use Rattle.usage.proofs.using.put_unused.Given as goal
 
 abbrev pub invariant-loop-at : goal.invariant-loop-at
 invariant-loop-at l =
-    (length l.source ≤ length l.initial.text) × Putting (have_signal (parts_in l.parts)) (names_in l.source l.spans) l.source l.initial.text l.end l.at l.text
+    (length l.source ≤ length l.initial.text) × Putting (have_signal (parts_in l.parts)) (names_in l.names) l.source l.initial.text l.end l.at l.text
 
 abbrev pub decreases-loop-at : goal.decreases-loop-at
 decreases-loop-at l =

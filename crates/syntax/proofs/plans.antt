@@ -1,2 +1,0 @@
--- What the proofs of `syntax::words` use.
-pub mod Wrote

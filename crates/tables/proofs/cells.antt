@@ -1,2 +1,0 @@
--- What the proofs of the functions on cells use.
-pub mod CellPlaces
