@@ -29,3 +29,4 @@ pub mod BytesLaws
 pub mod PiecesLaws
 pub mod NumbersLaws
 pub mod TextLaws
+pub mod WriterLaws

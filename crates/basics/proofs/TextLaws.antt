@@ -11,7 +11,6 @@ use borrow.Author.Tests.{lt-ltb, le-ltb}
 use Rattle.basics.specs.Text.{digits, decimal, field, line}
 use native.Mathlib.Numerals.{add-one}
 use Rattle.basics.specs.Lists.{tabulate}
-use Rattle.basics.proofs.Stores.{Put, Rest, Parts, rest_all, rest_next}
 
 -- more digits may be split off than there are
 digits_enough : (m n k : ℕ) → k ≤ m → k ≤ n → digits m k ≡ digits n k
@@ -56,23 +55,17 @@ module _ {A : Type 0} (g : A → List ℕ) where
   flat_suc (suc n) f = ap (λ t. g (f 0) ++ t) (flat_suc n (λ k. f (suc k))) ∙ sym
       (append_assoc (g (f 0)) (flat_map g (tabulate n (λ k. f (suc k)))) (g (f (suc n))))
 
-  flat_more : (n : ℕ) (f : ℕ → A) → flat_map g (tabulate (n + 1) f) ≡ flat_map g (tabulate n f) ++ g (f n)
+  pub flat_more : (n : ℕ) (f : ℕ → A) → flat_map g (tabulate (n + 1) f) ≡ flat_map g (tabulate n f) ++ g (f n)
   flat_more n f = ap (λ k. flat_map g (tabulate k f)) (add-one n) ∙ flat_suc n f
 
   -- the first i things stand in the text of n things
-  flat_within : (n : ℕ) (f : ℕ → A) (i : ℕ) → i < n → length (flat_map g (tabulate (i + 1) f)) ≤ length (flat_map g (tabulate n f))
+  pub flat_within : (n : ℕ) (f : ℕ → A) (i : ℕ) → i < n → length (flat_map g (tabulate (i + 1) f)) ≤ length (flat_map g (tabulate n f))
   flat_within zero f i h = absurd (not-suc-le-zero h)
   flat_within (suc n) f i h =
       elim (dec_lt i n) [
         | yes l ↦ omega (arith, flat_within n f i l, ap length (flat_suc n f), length-append (flat_map g (tabulate n f)) (g (f n)))
         | no m ↦ let e : i + 1 ≡ suc n = omega arith in rw e (omega arith)
       ]
-
-  -- a loop that puts n things comes to thing i
-  pub turn : (f : ℕ → A) (at n : ℕ) (x : List ℕ) → at + length (flat_map g (tabulate n f)) ≤ length x → (i : ℕ) → i < n
-      → {last : ℕ} {y : List ℕ} → Put at (flat_map g (tabulate i f)) x last y → Rest at (flat_map g (tabulate (i + 1) f)) x last (g (f i)) y
-  turn f at n x room i h p =
-      rest_next (flat_map g (tabulate i f)) (g (f i)) (rest_all at _ x (omega (arith, flat_within n f i h)) _ (flat_more i f)) p
 
   -- how long they are
   pub flat_length : (n w : ℕ) (f : ℕ → A) → ((i : ℕ) → i < n → length (g (f i)) ≤ w) → length (flat_map g (tabulate n f)) ≤ n * w
@@ -104,10 +97,6 @@ pub two_parts : (word : List ℕ) (a b : ℕ) → line word (decimal a ∷ decim
 unfolding flat_map
 two_parts word a b =
     line_parts word (decimal a) (decimal b ∷ []) ∙ ap (λ l. word ++ (field (decimal a) ++ (l ++ (10 ∷ [])))) (append-nil (field (decimal b)))
-
-pub two_puts : (word : List ℕ) (a b : ℕ) (x : List ℕ) → length (line word (decimal a ∷ decimal b ∷ [])) ≤ length x
-    → Parts 0 (line word (decimal a ∷ decimal b ∷ [])) x word (field (decimal a)) (field (decimal b)) (10 ∷ [])
-two_puts word a b x h = record { room = omega arith; are = two_parts word a b }
 
 -- ---- how long they can be
 

@@ -17,3 +17,4 @@ pub mod Bytes
 pub mod Pieces
 pub mod Numbers
 pub mod Text
+pub mod Writer

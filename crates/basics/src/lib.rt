@@ -20,4 +20,4 @@ pub use searching::first_that;
 pub use sizes::{
     HIDDEN, INDEX_LIMIT, KIND_LIMIT, OBSERVED, OPERATOR_LIMIT, SIGNAL_LIMIT, WORD, WORD_BITS,
 };
-pub use text::{LINE_END, put_byte, put_bytes, put_decimal, put_field, put_line};
+pub use text::{LINE_END, Writer};

@@ -1,66 +1,69 @@
-// Numbers, fields and lines put into lent bytes from a place on (`sets` stores bytes one after another). Each function answers the
-// place behind what it has put; its callers show that there is room.
+// Bytes, numbers, fields and lines put one behind another into a lent text; the callers show that there is room.
 ghost use Rattle.std.specs.Prelude.{◌≡◌, [], ◌∷◌, ◌+◌, ◌≤◌, ◌<◌, length};
-ghost use Rattle.std.proofs.lemmas.List.Edits.{sets};
 ghost use Rattle.basics.specs.Text.{decimal, field, line};
+ghost use Rattle.basics.specs.Writer.{Puts};
 
 // Bytes that part fields, and end lines.
 const TAB: u8 = b'\t';
 
 pub const LINE_END: u8 = b'\n';
 
-// One byte.
-pub fn put_byte(text: &mut [u8], at: usize, b: u8) -> usize
-    requires { at < length text.old }
-    ensures value { result ≡ at + 1 }
-    ensures text_after { text.new ≡ sets text.old at (b ∷ []) }
-{
-    text[at] = b;
-    at + 1
+// Where bytes go, and the place of the next.
+#[derive(Drop)]
+pub struct Writer<'a> {
+    pub text: &'a mut [u8],
+    pub at: usize,
 }
 
-// The bytes of a word.
-pub fn put_bytes(text: &mut [u8], at: usize, bytes: &[u8]) -> usize
-    requires { at + length bytes.now ≤ length text.old }
-    ensures value { result ≡ at + length bytes.now }
-    ensures text_after { text.new ≡ sets text.old at bytes.now }
-{
-    let end = at + bytes.len();
-    text[at..end].copy_from_slice(bytes);
-    end
-}
-
-// A number in base ten.
-pub fn put_decimal(text: &mut [u8], at: usize, n: usize) -> usize
-    requires { at + length (decimal n) ≤ length text.old }
-    ensures value { result ≡ at + length (decimal n) }
-    ensures text_after { text.new ≡ sets text.old at (decimal n) }
-{
-    if n < 10 {
-        return put_byte(text, at, b'0' + n as u8);
+impl Writer<'_> {
+    pub fn byte(&mut self, b: u8)
+        requires { self.old.at < length self.old.text.now }
+        ensures { Puts self.old self.new (b ∷ []) }
+    {
+        self.text[self.at] = b;
+        self.at += 1;
     }
-    let last = put_decimal(text, at, n / 10);
-    put_byte(text, last, b'0' + (n % 10) as u8)
-}
 
-// A field that holds a number.
-pub fn put_field(text: &mut [u8], at: usize, n: usize) -> usize
-    requires { at + length (field (decimal n)) ≤ length text.old }
-    ensures value { result ≡ at + length (field (decimal n)) }
-    ensures text_after { text.new ≡ sets text.old at (field (decimal n)) }
-{
-    let from = put_byte(text, at, TAB);
-    put_decimal(text, from, n)
-}
+    pub fn bytes(&mut self, bytes: &[u8])
+        requires { self.old.at + length bytes.now ≤ length self.old.text.now }
+        ensures { Puts self.old self.new bytes.now }
+    {
+        let end = self.at + bytes.len();
+        self.text[self.at..end].copy_from_slice(bytes);
+        self.at = end;
+    }
 
-// A line of a word and two numbers, at the front of the text.
-pub fn put_line(text: &mut [u8], word: &[u8], a: usize, b: usize) -> usize
-    requires { length (line word.now (decimal a ∷ decimal b ∷ [])) ≤ length text.old }
-    ensures value { result ≡ length (line word.now (decimal a ∷ decimal b ∷ [])) }
-    ensures text_after { text.new ≡ sets text.old 0 (line word.now (decimal a ∷ decimal b ∷ [])) }
-{
-    let first = put_bytes(text, 0, word);
-    let second = put_field(text, first, a);
-    let end = put_field(text, second, b);
-    put_byte(text, end, LINE_END)
+    // A number in base ten.
+    pub fn decimal(&mut self, n: usize)
+        requires { self.old.at + length (decimal n) ≤ length self.old.text.now }
+        ensures { Puts self.old self.new (decimal n) }
+    {
+        if n < 10 {
+            self.byte(b'0' + n as u8);
+            return;
+        }
+        self.decimal(n / 10);
+        self.byte(b'0' + (n % 10) as u8);
+    }
+
+    // A field that holds a number.
+    pub fn field(&mut self, n: usize)
+        requires { self.old.at + length (field (decimal n)) ≤ length self.old.text.now }
+        ensures { Puts self.old self.new (field (decimal n)) }
+    {
+        self.byte(TAB);
+        self.decimal(n);
+    }
+
+    // A line of a word and two numbers.
+    #[tactic(auto, using(crate::proofs::WriterLaws::line_length))]
+    pub fn line(&mut self, word: &[u8], a: usize, b: usize)
+        requires { self.old.at + length (line word.now (decimal a ∷ decimal b ∷ [])) ≤ length self.old.text.now }
+        ensures { Puts self.old self.new (line word.now (decimal a ∷ decimal b ∷ [])) }
+    {
+        self.bytes(word);
+        self.field(a);
+        self.field(b);
+        self.byte(LINE_END);
+    }
 }

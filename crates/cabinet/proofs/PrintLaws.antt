@@ -39,3 +39,6 @@ module _ (t : List ℕ) (shape : Shape) (worst : ℕ) where
 
     pub refused_due : is_printable t shape worst ≡ false → PrintedAs t shape worst (length room) (refused 13 0) []
     refused_due f = bad_table h (λ p. clash ((printable_says t shape worst).1 p) f)
+
+-- what the call is proved by
+pub ruleset print_laws = (text_room, short_due, refused_due, table_due)

@@ -3,14 +3,14 @@
 use Rattle.tables.specs.Outcome.{table_with}
 use Rattle.tables.specs.declared.shape.Table.{Table}
 use Rattle.std.specs.Prelude.{Err, Ok, Result}
-use Prim.Native.Nat.{ℕ, ◌+◌, ◌*◌, ◌≤◌, ◌<◌}
+use Prim.Native.Nat.{ℕ, ◌*◌, ◌≤◌, ◌<◌}
 use native.Mathlib.Omega.{arith}
 use mathlib.Core.Path.{◌≡◌, refl, sym, ap, ◌∙◌, subst}
 use mathlib.Core.Logic.{◌↔◌, ◌⊎◌, inl, inr}
 use mathlib.Core.Bool.{true, false}
 use mathlib.Core.List.{List, [], ◌∷◌}
 use lib.Dec.{ltb}
-use lib.ListN.{length, take, drop, length-take, length-append, replicate}
+use lib.ListN.{length, take, drop, length-take, replicate}
 use lib.Seq.{take-take, take_at}
 use borrow.Author.Tests.{ltb-false, lt-ltb}
 use Rattle.lines.specs.declared.refusal.Refusal.{Refusal}

@@ -9,7 +9,7 @@ use wellformed::SizedTable;
 
 // Prints a table of a shape, with its worst case, and answers the length of the text. Refusals: 12, then 13. Only the text's own bytes
 // change, at the front.
-#[tactic(auto, using(crate::proofs::PrintLaws::text_room, crate::proofs::PrintLaws::short_due, crate::proofs::PrintLaws::refused_due, crate::proofs::PrintLaws::table_due), unfolding(crate::specs::Print::printed_by, crate::specs::Print::bytes_by))]
+#[tactic(auto, using(crate::proofs::PrintLaws::print_laws), unfolding(crate::specs::Print::printed_by, crate::specs::Print::bytes_by))]
 pub fn print(table: &[u16], shape: Shape, worst: usize, text: &mut [u8]) -> Result<usize, Refusal>
     ensures answer { result ≡ printed_by table.now shape worst (length text.old) }
     ensures bytes { text.new ≡ text_after table.now shape worst text.old }

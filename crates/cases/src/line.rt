@@ -3,7 +3,7 @@
 // by single spaces, and `z` before a number is so many zeros: `1 z3` is `1 0 0 0`.
 ghost use Rattle.std.specs.Prelude.{◌≤◌, ◌<◌, length, IfOk};
 
-use basics::{Class, Order, field, past, put_byte};
+use basics::{Class, Order, field, past};
 use game::Shape;
 use streams::{Console, Told};
 
@@ -151,14 +151,15 @@ fn put(console: Console, text: &mut [u8], n: usize, b: u8, next: u8) -> Result<u
         console.say_wrong()?;
         return Ok(n);
     }
-    if b != b'\\' {
-        return Ok(put_byte(text, n, b));
-    }
-    if next == b'2' {
+    if b == b'\\' && next == b'2' {
         return put_again(console, text, n);
     }
-    let byte = escaped(console, next)?;
-    Ok(put_byte(text, n, byte))
+    text[n] = if b == b'\\' {
+        escaped(console, next)?
+    } else {
+        b
+    };
+    Ok(n + 1)
 }
 
 // How many bytes that takes of the line.

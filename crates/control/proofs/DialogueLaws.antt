@@ -1,7 +1,6 @@
 -- The line of an answer as it is put, and the observation that a line holds.
 -- Assumes nothing.
 use Prim.Native.Nat.{ℕ, ◌+◌, ◌^◌, ◌≤◌, ◌<◌}
-use native.Mathlib.Nat.{zero-add}
 use native.Mathlib.Decide.{dec_lt}
 use native.Mathlib.Omega.{arith}
 use mathlib.Core.Path.{◌≡◌, refl, sym, ap, ◌∙◌}
@@ -9,15 +8,16 @@ use mathlib.Core.Logic.{◌↔◌, inl, inr}
 use mathlib.Core.Bool.{true, false}
 use mathlib.Core.List.{List, [], ◌∷◌, ◌++◌, flat_map}
 use lib.ListN.{length, take, length-append}
-use lib.Seq.{sets, take_at, length-sets}
+use lib.Seq.{take_at}
 use Rattle.basics.specs.Bytes.{same_bytes}
-use Rattle.basics.specs.Lists.{written}
 use Rattle.basics.specs.Numbers.{number_below}
 use Rattle.basics.specs.Text.{decimal, field, line}
 use Rattle.basics.proofs.Booleans.{test}
 use Rattle.basics.proofs.BytesLaws.{same_bytes_lem, same_refl}
 use Rattle.basics.proofs.NumbersLaws.{below_lt, below_decimal}
-use Rattle.basics.proofs.Stores.{Put, Rest, rest_all, rest_room, rest_next, put_front}
+use Rattle.basics.specs.declared.text.Writer.{Writer}
+use Rattle.basics.specs.Writer.{Puts}
+use Rattle.basics.proofs.WriterLaws.{puts_front}
 use Rattle.basics.proofs.TextLaws.{decimal_length, field_length, line_parts}
 use Rattle.stepping.specs.Position.{Holds, OnStop, SteppedAs, bad_observation}
 use Rattle.stepping.specs.declared.position.Position.{Position}
@@ -25,66 +25,22 @@ use Rattle.lines.specs.Refusal.{refused}
 use Rattle.play.specs.Limits.{side_limit}
 use Rattle.printer.specs.Limits.{text_size}
 use Rattle.wellformed.proofs.WellFormedLaws.{side_le}
-use Rattle.printer.proofs.TextLaws.{words_fit}
 use Rattle.tables.specs.declared.shape.Shape.{Shape}
 use Rattle.control.specs.Dialogue.{word_room, observation_in}
 
 -- ---- an answer is put at the front of a text
 
-abbrev Written : List ℕ → List ℕ → ℕ → List ℕ → Type 0
-Written l x end y = (end ≡ length l) × (y ≡ written l x)
+-- the parts of a line of a word and one number
+pub word_parts : (word : List ℕ) (n : ℕ) → line word (decimal n ∷ []) ≡ word ++ (field (decimal n) ++ (10 ∷ []))
+unfolding flat_map
+word_parts word n = line_parts word (decimal n) []
 
-front_put : (l x : List ℕ) → length l ≤ length x → (end : ℕ) (y : List ℕ) → Put 0 l x end y → Written l x end y
-front_put l x room end y p = (p.0 ∙ zero-add (length l), p.1 ∙ put_front l x room)
+pub word_length : (word : List ℕ) (n : ℕ) → length (line word (decimal n ∷ [])) ≡ length word + length (field (decimal n)) + 1
+word_length word n = ap length (word_parts word n) ∙ simp length-append (omega arith)
 
--- a line of a word and two numbers
-module _ (word : List ℕ) (short : length word ≤ 100) (c left : ℕ) (c_small : c < 65536) (left_small : left < 65536)
-    (x : List ℕ) (room : text_size ≤ length x) where
-  pub two_room : length (line word (decimal c ∷ decimal left ∷ [])) ≤ length x
-  two_room = omega (arith, words_fit word c left short (omega arith) (omega arith))
-
-  pub two_written : {end : ℕ} {y : List ℕ} → (end ≡ length (line word (decimal c ∷ decimal left ∷ [])))
-      × (y ≡ sets x 0 (line word (decimal c ∷ decimal left ∷ []))) → Written (line word (decimal c ∷ decimal left ∷ [])) x end y
-  two_written p = (p.0, p.1 ∙ put_front (line word (decimal c ∷ decimal left ∷ [])) x two_room)
-
--- a line of a word and one number: the word, the number and the end
-module _ (word : List ℕ) (short : length word ≤ word_room) (n : ℕ) (small : n < 65536) (x : List ℕ) (room : text_size ≤ length x) where
-  abbrev whole : List ℕ
-  whole = line word (decimal n ∷ [])
-
-  parts : whole ≡ word ++ (field (decimal n) ++ (10 ∷ []))
-  unfolding flat_map
-  parts = line_parts word (decimal n) []
-
-  fits : length whole ≤ length x
-  fits =
-      omega (
-        arith,
-        ap length parts,
-        length-append word (field (decimal n) ++ (10 ∷ [])),
-        length-append (field (decimal n)) (10 ∷ []),
-        field_length 4 n (omega arith),
-      )
-
-  rest₀ : Rest 0 whole x 0 (word ++ (field (decimal n) ++ (10 ∷ []))) x
-  rest₀ = rest_all 0 whole x (omega (arith, fits)) _ parts
-
-  module _ {w : ℕ} {y₁ : List ℕ} (p₁ : Put 0 word x w y₁) where
-    rest₁ : Rest 0 whole x w (field (decimal n) ++ (10 ∷ [])) y₁
-    rest₁ = rest_next word _ rest₀ p₁
-
-    pub number_room : w + length (field (decimal n)) ≤ length y₁
-    number_room = rest_room (field (decimal n)) _ rest₁
-
-    module _ {e : ℕ} {y₂ : List ℕ} (p₂ : Put w (field (decimal n)) y₁ e y₂) where
-      rest₂ : Rest 0 whole x e (10 ∷ []) y₂
-      rest₂ = rest_next (field (decimal n)) _ rest₁ p₂
-
-      pub end_room : e < length y₂
-      end_room = omega (arith, rest₂.room)
-
-      pub word_put : {end : ℕ} {y : List ℕ} → Put e (10 ∷ []) y₂ end y → Written whole x end y
-      word_put p₃ = front_put whole x fits _ _ (rest₂.puts _ _ p₃)
+-- it has room
+pub word_fits : (word : List ℕ) → length word ≤ word_room → (n : ℕ) → n < 65536 → length (line word (decimal n ∷ [])) ≤ text_size
+word_fits word short n small = omega (arith, word_length word n, field_length 4 n (omega arith))
 
 -- ---- an observation
 
@@ -101,19 +57,19 @@ module _ (l : List ℕ) (n : ℕ) (e : n ≡ number_below side_limit l) where
   pub digits_fit : length (decimal n) ≤ 2
   digits_fit = decimal_length 1 n (omega (arith, below_lt side_limit l (omega arith)))
 
-  module _ (end : ℕ) (y : List ℕ) (p : Put 0 (decimal n) (0 ∷ 0 ∷ []) end y) where
-    pub digits_within : end ≤ length y
-    digits_within = omega (arith, p.0, digits_fit, ap length p.1, length-sets (0 ∷ 0 ∷ []) 0 (decimal n))
+  module _ {w v : Writer} (front : w.at ≡ 0) (room : w.text.now ≡ 0 ∷ 0 ∷ []) (p : Puts w v (decimal n)) where
+    pub digits_within : v.at ≤ length v.text.now
+    digits_within = omega (arith, front, p.at, p.long, digits_fit, ap length room)
 
-    digits_are : take end y ≡ decimal n
+    digits_are : take v.at v.text.now ≡ decimal n
     digits_are =
-        let f = front_put (decimal n) (0 ∷ 0 ∷ []) digits_fit end y p in
-        ap (take end) f.1 ∙ take_at (decimal n) _ end (sym f.0)
+        let f = puts_front front (omega (arith, digits_fit, ap length room)) p in
+        ap (take v.at) f.1 ∙ take_at (decimal n) _ v.at (sym f.0)
 
-    pub same_digits : same_bytes l (take end y) ≡ true → n ≡ observation_in l
+    pub same_digits : same_bytes l (take v.at v.text.now) ≡ true → n ≡ observation_in l
     same_digits h = number_same (ap (same_bytes l) (sym digits_are) ∙ h)
 
-    pub other_digits : same_bytes l (take end y) ≡ false → side_limit ≡ observation_in l
+    pub other_digits : same_bytes l (take v.at v.text.now) ≡ false → side_limit ≡ observation_in l
     other_digits h = number_other (ap (same_bytes l) (sym digits_are) ∙ h)
 
 pub observed_iff : (l : List ℕ) (n : ℕ) → n < side_limit → (observation_in l ≡ n) ↔ (l ≡ decimal n)

@@ -1,11 +1,12 @@
 // What is typed and what is written: observations and answers as lines of text.
 ghost use Rattle.std.specs.Prelude.{◌≡◌, [], ◌∷◌, ◌≤◌, length};
+ghost use Rattle.basics.specs.Bytes.{bytes_of};
 ghost use Rattle.basics.specs.Lists.{written};
 ghost use Rattle.basics.specs.Text.{decimal, line};
 ghost use Rattle.printer.specs.Limits.{text_size};
 ghost use Rattle.control.specs.Dialogue.{word_room, answer_text, observation_in};
 
-use basics::{LINE_END, number_below, put_byte, put_bytes, put_decimal, put_field, put_line, same};
+use basics::{LINE_END, Writer, number_below, same};
 use cabinet::Answer;
 use lines::Refusal;
 use printer::put_refusal;
@@ -18,9 +19,22 @@ fn put_word(text: &mut [u8], word: &[u8], n: u16) -> usize
     ensures value { result ≡ length (line word.now (decimal n ∷ [])) }
     ensures text_after { text.new ≡ written (line word.now (decimal n ∷ [])) text.old }
 {
-    let end = put_bytes(text, 0, word);
-    let number = put_field(text, end, n as usize);
-    put_byte(text, number, LINE_END)
+    let mut out = Writer { text, at: 0 };
+    out.bytes(word);
+    out.field(n as usize);
+    out.byte(LINE_END);
+    out.at
+}
+
+// Puts the line of a choice, and answers its length.
+fn put_choice(text: &mut [u8], c: u16, left: u16) -> usize
+    requires { text_size ≤ length text.old }
+    ensures value { result ≡ length (line (bytes_of "choice") (decimal c ∷ decimal left ∷ [])) }
+    ensures text_after { text.new ≡ written (line (bytes_of "choice") (decimal c ∷ decimal left ∷ [])) text.old }
+{
+    let mut out = Writer { text, at: 0 };
+    out.line(b"choice", c as usize, left as usize);
+    out.at
 }
 
 // Puts the line of an answer, with the steps left at most, and answers its length.
@@ -30,7 +44,7 @@ pub(crate) fn put_answer(text: &mut [u8], a: Result<Answer, Refusal>, left: u16)
     ensures text_after { text.new ≡ written (answer_text a left) text.old }
 {
     match a {
-        Ok(Answer::Choice(c)) => put_line(text, b"choice", c as usize, left as usize),
+        Ok(Answer::Choice(c)) => put_choice(text, c, left),
         Ok(Answer::Stop) => put_word(text, b"stop", left),
         Ok(Answer::Ready) => put_word(text, b"ready", left),
         Err(r) => put_refusal(text, r),
@@ -44,8 +58,13 @@ pub(crate) fn observation_in(line: &[u8]) -> usize
 {
     let n = number_below(line, SIDE_LIMIT);
     let mut digits = [0u8; 2];
-    let end = put_decimal(&mut digits, 0, n);
-    if same(line, &digits[..end]) {
+    let mut out = Writer {
+        text: &mut digits,
+        at: 0,
+    };
+    out.decimal(n);
+    let end = out.at;
+    if same(line, &out.text[..end]) {
         return n;
     }
     SIDE_LIMIT

@@ -55,7 +55,7 @@ observed_le o (suc k) l =
     cond_elim (λ n. n ≤ suc k) (ltb 0 (length (field_at (2 + shown_count o (2 ^ suc k)) l))) (suc k) (observed_in o k l) (λ e. omega arith)
     (λ e. omega (arith, observed_le o k l))
 
-pub rows_some : (l : List ℕ) → (0 < rows_in l) × (rows_in l ≤ belief_limit)
+rows_some : (l : List ℕ) → (0 < rows_in l) × (rows_in l ≤ belief_limit)
 unfolding rows_in
 rows_some l =
     let n = number_below (suc belief_limit) (field_at 1 l) in
@@ -65,6 +65,9 @@ rows_some l =
 
 pub rows_few : (l : List ℕ) → rows_in l ≤ belief_limit
 rows_few l = (rows_some l).1
+
+-- the limits of the shape
+pub ruleset shape_laws = (observed_le, rows_few)
 
 -- a row that goes on, from its line
 module _ (n rows : ℕ) (some : 0 < rows) (l : List ℕ) where

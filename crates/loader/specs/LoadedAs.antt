@@ -3,7 +3,8 @@
 use Rattle.tables.specs.Outcome.{table_with}
 use Rattle.tables.specs.declared.shape.Table.{Table}
 use Rattle.lines.specs.declared.refusal.Refusal.{Refusal}
-use Rattle.std.specs.Prelude.{ℕ, zero, suc, ◌+◌, ◌*◌, ◌≤◌, ◌<◌, ◌≡◌, Bool, cond, not, List, [], ◌∷◌, ◌++◌, eqb, ltb, length, take, Err, Result, Ok, Option, Some, None}
+use Rattle.std.specs.Prelude.{ℕ, zero, suc, ◌+◌, ◌*◌, ◌≤◌, ◌<◌, ◌≡◌, Bool, cond, not, List, [], ◌∷◌, ◌++◌, eqb, ltb}
+use Rattle.std.specs.Prelude.{length, take, Err, Result, Ok, Option, Some, None}
 use Rattle.basics.specs.Bounded.{all, first_that}
 use Rattle.basics.specs.Bytes.{not_line_end}
 use Rattle.basics.specs.Lists.{written}

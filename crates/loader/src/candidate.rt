@@ -177,7 +177,7 @@ fn first_move(text: &[u8], rows: usize) -> usize
 }
 
 // The row count and the order, and the number of observed signals by the first row that goes on.
-#[tactic(auto, using(crate::proofs::CandidatePrint::observed_le, crate::proofs::CandidatePrint::rows_few), unfolding(crate::specs::Candidate::shape_in))]
+#[tactic(auto, using(crate::proofs::CandidatePrint::shape_laws), unfolding(crate::specs::Candidate::shape_in))]
 pub(crate) fn shape_in(text: &[u8]) -> ToldShape
     ensures { result.shape ≡ shape_in text.now }
 {

@@ -1,5 +1,5 @@
 // The first line at fault: where a text differs from the print of its table, and then where a rank is not as it must be.
-ghost use Rattle.std.specs.Prelude.{◌≡◌};
+ghost use Rattle.std.specs.Prelude.{◌<◌, ◌≡◌};
 ghost use Rattle.printer.specs.Text.{table_text};
 ghost use Rattle.wellformed.specs.WellFormed.{Shaped};
 ghost use Rattle.loader.specs.Difference.{difference};
@@ -25,7 +25,8 @@ fn row_fault(table: &SizedTable) -> Option<usize>
 // Line 1 where the worst case is not the rank of row 0, else that line.
 #[tactic(auto, unfolding(crate::specs::LoadedAs::rank_fault))]
 fn rank_fault(table: &SizedTable, worst: usize) -> Option<usize>
-    requires { Leading table.now.cells.now table.now.shape }
+    requires some { 0 < table.now.shape.rows }
+    requires leading { Leading table.now.cells.now table.now.shape }
     ensures { result ≡ rank_fault table.now.cells.now table.now.shape worst }
 {
     let rank = table.rank(0) as usize;

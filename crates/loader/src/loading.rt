@@ -6,7 +6,7 @@ ghost use Rattle.loader.specs.LoadedAs.{loaded_by, table_after, told_loaded, use
 use crate::candidate::{shape_in, worst_in};
 use crate::faults::fault_in;
 use lines::Refusal;
-use tables::{Shape, TABLE_SIZE, Table, row_size};
+use tables::{TABLE_SIZE, Table, row_size};
 
 // Copies cells to the front of a table.
 fn copy(cells: &[u16], table: &mut [u16])

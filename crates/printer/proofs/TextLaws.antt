@@ -21,8 +21,7 @@ use Rattle.printer.specs.Limits.{text_size}
 use Rattle.wellformed.specs.WellFormed.{IsFirst, FormedRow, Shaped}
 use Rattle.basics.specs.Text.{decimal, field, line}
 use Rattle.printer.specs.Text.{shown_from, shown_count, shown_fields, row_fields, row_text, rows_text, table_word, table_text}
-use Rattle.basics.proofs.Stores.{Put, Rest, Parts}
-use Rattle.basics.proofs.TextLaws.{turn, flat_length, line_parts, field_length, two_length}
+use Rattle.basics.proofs.TextLaws.{flat_length, line_parts, field_length, two_length}
 use Rattle.wellformed.proofs.WellFormedLaws.{side_le, stops, moves}
 
 -- ---- what a row does, by its first cell
@@ -46,34 +45,22 @@ pub shown_inside : (o : Order) (n i : ℕ) → n ≤ side_limit → i < shown_co
 shown_inside Set n i h l = omega arith
 shown_inside Read n i h l = omega arith
 
--- a loop that puts them comes to cell i
-pub shown_turn : (o : Order) (t : List ℕ) (row n at : ℕ) (text : List ℕ) → at + length (flat_map field (shown_fields o t row n)) ≤ length text
-    → (count : ℕ) → count ≡ shown_count o n → (i : ℕ) → i < count → (from x : ℕ) → from ≡ shown_from o → x ≡ cell o t row (from + i)
-    → {last : ℕ} {y : List ℕ} → Put at (flat_map field (tabulate i (shown o t row))) text last y
-    → Rest at (flat_map field (tabulate (i + 1) (shown o t row))) text last (field (decimal x)) y
-shown_turn o t row n at text room count g i l from x f e p =
-    rw (e, f) (turn field (shown o t row) at (shown_count o n) text room i (rw (← g) l) p)
-
 -- ---- lines in the order of their parts
 
--- the two numbers in front of what a row does
-abbrev numbers : List ℕ → Shape → ℕ → List ℕ
-numbers t shape row = field (decimal row) ++ field (decimal (rank_cell shape.order t row))
-
-row_parts : (t : List ℕ) (shape : Shape) (row : ℕ)
-    → row_text t shape row ≡ bytes_of "row" ++ (numbers t shape row ++ (flat_map field (row_fields t shape row) ++ (10 ∷ [])))
+pub row_parts : (t : List ℕ) (shape : Shape) (row rank : ℕ) → rank ≡ rank_cell shape.order t row
+    → row_text t shape row ≡ bytes_of "row" ++ (field (decimal row) ++ (field (decimal rank) ++ (flat_map field (row_fields t shape row) ++ (10 ∷ []))))
 unfolding flat_map
-row_parts t shape row =
-    let rank : List ℕ = field (decimal (rank_cell shape.order t row)) in
-    let rest : List ℕ = flat_map field (row_fields t shape row) in
+row_parts t shape row rank e =
+    rw e (
     line_parts (bytes_of "row") (decimal row) (decimal (rank_cell shape.order t row) ∷ row_fields t shape row)
-    ∙ ap (λ l. bytes_of "row" ++ (field (decimal row) ++ l)) (append_assoc rank rest (10 ∷ []))
-    ∙ ap (λ l. bytes_of "row" ++ l) (sym (append_assoc (field (decimal row)) rank (rest ++ (10 ∷ []))))
+    ∙ ap (λ l. bytes_of "row" ++ (field (decimal row) ++ l))
+    (append_assoc (field (decimal (rank_cell shape.order t row))) (flat_map field (row_fields t shape row)) (10 ∷ []))
+    )
 
-pub row_puts : (t : List ℕ) (shape : Shape) (row at : ℕ) (x : List ℕ) → at + length (row_text t shape row) ≤ length x
-    → (rank : ℕ) → rank ≡ rank_cell shape.order t row
-    → Parts at (row_text t shape row) x (bytes_of "row") (field (decimal row) ++ field (decimal rank)) (flat_map field (row_fields t shape row)) (10 ∷ [])
-row_puts t shape row at x h rank e = rw e (record { room = h; are = row_parts t shape row })
+pub row_size_of : (t : List ℕ) (shape : Shape) (row rank : ℕ) → rank ≡ rank_cell shape.order t row
+    → length (row_text t shape row)
+    ≡ 3 + length (field (decimal row)) + length (field (decimal rank)) + length (flat_map field (row_fields t shape row)) + 1
+row_size_of t shape row rank e = ap length (row_parts t shape row rank e) ∙ simp length-append (omega arith)
 
 -- ---- how long they can be
 
@@ -147,10 +134,7 @@ module _ (t : List ℕ) (shape : Shape) (row : ℕ) (few : shape.rows ≤ belief
   row_length l rank =
       omega (
         arith,
-        ap length (row_parts t shape row),
-        length-append (numbers t shape row) (flat_map field (row_fields t shape row) ++ (10 ∷ [])),
-        length-append (field (decimal row)) (field (decimal (rank_cell shape.order t row))),
-        length-append (flat_map field (row_fields t shape row)) (10 ∷ []),
+        row_size_of t shape row _ refl,
         field_length 2 row (omega arith),
         field_length 4 (rank_cell shape.order t row) (omega arith),
         fields_length,

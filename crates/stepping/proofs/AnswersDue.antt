@@ -23,7 +23,7 @@ use Rattle.stepping.specs.declared.position.Moved.{Moved}
 use Rattle.stepping.specs.Position.{answer_of, start_at, move_from, is_standing, is_holding, start_of, step_of, is_stopped, left_of, told_answer, told_left}
 use Rattle.stepping.specs.Position.{start_choice, step_choice, StartedAs, bad_start, started}
 use Rattle.stepping.specs.Position.{Holds, OnStop, SteppedAs, bad_place, stopped, bad_observation, moved, LeftAs, no_place, shown}
-use Rattle.stepping.proofs.PositionLaws.{standing_says, holding_says}
+use Rattle.stepping.proofs.PositionLaws.{standing_says, holding_says, in_side, next_in}
 
 told_of : (c : ℕ) → told_answer (Ok (answer_of c)) ≡ values (c ∷ [])
 told_of c =
@@ -170,3 +170,9 @@ module _ (t : List ℕ) (shape : Shape) (p : Position) where
 
   pub left_iff : (a : Told) → (told_left (left_of t shape p) ≡ a) ↔ LeftAs t shape p a
   left_iff a = (λ e. subst (LeftAs t shape p) e left_due, left_answered a)
+
+-- ---- what the calls by value are proved by
+
+pub ruleset step_laws = (step_told, step_moves, in_side, next_in)
+
+pub ruleset left_laws = (left_there, left_nowhere)

@@ -38,7 +38,8 @@ module _ (t : List ℕ) (shape : Shape) (p : Position) where
   holding_says = says_and (standing_says t shape p.row) (held_says shape.order t p)
 
   -- what the move for an observation asks, on no stop row
-  module _ (e : is_holding t shape p ≡ true) (n : ¬ (first_cell shape.order t p.row ≡ stop_cell)) (observation : ℕ) (h : observation < 2 ^ shape.observed) where
+  module _ (e : is_holding t shape p ≡ true) (n : ¬ (first_cell shape.order t p.row ≡ stop_cell)) (observation : ℕ)
+      (h : observation < 2 ^ shape.observed) where
     pub in_side : observation < side_limit
     in_side = lt_of_lt_of_le h (side_le shape.observed (holding_says.0 e).0.sized.seen)
 

@@ -78,6 +78,7 @@ fn get_ready(first: u16) -> Moved
 
 // On row 0.
 fn start_at(table: &SizedTable) -> Moved
+    requires { 0 < table.now.shape.rows }
     ensures { result ≡ start_at table.now.shape.order table.now.cells.now }
 {
     let first = table.first(0);
@@ -152,7 +153,7 @@ pub fn is_stopped(table: &[u16], shape: Shape, position: Position) -> bool
 }
 
 // How many steps are left at most, as an operator's panel shows it: the rank of the row where the cabinet stands. Refusal: 13.
-#[tactic(auto, using(crate::proofs::AnswersDue::left_there, crate::proofs::AnswersDue::left_nowhere), unfolding(crate::specs::Position::left_of))]
+#[tactic(auto, using(crate::proofs::AnswersDue::left_laws), unfolding(crate::specs::Position::left_of))]
 pub fn steps_left(table: &[u16], shape: Shape, position: Position) -> Result<u16, Refusal>
     ensures { (result ≡ left_of table.now shape position) × LeftAs table.now shape position (told_left result) }
 {
@@ -175,7 +176,7 @@ pub fn start_from(table: &[u16], shape: Shape, position: Position) -> Moved
 }
 
 // Moves to the next row for an observation. Refusals: 13, 14, 15.
-#[tactic(auto, using(crate::proofs::AnswersDue::step_told, crate::proofs::AnswersDue::step_moves, crate::proofs::PositionLaws::in_side, crate::proofs::PositionLaws::next_in), unfolding(crate::specs::Position::step_of))]
+#[tactic(auto, using(crate::proofs::AnswersDue::step_laws), unfolding(crate::specs::Position::step_of))]
 pub fn step_from(table: &[u16], shape: Shape, observation: usize, position: Position) -> Moved
     ensures { (result ≡ step_of table.now shape observation position)
         × SteppedAs table.now shape observation position (told_answer result.answer) result.position }

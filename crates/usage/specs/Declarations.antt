@@ -1,6 +1,6 @@
 -- The declarations in a problem's lines, and those whose signal is not in use, as they are worked out.
 -- Assumes nothing.
-use Rattle.std.specs.Prelude.{ℕ, suc, Bool, false, not, ◌&&◌, cond, List, [], ◌∷◌, eqb}
+use Rattle.std.specs.Prelude.{ℕ, suc, Bool, false, not, ◌&&◌, cond, List, [], ◌∷◌, Option, Some, None}
 use Rattle.basics.specs.Pieces.{field_at}
 use Rattle.grammar.specs.Names.{Name, index_of}
 use Rattle.lines.specs.declared.problem.Word.{Word}
@@ -49,11 +49,12 @@ module _ (used : ℕ → Bool) (names : List Name) where
   unfoldable pub declares_unused : List ℕ → Bool
   declares_unused bytes = unused_by (word_of (field_at 0 bytes)) (field_at 1 bytes)
 
--- the line of the first of them, 0 where there is none
-abbrev pub first_line : List Declaration → ℕ
-first_line [] = 0
-first_line (d ∷ ds) = d.line
+-- the line of the first of them
+abbrev pub first_line : List Declaration → Option ℕ
+first_line [] = None
+first_line (d ∷ ds) = Some d.line
 
--- the line found so far, 0 for none, or one more line, which may count
-abbrev pub first_of : ℕ → ℕ → Bool → ℕ
-first_of found line counts = cond (counts && eqb found 0) line found
+-- the line found so far, or else one more line, if it counts
+abbrev pub first_of : Option ℕ → ℕ → Bool → Option ℕ
+first_of (Some found) line counts = Some found
+first_of None line counts = cond counts (Some line) None

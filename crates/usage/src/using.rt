@@ -1,9 +1,9 @@
 // The declared signals that are in no part of a formula, line by line.
 ghost use Rattle.std.specs.Prelude.{◌≡◌, ◌&&◌, ◌+◌, ◌≤◌, eqb, length, [], ◌∷◌, ◌++◌};
 ghost use Rattle.std.specs.List.{list_any};
-ghost use Rattle.std.proofs.lemmas.List.Edits.{sets};
 ghost use Rattle.basics.specs.Lists.{written};
 ghost use Rattle.basics.specs.Pieces.{field_at};
+ghost use Rattle.basics.specs.Writer.{Puts};
 ghost use Rattle.formula.specs.Codes.{part_of, parts_in};
 ghost use Rattle.formula.specs.Parts.{is_signal, have_signal};
 ghost use Rattle.grammar.specs.Names.{names_in};
@@ -11,7 +11,7 @@ ghost use Rattle.lines.specs.Lines.{lines};
 ghost use Rattle.usage.specs.Used.{names_text};
 ghost use Rattle.usage.specs.Declarations.{declares_unused, unused_from, first_line, first_of};
 
-use basics::{Class, LINE_END, behind, field, piece, put_byte, put_bytes};
+use basics::{Class, LINE_END, Writer, behind, field, piece};
 use formula::{Op, part_of};
 use grammar::{BITS, Names, lookup};
 use lines::{Word, word_of};
@@ -44,18 +44,22 @@ fn declares_unused(names: &Names<'_>, parts: &[u32], line: &[u8]) -> bool
 }
 
 // The present line, if it counts and none was found before; else what was found.
-fn first_of(found: usize, line: usize, counts: bool) -> usize
+fn first_of(found: Option<usize>, line: usize, counts: bool) -> Option<usize>
     ensures { result ≡ first_of found line counts }
 {
-    if counts && found == 0 { line } else { found }
+    if counts && found.is_none() {
+        Some(line)
+    } else {
+        found
+    }
 }
 
-// The line of the first declared signal that is in none of the parts, 0 where there is none.
-pub fn first_unused(source: &[u8], names: &Names<'_>, parts: &[u32]) -> usize
+// The line of the first declared signal that is in none of the parts.
+pub fn first_unused(source: &[u8], names: &Names<'_>, parts: &[u32]) -> Option<usize>
     ensures { result ≡ first_line (unused_from (have_signal (parts_in parts.now)) (names_in names.now) 1
         (lines source.now)) }
 {
-    let mut found = 0;
+    let mut found = None;
     let mut at = 0;
     let mut line = 1;
     while at < source.len() {
@@ -67,14 +71,13 @@ pub fn first_unused(source: &[u8], names: &Names<'_>, parts: &[u32]) -> usize
     found
 }
 
-// Puts the name that a line declares, with a line's end, and answers the place behind it.
-fn put_name(text: &mut [u8], at: usize, line: &[u8]) -> usize
-    requires { at + length (field_at 1 line.now ++ (10 ∷ [])) ≤ length text.old }
-    ensures value { result ≡ at + length (field_at 1 line.now ++ (10 ∷ [])) }
-    ensures text_after { text.new ≡ sets text.old at (field_at 1 line.now ++ (10 ∷ [])) }
+// Puts the name that a line declares, with a line's end.
+fn put_name(out: &mut Writer<'_>, line: &[u8])
+    requires { out.old.at + length (field_at 1 line.now ++ (10 ∷ [])) ≤ length out.old.text.now }
+    ensures { Puts out.old out.new (field_at 1 line.now ++ (10 ∷ [])) }
 {
-    let end = put_bytes(text, at, field(line, 1));
-    put_byte(text, end, LINE_END)
+    out.bytes(field(line, 1));
+    out.byte(LINE_END);
 }
 
 // Puts the names of the declared signals that are in none of the parts at the front of a text, in declared order, each with a line's end, and
@@ -86,14 +89,14 @@ pub fn put_unused(source: &[u8], names: &Names<'_>, parts: &[u32], text: &mut [u
     ensures text_after { text.new ≡ written (names_text (unused_from (have_signal (parts_in parts.now))
         (names_in names.now) 1 (lines source.now))) text.old }
 {
-    let mut end = 0;
+    let mut out = Writer { text, at: 0 };
     let mut at = 0;
     while at < source.len() {
         let line = piece(source, at, Class::Line);
         if declares_unused(names, parts, line) {
-            end = put_name(text, end, line);
+            put_name(&mut out, line);
         }
         at = behind(source, at, Class::Line);
     }
-    end
+    out.at
 }

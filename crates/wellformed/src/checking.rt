@@ -1,5 +1,6 @@
 // What a table must be: the tests of number 13.
-ghost use Rattle.std.specs.Prelude.{◌≡◌, ◌^◌, ◌<◌, ◌≤◌, false, length, MatchOption};
+ghost use Rattle.std.specs.Prelude.{◌≡◌, ◌*◌, ◌^◌, ◌<◌, ◌≤◌, false, length, MatchOption};
+ghost use Rattle.basics.specs.Limits.{kind_limit};
 ghost use Rattle.play.specs.Limits.{side_limit};
 ghost use Rattle.play.specs.Cells.{row_size, cell, first_cell, choice_cell, next_cell, rank_cell};
 ghost use Rattle.basics.specs.Bounded.{all};
@@ -38,18 +39,19 @@ fn is_first(order: Order, c: u16) -> bool
     (c < first_limit(order)) | (c == STOP)
 }
 
-// A table whose sizes are within their limits, so that its cells have room for its rows.
+// A table whose cells have room for its rows, and whose observed signals are few enough.
 #[derive(Clone, Copy)]
 pub struct SizedTable<'a> {
     pub cells: &'a [u16],
     pub shape: Shape,
-    pub ghost sized: { Sized (length cells.now) shape },
+    pub ghost room: { shape.rows * row_size shape.order ≤ length cells.now },
+    pub ghost seen: { shape.observed ≤ kind_limit },
 }
 
 impl<'a> SizedTable<'a> {
     // The table of these cells, where they have the sizes of the shape.
     pub fn new(cells: &'a [u16], shape: Shape) -> Option<Self>
-        ensures { MatchOption result (is_sized (length cells.now) shape ≡ false) (λ t. (t.cells.now ≡ cells.now) × (t.shape ≡ shape)) }
+        ensures { MatchOption result (is_sized (length cells.now) shape ≡ false) (λ t. (t.cells.now ≡ cells.now) × (t.shape ≡ shape) × Sized (length cells.now) shape) }
     {
         if is_sized(cells.len(), shape) {
             Some(SizedTable { cells, shape })
@@ -257,6 +259,7 @@ impl<'a> SizedTable<'a> {
 
     // Whether the table can be printed.
     pub fn is_printable(&self, worst: usize) -> bool
+        requires { Sized (length self.now.cells.now) self.now.shape }
         ensures { result ≡ is_printable self.now.cells.now self.now.shape worst }
     {
         self.rank(0) as usize == worst && self.are_rows()

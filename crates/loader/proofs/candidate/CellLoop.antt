@@ -27,5 +27,5 @@ module _ (shape : Shape) (line cells₀ : List ℕ) (row size : ℕ) (is_size : 
 
     pub cells_all : i ≡ size → w ≡ sets cells₀ (row * row_size shape.order) cells
     cells_all e =
-        (paste_all cells₀ (row * size) cells i ends (e ∙ is_size ∙ sym (row_length shape line)) w so_far).1
+        paste_all cells₀ (row * size) cells i ends (e ∙ is_size ∙ sym (row_length shape line)) w so_far
         ∙ ap (λ k. sets cells₀ (row * k) cells) is_size

@@ -2,7 +2,7 @@
 -- Assumes nothing.
 use Prim.Native.Nat.{ℕ, suc, ◌+◌, ◌*◌, ◌≤◌, ◌<◌}
 use native.Mathlib.Omega.{arith}
-use mathlib.Core.Path.{◌≡◌, refl, sym, ap, subst, ◌∙◌}
+use mathlib.Core.Path.{◌≡◌, refl, sym, ap, ap₂, subst, ◌∙◌}
 use mathlib.Core.Bool.{Bool, true, not}
 use mathlib.Core.List.{List, flat_map}
 use lib.ListN.{length, drop}
@@ -13,8 +13,8 @@ use Rattle.basics.specs.Lists.{below, written}
 use Rattle.basics.specs.Pieces.{piece, behind, behind_all, line_at}
 use Rattle.basics.proofs.BoundedLaws.{first_found}
 use Rattle.basics.proofs.PiecesLaws.{behind_more}
-use Rattle.basics.proofs.Stores.{Put, put_front}
-use Rattle.basics.proofs.TextLaws.{turn}
+use Rattle.basics.proofs.Stores.{sets_append, put_front}
+use Rattle.basics.proofs.TextLaws.{flat_more}
 use Rattle.play.specs.Cells.{row_size}
 use Rattle.tables.specs.declared.shape.Shape.{Shape}
 use Rattle.loader.specs.Candidate.{says_stop, row_in, goes_on, cells_in}
@@ -67,16 +67,16 @@ module _ (shape : Shape) (text : List ℕ) where
     unfolding cells_to flat_map
     rows_none = refl
 
-    module _ (room : shape.rows * row_size shape.order ≤ length cells₀) (i : ℕ) (cells : List ℕ) (so_far : RowsTo i cells) where
-      pub rows_more : i < shape.rows → (l after : List ℕ) → l ≡ line_at (suc i) text → after ≡ sets cells (i * row_size shape.order) (row_in shape l)
-          → RowsTo (i + 1) after
-      unfolding cells_to
-      rows_more h l after is e =
-          let p : Put 0 (cells_to i) cells₀ (i * row_size shape.order) cells = (omega (arith, cells_length i), so_far) in
-          let r = turn row_of (λ k. k) 0 shape.rows cells₀ (omega (arith, cells_length shape.rows)) i h p in
-          let same = e ∙ ap (λ x. sets cells (i * row_size shape.order) (row_in shape x)) is in
-          (r.puts (i * row_size shape.order + length (row_of i)) after (refl, same)).1
+    pub rows_more : (i : ℕ) (cells : List ℕ) → RowsTo i cells → (l after : List ℕ) → l ≡ line_at (suc i) text
+        → after ≡ sets cells (i * row_size shape.order) (row_in shape l) → RowsTo (i + 1) after
+    unfolding cells_to
+    rows_more i cells so_far l after is e =
+        let place : i * row_size shape.order ≡ 0 + length (cells_to i) = omega (arith, cells_length i) in
+        e ∙ ap (λ x. sets cells (i * row_size shape.order) (row_in shape x)) is
+        ∙ ap₂ (λ x k. sets x k (row_of i)) so_far place
+        ∙ sym (sets_append cells₀ 0 (cells_to i) (row_of i)) ∙ ap (sets cells₀ 0) (sym (flat_more row_of i (λ k. k)))
 
+    module _ (room : shape.rows * row_size shape.order ≤ length cells₀) (i : ℕ) (cells : List ℕ) (so_far : RowsTo i cells) where
       pub rows_all_lem : i ≡ shape.rows → cells ≡ written (cells_in shape text) cells₀
       unfolding cells_to cells_in
       rows_all_lem e =

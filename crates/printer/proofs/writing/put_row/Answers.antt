@@ -1,42 +1,36 @@
--- `printer::writing::put_row` meets its contract: the word, the two numbers, the moves and the end (places w, n, m) are its four parts.
+-- `printer::writing::put_row` meets its contract: the word, the two numbers, the moves and the end are its parts.
 -- Assumes nothing.
 use native.Mathlib.Omega.{arith}
-use Rattle.basics.proofs.Stores.{room_2, room_3, room_4, put_4}
-use Rattle.printer.proofs.TextLaws.{row_puts}
+use Rattle.basics.proofs.WriterLaws.{puts_then, puts_as}
+use Rattle.printer.proofs.TextLaws.{row_parts, row_size_of}
 use Rattle.printer.proofs.writing.put_row.Goals as goal
 
-pub put_fields-numbers-requires : goal.put_fields-numbers-requires
-put_fields-numbers-requires c =
-    let t = c.args.table.now in
-    let parts = row_puts t.cells.now t.shape c.args.row c.args.at c.args.text.now c.requires.row_in_bounds _ c.rank-rank.ensures in
-    room_2 parts (c.put_bytes-word.ensures.value, c.put_bytes-word.ensures.text_after)
+pub bytes-requires : goal.bytes-requires
+bytes-requires c =
+    let size = row_size_of c.args.table.now.cells.now c.args.table.now.shape c.args.row _ c.rank-rank.ensures in
+    omega (arith, size)
 
-pub put_moves-moves-requires : goal.put_moves-moves-requires
-put_moves-moves-requires c =
-    let t = c.args.table.now in
-    let parts = row_puts t.cells.now t.shape c.args.row c.args.at c.args.text.now c.requires.row_in_bounds _ c.rank-rank.ensures in
-    record {
-      row_lt_rows = c.requires.row_lt_rows;
-      row_in_bounds = room_3 parts (c.put_bytes-word.ensures.value, c.put_bytes-word.ensures.text_after)
-          (c.put_fields-numbers.ensures.value, c.put_fields-numbers.ensures.text_after);
-    }
+pub field-requires : goal.field-requires
+field-requires c =
+    let size = row_size_of c.args.table.now.cells.now c.args.table.now.shape c.args.row _ c.rank-rank.ensures in
+    omega (arith, size)
 
-pub put_byte-requires : goal.put_byte-requires
-put_byte-requires c =
-    let t = c.args.table.now in
-    let parts = row_puts t.cells.now t.shape c.args.row c.args.at c.args.text.now c.requires.row_in_bounds _ c.rank-rank.ensures in
-    omega (
-      arith,
-      room_4 parts (c.put_bytes-word.ensures.value, c.put_bytes-word.ensures.text_after)
-          (c.put_fields-numbers.ensures.value, c.put_fields-numbers.ensures.text_after)
-          (c.put_moves-moves.ensures.value, c.put_moves-moves.ensures.text_after),
-    )
+pub field-requires-2 : goal.field-requires-2
+field-requires-2 c =
+    let size = row_size_of c.args.table.now.cells.now c.args.table.now.shape c.args.row _ c.rank-rank.ensures in
+    omega (arith, size)
+
+pub put_moves-requires-clause-row_in_bounds : goal.put_moves-requires-clause-row_in_bounds
+put_moves-requires-clause-row_in_bounds c =
+    let size = row_size_of c.args.table.now.cells.now c.args.table.now.shape c.args.row _ c.rank-rank.ensures in
+    omega (arith, size)
+
+pub byte-requires : goal.byte-requires
+byte-requires c =
+    let size = row_size_of c.args.table.now.cells.now c.args.table.now.shape c.args.row _ c.rank-rank.ensures in
+    omega (arith, size)
 
 pub returns : goal.returns
 returns c =
-    let t = c.args.table.now in
-    let parts = row_puts t.cells.now t.shape c.args.row c.args.at c.args.text.now c.requires.row_in_bounds _ c.rank-rank.ensures in
-    let whole = put_4 parts (c.put_bytes-word.ensures.value, c.put_bytes-word.ensures.text_after)
-    (c.put_fields-numbers.ensures.value, c.put_fields-numbers.ensures.text_after)
-    (c.put_moves-moves.ensures.value, c.put_moves-moves.ensures.text_after) (c.put_byte.ensures.value, c.put_byte.ensures.text_after) in
-    record { value = whole.0; text_after = whole.1 }
+    puts_as (row_parts c.args.table.now.cells.now c.args.table.now.shape c.args.row _ c.rank-rank.ensures)
+    (puts_then c.bytes.ensures (puts_then c.field.ensures (puts_then c.field-2.ensures (puts_then c.put_moves.ensures c.byte.ensures))))

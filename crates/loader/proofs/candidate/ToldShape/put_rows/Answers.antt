@@ -12,8 +12,7 @@ loop-row-preserved c =
     let line = row_line c.args.text.now c.loop-row.at c.loop-row.row c.loop-row.invariant.0 _ c.piece.ensures in (
       row_next c.args.text.now c.loop-row.at c.loop-row.row c.loop-row.invariant.0 _ (c.behind-at-in-loop-row.ensures.upper_bound, c.behind-at-in-loop-row.ensures.text_value),
       c.put_row.auto.cells ∙ c.loop-row.invariant.1,
-      rows_more c.args.self.now.shape c.args.text.now c.args.cells.now c.requires c.loop-row.row c.loop-row.cells c.loop-row.invariant.2 c.loop-row-test.true _ _
-          line c.put_row.ensures,
+      rows_more c.args.self.now.shape c.args.text.now c.args.cells.now c.loop-row.row c.loop-row.cells c.loop-row.invariant.2 _ _ line c.put_row.ensures,
     )
 
 pub returns : goal.returns

@@ -6,8 +6,8 @@ use Rattle.wellformed.proofs.checking.SizedTable.is_printable.Goals as goal
 
 pub returns-then-rank-worst : goal.returns-then-rank-worst
 returns-then-rank-worst c =
-    c.are_rows.ensures ∙ printable_rows _ _ _ c.args.self.now.sized (sym c.rank.ensures ∙ c.if-rank-worst.true)
+    c.are_rows.ensures ∙ printable_rows _ _ _ c.requires (sym c.rank.ensures ∙ c.if-rank-worst.true)
 
 pub returns-else-rank-worst : goal.returns-else-rank-worst
 returns-else-rank-worst c =
-    printable_not _ _ _ c.args.self.now.sized _ c.rank.ensures c.if-rank-worst.false
+    printable_not _ _ _ c.requires _ c.rank.ensures c.if-rank-worst.false

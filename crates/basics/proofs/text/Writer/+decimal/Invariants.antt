@@ -1,0 +1,4 @@
+use Rattle.basics.proofs.text.Writer.+decimal.Given as goal
+
+abbrev pub decreases-decimal : goal.decreases-decimal
+decreases-decimal l = l.n
