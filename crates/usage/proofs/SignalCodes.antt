@@ -9,7 +9,7 @@ use Rattle.formula.specs.Codes.{part_of, parts_in}
 use Rattle.formula.specs.Parts.{is_signal, have_signal}
 
 -- whether one of these numbers is that of signal b
-pub used_any : (codes : List ℕ) (b : ℕ) → have_signal (parts_in codes) b ≡ list_any (λ code. is_signal (part_of code).kind && eqb (part_of code).left b) codes
+pub used : (codes : List ℕ) (b : ℕ) → have_signal (parts_in codes) b ≡ list_any (λ code. is_signal (part_of code).kind && eqb (part_of code).left b) codes
 unfolding have_signal parts_in
-used_any [] b = refl
-used_any (n ∷ codes) b = ap (λ t. (is_signal (part_of n).kind && eqb (part_of n).left b) || t) (used_any codes b)
+used [] b = refl
+used (n ∷ codes) b = ap (λ t. (is_signal (part_of n).kind && eqb (part_of n).left b) || t) (used codes b)

@@ -1,6 +1,6 @@
 -- The declarations in a problem's lines, and those whose signal is not in use, as they are worked out.
 -- Assumes nothing.
-use Rattle.std.specs.Prelude.{ℕ, suc, Bool, false, not, ◌&&◌, cond, List, [], ◌∷◌, Option, Some, None}
+use Rattle.std.specs.Prelude.{ℕ, suc, Bool, false, not, cond, List, [], ◌∷◌, Option, Some, None}
 use Rattle.basics.specs.Pieces.{field_at}
 use Rattle.grammar.specs.Names.{Name, index_of}
 use Rattle.lines.specs.declared.problem.Word.{Word}

@@ -32,7 +32,7 @@ fn is_used(parts: &[u32], b: usize) -> bool
 }
 
 // Whether a line declares a signal that is in none of the parts.
-#[tactic(auto, using(crate::proofs::SignalCodes::used_any, grammar::proofs::NamesLaws::or_bits), unfolding(crate::specs::Declarations::declares_unused))]
+#[tactic(auto, using(crate::proofs::SignalCodes::used, grammar::proofs::NamesLaws::or_bits), unfolding(crate::specs::Declarations::declares_unused))]
 fn declares_unused(names: &Names<'_>, parts: &[u32], line: &[u8]) -> bool
     ensures { result ≡ declares_unused (have_signal (parts_in parts.now)) (names_in names.now)
         line.now }
