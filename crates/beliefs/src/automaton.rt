@@ -4,17 +4,18 @@ ghost use Rattle.search.specs.Limits.{state_limit, letter_limit, set_size};
 ghost use Rattle.play.specs.Limits.{pair_limit};
 ghost use Rattle.beliefs.specs.BeliefMemory.{Successors, successor_in};
 
-use search::{LETTER_LIMIT, STATE_LIMIT};
+use search::LETTER_LIMIT;
 
 // The numbers below `states` are states, closed under letters. A letter is a pair of a choice and an observation, with a hidden value:
 // number q + h * pairs is pair q with hidden value h.
 #[derive(Clone, Copy)]
 pub struct Automaton<'a> {
     pub sets: &'a [u8],
-    pub successors: &'a [u8; STATE_LIMIT * LETTER_LIMIT],
+    pub successors: &'a [u8],
     pub states: usize,
     pub pairs: usize,
     pub hiddens: usize,
+    ghost successors_len: { length successors.now ≡ state_limit * letter_limit },
     ghost sets_long: { states * set_size ≤ length sets.now },
     ghost some: { 0 < states },
     ghost few: { states ≤ state_limit },

@@ -146,7 +146,7 @@ fn visit_belief(
 // too many beliefs both may hold anything.
 fn count_beliefs(
     automaton: &Automaton,
-    moves: &mut [u8; BELIEF_LIMIT * PAIR_LIMIT],
+    moves: &mut [u8],
     finals: &mut [u8; BELIEF_LIMIT],
 ) -> Option<usize>
     requires { moves.old ≡ replicate (belief_limit * pair_limit) 0 }
@@ -174,12 +174,9 @@ fn count_beliefs(
 
 // All beliefs over the automaton's states that count, by number: for each the row of the beliefs that pairs lead to, into memory that
 // is all zero, and whether it is final. The row of a final one stays zero. After too many beliefs nothing but the answer.
-pub fn explore_beliefs(
-    automaton: &Automaton,
-    moves: &mut [u8; BELIEF_LIMIT * PAIR_LIMIT],
-    finals: &mut [u8; BELIEF_LIMIT],
-) -> Option<usize>
-    requires { moves.old ≡ replicate (belief_limit * pair_limit) 0 }
+pub fn explore_beliefs(automaton: &Automaton, moves: &mut [u8], finals: &mut [u8]) -> Option<usize>
+    requires moves_value { moves.old ≡ replicate (belief_limit * pair_limit) 0 }
+    requires belief_limit_in_bounds { belief_limit ≤ length finals.old }
     ensures value { result ≡ explored_of (counted_beliefs automaton.now.sets.now automaton.now.successors.now
         automaton.now.states automaton.now.pairs automaton.now.hiddens belief_limit) }
     ensures moves_after { moves.new ≡ padded (belief_limit * pair_limit)

@@ -93,7 +93,8 @@ fn solve_parts(
         sets,
         successors: &successors,
         states,
-        pairs: 1 << (sizes.outputs + sizes.observed),
+        // A product: from one shift LLVM makes a shift for each hidden value in `beliefs`, from a product an addition.
+        pairs: (1 << sizes.outputs) * (1 << sizes.observed),
         hiddens: 1 << sizes.hidden,
     };
     solve_states(sizes, &automaton, table)

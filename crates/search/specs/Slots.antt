@@ -32,6 +32,10 @@ pub record HoldsItems (w len : ℕ) (pack : List Bool → List ℕ) (mem : List 
 unfoldable pub with_item : ℕ → List ℕ → ℕ → List ℕ → List ℕ
 with_item w mem n bytes = take (n * w) mem ++ bytes ++ drop (n * w + w) mem
 
+-- the first k bytes from a on and from b on agree
+unfoldable pub same_run : List ℕ → ℕ → ℕ → ℕ → Bool
+same_run mem a b k = agree (λ y. get_or mem (a + y) 0) (λ y. get_or mem (b + y) 0) k
+
 -- two places hold the same bytes
 unfoldable pub same_slot : ℕ → List ℕ → ℕ → ℕ → Bool
 same_slot w mem n i = agree (λ y. get_or mem (i * w + y) 0) (λ y. get_or mem (n * w + y) 0) w

@@ -21,7 +21,7 @@ fn half_of(d: usize) -> usize
     requires { d ≤ operator_limit }
     ensures { result ≡ half_of d }
 {
-    1 << d.saturating_sub(3)
+    if d < 3 { 1 } else { 1 << (d - 3) }
 }
 
 // Makes the set that letter a leads to from set i, by the map at place a, and answers the first place that holds it. No set is

@@ -4,10 +4,10 @@ ghost use Rattle.basics.specs.Limits.{operator_limit};
 ghost use Rattle.basics.specs.Bounded.{first_that};
 ghost use Rattle.search.specs.Limits.{set_size};
 ghost use Rattle.search.specs.PatternSet.{start};
-ghost use Rattle.search.specs.Slots.{same_slot};
+ghost use Rattle.search.specs.Slots.{same_run, same_slot};
 ghost use Rattle.search.specs.Memory.{packed, start_byte, spread, next_byte, repeated, next_bytes};
 
-use crate::sizes::PATTERNS;
+use crate::sizes::{PATTERNS, RUN};
 use basics::{first_that, from_bits};
 
 // Byte i of the start set over d operators.
@@ -72,13 +72,34 @@ pub(crate) fn put_next(present: &[bool; PATTERNS], entries: &[u8], h: usize, pla
     repeat(h, place);
 }
 
+// Whether the k bytes from a on and from b on agree.
+#[inline(always)]
+fn same_run(mem: &[u8], a: usize, b: usize, k: usize) -> bool
+    requires k_in_bounds { a + k ≤ length mem.now }
+    requires k_in_bounds_2 { b + k ≤ length mem.now }
+    ensures { result ≡ same_run mem.now a b k }
+{
+    for y in 0..k {
+        if mem[a + y] != mem[b + y] {
+            return false;
+        }
+    }
+    true
+}
+
 // Whether places i and n, of w bytes each, hold the same bytes.
 pub fn same_slot(mem: &[u8], w: usize, n: usize, i: usize) -> bool
     requires w_in_bounds { n * w + w ≤ length mem.now }
     requires w_in_bounds_2 { i * w + w ≤ length mem.now }
     ensures { result ≡ same_slot w mem.now n i }
 {
-    mem[i * w..i * w + w] == mem[n * w..n * w + w]
+    for r in 0..w / RUN {
+        if !same_run(mem, i * w + r * RUN, n * w + r * RUN, RUN) {
+            return false;
+        }
+    }
+    let y = w / RUN * RUN;
+    same_run(mem, i * w + y, n * w + y, w - y)
 }
 
 // The first place with the bytes of place n.

@@ -15,3 +15,6 @@ pub const SET: usize = PATTERNS / 8;
 
 // Entries of a letter's map: one for each pattern of the operators alone.
 pub const MAP: usize = 1 << OPERATOR_LIMIT;
+
+// Bytes of places that are compared at a time: a loop of a fixed length is unrolled, whatever the width.
+pub(crate) const RUN: usize = 8;

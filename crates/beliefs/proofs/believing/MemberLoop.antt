@@ -55,12 +55,17 @@ module _ (n : ℕ) (members : List ℕ) (count : ℕ) (g : Members n members cou
   front_length : length (take count members) ≡ count
   front_length = length-take-le count members g.fits
 
-  pub members_front : Members n (take count members) (length (take count members))
-  members_front =
-      rw front_length (record {
-        fits = omega (arith, front_length);
-        small = λ i h. subst (λ x. x < n) (sym (get_or-take count members i 0 h)) (g.small i h);
+  -- the members of any shorter front are states too
+  pub members_within : (m : ℕ) → m ≤ count → Members n (take m members) (length (take m members))
+  members_within m few =
+      let size : length (take m members) ≡ m = length-take-le m members (omega (arith, few, g.fits)) in
+      rw size (record {
+        fits = omega (arith, size);
+        small = λ i h. subst (λ x. x < n) (sym (get_or-take m members i 0 h)) (g.small i (omega arith));
       })
+
+  pub members_front : Members n (take count members) (length (take count members))
+  members_front = members_within count (omega arith)
 
   pub belief_front : belief_of n (take count members) (length (take count members)) ≡ belief_of n members count
   unfolding belief_of

@@ -2,9 +2,11 @@
 -- Assumes nothing.
 use Rattle.std.specs.Prelude.{None, Some}
 use Prim.Native.Nat.{ℕ, ◌≤◌}
+use native.Mathlib.Omega.{arith}
 use mathlib.Core.Path.{◌≡◌, sym, ap, subst}
 use mathlib.Core.List.{List}
-use lib.ListN.{length}
+use lib.ListN.{length, take}
+use lib.Seq.{length-take-le}
 use Rattle.basics.specs.Lists.{written}
 use Rattle.basics.specs.Reach.{Listing, closed}
 use Rattle.search.specs.Slots.{explored_of}
@@ -28,6 +30,10 @@ module _ (sets successors : List ℕ) (n pairs hiddens : ℕ) where
 
     pub explored_few : k ≤ belief_limit
     explored_few = subst (λ m. m ≤ belief_limit) found.2 (beliefs_few sets successors n pairs hiddens belief_limit bs found.1)
+
+    -- so bytes with room for the most begin with k
+    pub explored_front : (bytes : List ℕ) → belief_limit ≤ length bytes → length (take k bytes) ≡ k
+    explored_front bytes room = length-take-le k bytes (omega (arith, explored_few))
 
   -- they are too many
   module _ (many : None ≡ explored_of l) where

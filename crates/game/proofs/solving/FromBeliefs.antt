@@ -56,17 +56,17 @@ widths_pairs choices observations w = mul-le-mul w.few_choices w.few_observation
 
 module _ (s : Sizes) where
   -- how many there are, as the code shifts them
-  abbrev shifted_choices : ℕ
+  abbrev pub shifted_choices : ℕ
   shifted_choices = 1 * 2 ^ s.outputs % 18446744073709551616
 
-  abbrev shifted_observations : ℕ
+  abbrev pub shifted_observations : ℕ
   shifted_observations = 1 * 2 ^ s.observed % 18446744073709551616
 
   module _ (outputs_few : s.outputs ≤ kind_limit) (observed_few : s.observed ≤ kind_limit) where
-    choices_are : shifted_choices ≡ 2 ^ s.outputs
+    pub choices_are : shifted_choices ≡ 2 ^ s.outputs
     choices_are = shl_one s.outputs (omega arith)
 
-    observations_are : shifted_observations ≡ 2 ^ s.observed
+    pub observations_are : shifted_observations ≡ 2 ^ s.observed
     observations_are = shl_one s.observed (omega arith)
 
     pub shifted_widths : Widths shifted_choices shifted_observations

@@ -6,7 +6,7 @@ use Rattle.std.specs.Prelude.{Err, None, Result, Some}
 use Prim.Native.Nat.{ℕ, ◌+◌, ◌*◌, ◌%◌, ◌^◌, ◌≤◌, ◌<◌}
 use native.Mathlib.Nat.{mul-le-mul, pow-le-pow_right}
 use native.Mathlib.Omega.{arith}
-use mathlib.Core.Path.{◌≡◌, sym, ap, ◌∙◌, subst}
+use mathlib.Core.Path.{◌≡◌, sym, ap, ap₂, ◌∙◌, subst}
 use mathlib.Core.List.{List}
 use lib.Dec.{lit<}
 use lib.Pow.{pow_pos, pow-add}
@@ -44,7 +44,7 @@ use Rattle.game.proofs.LetterNumbers.{letter_count_lem}
 use Rattle.basics.proofs.ReachLaws.{closed_begins}
 use Rattle.game.proofs.SameBeliefs.{memory_same}
 use Rattle.beliefs.proofs.ListedBeliefs.{counted_some, counted_over}
-use Rattle.game.proofs.solving.FromBeliefs.{Answered}
+use Rattle.game.proofs.solving.FromBeliefs.{Answered, shifted_choices, shifted_observations, choices_are, observations_are}
 use Rattle.game.proofs.ExploredAutomaton.{explored_successors, explored_tables}
 
 module _ (codes : List ℕ) (s : Sizes) where
@@ -65,20 +65,20 @@ module _ (codes : List ℕ) (s : Sizes) where
 
   -- how many pairs and hidden values there are, as the code shifts them
   abbrev pairs : ℕ
-  pairs = 1 * 2 ^ (s.outputs + s.observed) % 18446744073709551616
+  pairs = shifted_choices s * shifted_observations s
 
   abbrev hiddens : ℕ
   hiddens = 1 * 2 ^ s.hidden % 18446744073709551616
 
   module _ (sized : Sized codes s) where
+    sides_are : pairs ≡ 2 ^ s.outputs * 2 ^ s.observed
+    sides_are = ap₂ (λ x y. x * y) (choices_are s sized.outputs_few sized.observed_few) (observations_are s sized.outputs_few sized.observed_few)
+
     pub pairs_are : pairs ≡ 2 ^ (s.outputs + s.observed)
-    pairs_are = shl_one (s.outputs + s.observed) (omega (arith, sized.outputs_few, sized.observed_few))
+    pairs_are = sides_are ∙ sym (pow-add 2 s.outputs s.observed)
 
     hiddens_are : hiddens ≡ 2 ^ s.hidden
     hiddens_are = shl_one s.hidden (omega (arith, sized.hidden_few))
-
-    sides_are : pairs ≡ 2 ^ s.outputs * 2 ^ s.observed
-    sides_are = pairs_are ∙ pow-add 2 s.outputs s.observed
 
     pub pairs_few : pairs ≤ pair_limit
     pairs_few =

@@ -4,16 +4,22 @@ use Prim.Native.Nat.{ℕ, ◌+◌, ◌-◌, ◌*◌, ◌/◌, ◌%◌, ◌^◌, 
 use native.Mathlib.Nat.{mod-lt, mod-eq_of_lt, mod-eq-sub-mod}
 use native.Mathlib.Omega.{arith}
 use mathlib.Core.Path.{◌≡◌, refl, sym, ap, ◌∙◌}
-use mathlib.Core.Bool.{Bool}
+use mathlib.Core.Logic.{inl, inr}
+use mathlib.Core.Bool.{Bool, true, false}
 use mathlib.Core.List.{List, ◌++◌}
 use lib.Bits.{bit_and}
-use lib.Dec.{eqb}
+use lib.Dec.{eqb, ltb}
 use lib.ListN.{length, get_or, drop, set, take-append-drop}
+use borrow.Author.Tests.{ltb-true, ltb-false}
 use Rattle.basics.specs.Bits.{bit}
 use Rattle.basics.specs.Lists.{tabulate}
+use Rattle.basics.specs.Bounded.{agree}
+use Rattle.search.specs.Slots.{same_run, same_slot}
 use Rattle.search.specs.Memory.{spread, next_byte, repeated, next_bytes}
 use Rattle.basics.proofs.BitsLaws.{bit_test}
 use Rattle.basics.proofs.ListsLaws.{tabulate_ext, table_take, get_d_table}
+use Rattle.basics.proofs.BoundedLaws.{agree_none, agree_more, agree_fails, agree_at, agree_all}
+use Rattle.basics.proofs.Booleans.{test, clash}
 use Rattle.basics.proofs.Filling.{table_more, table_all, filled}
 
 -- ---- `put_spread`
@@ -71,3 +77,57 @@ pub next_done : (present : List Bool) (entries : List ℕ) (h b : ℕ) (w d : Li
     → w ≡ tabulate b (next_byte present entries) ++ drop b d → repeated h w ≡ next_bytes (length d) present entries h
 next_done present entries h b w d p q l e =
     next_bytes_lem present entries h w (drop h d) p (filled b h (next_byte present entries) d w q e) ∙ ap (λ n. next_bytes n present entries h) l
+
+-- ---- `same_run`
+
+module _ (mem : List ℕ) (a b : ℕ) where
+  pub run_none : same_run mem a b 0 ≡ true
+  unfolding same_run
+  run_none = agree_none _ _
+
+  pub run_more : (y : ℕ) → same_run mem a b y ≡ true → get_or mem (a + y) 0 ≡ get_or mem (b + y) 0 → same_run mem a b (y + 1) ≡ true
+  unfolding same_run
+  run_more y p e = agree_more _ _ y p e
+
+  pub run_fails : (k y : ℕ) → y < k → (get_or mem (a + y) 0 ≡ get_or mem (b + y) 0 → ⊥) → same_run mem a b k ≡ false
+  unfolding same_run
+  run_fails k y h ne = agree_fails _ _ k y h ne
+
+  pub run_done : (k y : ℕ) → y ≡ k → same_run mem a b y ≡ true → same_run mem a b k ≡ true
+  run_done k y q p = sym (ap (same_run mem a b) q) ∙ p
+
+-- ---- `same_slot`
+
+module _ (w : ℕ) (mem : List ℕ) (n i y : ℕ) where
+  -- k bytes more
+  pub slot_more : (k : ℕ) → same_run mem (i * w) (n * w) y ≡ true → same_run mem (i * w + y) (n * w + y) k ≡ true
+      → same_run mem (i * w) (n * w) (y + k) ≡ true
+  unfolding same_run
+  slot_more k p q = agree_all _ _ (y + k) (λ j h. at j h (ltb j y) refl)
+    where
+      at : (j : ℕ) → j < y + k → (b : Bool) → ltb j y ≡ b → get_or mem (i * w + j) 0 ≡ get_or mem (n * w + j) 0
+      at j h true l = agree_at _ _ y j p (ltb-true j y l)
+      at j h false l =
+          let past : y ≤ j = ltb-false j y l in
+          let at_i : i * w + y + (j - y) ≡ i * w + j = omega arith in
+          let at_n : n * w + y + (j - y) ≡ n * w + j = omega arith in
+          sym (ap (λ m. get_or mem m 0) at_i) ∙ agree_at _ _ k (j - y) q (omega arith) ∙ ap (λ m. get_or mem m 0) at_n
+
+  pub slot_fails : (k : ℕ) → y + k ≤ w → same_run mem (i * w + y) (n * w + y) k ≡ false → same_slot w mem n i ≡ false
+  unfolding same_run same_slot
+  slot_fails k h e = elim (test (same_slot w mem n i)) [ inl t ↦ clash (part t) e | inr f ↦ f ]
+    where
+      part : agree (λ j. get_or mem (i * w + j) 0) (λ j. get_or mem (n * w + j) 0) w ≡ true
+          → agree (λ j. get_or mem (i * w + y + j) 0) (λ j. get_or mem (n * w + y + j) 0) k ≡ true
+      part t =
+          agree_all _ _ k (λ j l. let at_i : i * w + y + j ≡ i * w + (y + j) = omega arith in
+          let at_n : n * w + y + j ≡ n * w + (y + j) = omega arith in
+          ap (λ m. get_or mem m 0) at_i ∙ agree_at _ _ w (y + j) t (omega arith) ∙ sym (ap (λ m. get_or mem m 0) at_n))
+
+  -- the bytes that are left
+  pub slot_rest : (k : ℕ) → y + k ≡ w → same_run mem (i * w) (n * w) y ≡ true → same_run mem (i * w + y) (n * w + y) k ≡ same_slot w mem n i
+  unfolding same_run same_slot
+  slot_rest k q p = elim (test (same_run mem (i * w + y) (n * w + y) k)) [
+    | inl t ↦ t ∙ sym (ap (same_run mem (i * w) (n * w)) (sym q) ∙ slot_more k p t)
+    | inr f ↦ f ∙ sym (slot_fails k (omega arith) f)
+  ]

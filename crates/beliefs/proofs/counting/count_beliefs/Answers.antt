@@ -4,6 +4,7 @@ use native.Mathlib.Omega.{arith}
 use mathlib.Core.Path.{refl, sym, ◌∙◌}
 use lib.ListN.{take, drop}
 use borrow.Rule.Slice.PartMut.{same_len_mid}
+use Rattle.basics.proofs.ListsLaws.{zeros_length}
 use Rattle.search.proofs.SearchTurns.{turn_next, turn_row}
 use Rattle.play.specs.Limits.{belief_limit, pair_limit}
 use Rattle.beliefs.specs.BeliefMemory.{belief_size, belief_in, pairs_from}
@@ -17,7 +18,7 @@ pub loop-i-init : goal.loop-i-init
 loop-i-init c =
     let a = c.args.automaton.now in (
       omega arith,
-      omega arith,
+      zeros_length _ (belief_limit * pair_limit) c.requires,
       turn_first a.sets.now a.successors.now a.states a.pairs a.hiddens ((belief_limit + 1) * belief_size) c.args.moves.now a.some a.few (omega arith)
           c.requires,
       distinct_one a.states _,

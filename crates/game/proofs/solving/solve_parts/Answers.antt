@@ -4,7 +4,7 @@ use mathlib.Core.Path.{sym, ◌∙◌}
 use native.Mathlib.Omega.{arith}
 use Rattle.lines.specs.declared.refusal.Refusal.TheVariants.{TooManyStates}
 use Rattle.basics.proofs.HandedOn.{there_is, there_is_none}
-use Rattle.game.proofs.solving.FromStates.{solved_many, pairs_few, letters_fit, states_successors, states_few, states_some, solved_some}
+use Rattle.game.proofs.solving.FromStates.{solved_many, pairs_are, pairs_few, letters_fit, states_successors, states_few, states_some, solved_some}
 use Rattle.game.proofs.solving.solve_parts.Goals as goal
 
 pub invariant_of-automaton : goal.invariant_of-automaton
@@ -17,6 +17,7 @@ invariant_of-automaton c =
     let few = states_few c.args.parts.now s sized _ _ found.new.mem found.new.successors found.ensures.mem_after found.ensures.successors_after
     c.in_ok-states.states count in
     record {
+      successors_len = found.auto.successors;
       sets_long = omega (arith, few, found.auto.mem, c.requires.sets_len);
       some = states_some c.args.parts.now s sized _ _ found.new.mem found.new.successors found.ensures.mem_after found.ensures.successors_after
           c.in_ok-states.states count;
@@ -26,6 +27,10 @@ invariant_of-automaton c =
       closed = states_successors c.args.parts.now s sized _ _ found.new.mem found.new.successors found.ensures.mem_after found.ensures.successors_after
           c.in_ok-states.states count;
     }
+
+pub solve_states-requires-clause-pairs : goal.solve_states-requires-clause-pairs
+solve_states-requires-clause-pairs c =
+    pairs_are c.args.parts.now c.args.sizes c.requires.sized
 
 pub returns : goal.returns
 returns c =

@@ -21,7 +21,7 @@ invariant_of-arena c =
     c.in_ok-count.count _ _ _ (record { count = count; rows_are = found.ensures.moves_after; marked = found.ensures.finals_after }) in
     record {
       positions = counted_positions _ _ _ _ _ _ (shifted_widths c.args.sizes few c.requires.observed_few) c.in_ok-count.count _ _ _ explored
-          found.array_long found.array_long2;
+          found.auto.moves found.auto.finals;
     }
 
 pub returns : goal.returns
