@@ -2,8 +2,9 @@
 -- Assumes nothing.
 use Rattle.tables.specs.declared.shape.Table.{Table}
 use Rattle.lines.specs.declared.refusal.Refusal.{Refusal}
-use Rattle.std.specs.Prelude.{Err, Result, Option}
+use Rattle.std.specs.Prelude.{Err, Result, Option, Some, None}
 use Prim.Native.Nat.{ℕ, ◌*◌, ◌≤◌, ◌<◌}
+use native.Mathlib.Nat.{le_refl}
 use native.Mathlib.Omega.{arith}
 use mathlib.Core.Path.{◌≡◌, refl, sym, ap, subst, ◌∙◌}
 use mathlib.Core.List.{List}
@@ -21,7 +22,7 @@ use Rattle.wellformed.specs.WellFormed.{Shaped}
 use Rattle.tables.specs.declared.shape.Shape.{Shape}
 use Rattle.loader.specs.Candidate.{shape_in, worst_in, cells_in, print_in}
 use Rattle.loader.specs.Difference.{difference}
-use Rattle.loader.specs.LoadedAs.{first_fault, fault_in, loaded_at, cells_at, loaded_by, cells_by, table_after, told_loaded, used_rows, LoadedAs}
+use Rattle.loader.specs.LoadedAs.{first_fault, fault_in, loaded_at, cells_at, count_at, loaded_by, cells_by, table_after, told_loaded, used_rows, LoadedAs}
 use Rattle.loader.proofs.CandidateLaws.{cells_length}
 use Rattle.loader.proofs.CandidatePrint.{candidate_shaped}
 use Rattle.loader.proofs.LoadedIffDue.{load_told}
@@ -75,6 +76,22 @@ module _ (s : List ℕ) {shape : Shape} (is_shape : shape ≡ shape_in s) where
     pub cells_long : size ≡ length (take size cells)
     cells_long = taken_length (cells_in shape s) memory cells size size_is are_cells
 
+    -- so many of them are copied, and these are the cells that are to be written
+    module _ (place : Option ℕ) {n : ℕ} (is_count : n ≡ count_at place size) where
+      pub count_le : n ≤ size
+      count_le = subst (λ k. k ≤ size) (sym is_count) (at place)
+        where
+          at : (p : Option ℕ) → count_at p size ≤ size
+          at None = le_refl _
+          at (Some line) = omega arith
+
+      copied : take n cells ≡ cells_at place (cells_in shape s)
+      copied = ap (λ k. take k cells) is_count ∙ at place
+        where
+          at : (p : Option ℕ) → take (count_at p size) cells ≡ cells_at p (cells_in shape s)
+          at None = cells_taken
+          at (Some line) = refl
+
     module _ {worst : ℕ} (is_worst : worst ≡ worst_in shape.rows s) where
       -- what the search for the first fault asks
       pub fault_asks : Shaped (take size cells) shape worst
@@ -90,14 +107,13 @@ module _ (s : List ℕ) {shape : Shape} (is_shape : shape ≡ shape_in s) where
             ∙ ap (λ w. first_fault (difference 1 s (table_text (cells_in shape s) shape w)) (cells_in shape s) shape w) is_worst
             ∙ ap (λ (h : Shape). let w = worst_in h.rows s in first_fault (difference 1 s (table_text (cells_in h s) h w)) (cells_in h s) h w) is_shape)
 
-        pub load_done : (r : Result Table Refusal) → r ≡ loaded_at place shape worst
-            → (after : List ℕ) → after ≡ written (cells_at place (take size cells)) table → Loads s table r after
+        pub load_done : {n : ℕ} → n ≡ count_at place size → (r : Result Table Refusal) → r ≡ loaded_at place shape worst
+            → (after : List ℕ) → after ≡ written (take n cells) table → Loads s table r after
         unfolding loaded_by cells_by
-        load_done r q after e =
+        load_done is_count r q after e =
             let enough = le-ltb (length table) table_size room in
             let answer : loaded_by (length table) s ≡ loaded_at place (shape_in s) (worst_in (shape_in s).rows s) = rw (enough, place_is) refl in
             let due : cells_by (length table) s ≡ cells_at place (cells_in (shape_in s) s) = rw (enough, place_is) refl in
             loads s table r after
             (q ∙ ap (loaded_at place shape) is_worst ∙ ap (λ (h : Shape). loaded_at place h (worst_in h.rows s)) is_shape ∙ sym answer)
-            (e
-            ∙ ap (λ c. written c table) (ap (cells_at place) cells_taken ∙ ap (λ (h : Shape). cells_at place (cells_in h s)) is_shape ∙ sym due))
+            (e ∙ ap (λ c. written c table) (copied place is_count ∙ ap (λ (h : Shape). cells_at place (cells_in h s)) is_shape ∙ sym due))

@@ -55,6 +55,11 @@ abbrev pub cells_at : Option ℕ → List ℕ → List ℕ
 cells_at None cells = cells
 cells_at (Some place) cells = []
 
+-- how many of n cells these are
+abbrev pub count_at : Option ℕ → ℕ → ℕ
+count_at None n = n
+count_at (Some place) n = 0
+
 -- 12 is tested before 17
 unfoldable pub loaded_by : ℕ → List ℕ → Result Table Refusal
 loaded_by room s =

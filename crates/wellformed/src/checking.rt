@@ -13,7 +13,7 @@ use tables::{
 };
 
 // Whether the row count, the cells and the number of observed signals are within their limits.
-fn is_sized(cells: usize, shape: Shape) -> bool
+pub fn is_sized(cells: usize, shape: Shape) -> bool
     ensures { result ≡ is_sized cells shape }
 {
     shape.rows > 0
@@ -257,11 +257,54 @@ impl<'a> SizedTable<'a> {
         true
     }
 
-    // Whether the table can be printed.
+    // Whether the table can be printed; not where its row count breaks the limits.
     pub fn is_printable(&self, worst: usize) -> bool
-        requires { Sized (length self.now.cells.now) self.now.shape }
         ensures { result ≡ is_printable self.now.cells.now self.now.shape worst }
     {
-        self.rank(0) as usize == worst && self.are_rows()
+        is_printable(self.cells, self.shape, worst)
     }
+}
+
+// Whether the cabinet may stand on a row of these cells.
+pub fn is_row(table: &[u16], shape: Shape, row: usize) -> bool
+    requires order_in_bounds { shape.rows * row_size shape.order ≤ length table.now }
+    requires row_lt_rows { row < shape.rows }
+    requires observed_le_kind_limit { shape.observed ≤ kind_limit }
+    ensures { result ≡ is_row table.now shape row }
+{
+    let table = SizedTable {
+        cells: table,
+        shape,
+    };
+    table.is_row(row)
+}
+
+// Whether the rank of a row of these cells fits the row, and each next row ranks lower.
+pub fn is_ranked(table: &[u16], shape: Shape, row: usize) -> bool
+    requires order_in_bounds { shape.rows * row_size shape.order ≤ length table.now }
+    requires row_lt_rows { row < shape.rows }
+    requires observed_le_kind_limit { shape.observed ≤ kind_limit }
+    requires leads { Leads table.now shape row }
+    ensures { result ≡ is_ranked table.now shape row }
+{
+    let table = SizedTable {
+        cells: table,
+        shape,
+    };
+    table.is_ranked(row)
+}
+
+// Whether a table can be printed: it has the sizes of its shape, the worst case is the rank of row 0, and every row can be.
+#[tactic(auto, unfolding(crate::specs::WellFormed::is_printable))]
+pub fn is_printable(table: &[u16], shape: Shape, worst: usize) -> bool
+    ensures { result ≡ is_printable table.now shape worst }
+{
+    if !is_sized(table.len(), shape) {
+        return false;
+    }
+    let table = SizedTable {
+        cells: table,
+        shape,
+    };
+    table.rank(0) as usize == worst && table.are_rows()
 }

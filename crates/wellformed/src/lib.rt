@@ -5,4 +5,4 @@
 
 mod checking;
 
-pub use checking::SizedTable;
+pub use checking::{SizedTable, is_printable, is_ranked, is_row, is_sized};

@@ -1,10 +1,11 @@
 -- `loader::loading::load` meets its contract, by those of the functions that it calls.
 -- Assumes nothing.
 use native.Mathlib.Omega.{arith}
-use mathlib.Core.Path.{refl}
+use mathlib.Core.Path.{sym}
 use lib.ListN.{replicate, length-take}
+use lib.Seq.{length-take-le}
 use Rattle.play.specs.Cells.{table_size}
-use Rattle.loader.proofs.LoadedAsLaws.{load_short, cells_ask, size_few, cells_in_lem, cells_long, fault_asks, load_done}
+use Rattle.loader.proofs.LoadedAsLaws.{load_short, cells_ask, size_few, cells_in_lem, cells_long, fault_asks, count_le, load_done}
 use Rattle.loader.proofs.loading.load.Goals as goal
 
 pub returns-then-table-lt-TABLE_SIZE : goal.returns-then-table-lt-TABLE_SIZE
@@ -28,31 +29,30 @@ pub slice_bounds-fault_in-end : goal.slice_bounds-fault_in-end
 slice_bounds-fault_in-end c =
     cells_long c.args.text.now c.shape_in-told.ensures (replicate table_size 0) c.put_rows.ensures c.row_size.ensures
 
-pub fault_in-requires : goal.fault_in-requires
-fault_in-requires c =
+pub fault_in-fault-requires : goal.fault_in-fault-requires
+fault_in-fault-requires c =
     fault_asks c.args.text.now c.shape_in-told.ensures (replicate table_size 0) c.put_rows.ensures c.row_size.ensures c.worst_in-worst.ensures
 
-pub slice_bounds-cells-end-in-None : goal.slice_bounds-cells-end-in-None
-slice_bounds-cells-end-in-None c =
-    cells_in_lem c.args.text.now c.shape_in-told.ensures (replicate table_size 0) c.put_rows.ensures c.row_size.ensures
+pub slice_bounds-cells-end-2 : goal.slice_bounds-cells-end-2
+slice_bounds-cells-end-2 c =
+    let inside = cells_in_lem c.args.text.now c.shape_in-told.ensures (replicate table_size 0) c.put_rows.ensures c.row_size.ensures in
+    let count = count_le c.args.text.now c.shape_in-told.ensures (replicate table_size 0) c.put_rows.ensures c.row_size.ensures _ c.count_at-used.ensures in
+    omega (arith, inside, count)
 
 pub slice_bounds-copy-end : goal.slice_bounds-copy-end
 slice_bounds-copy-end c =
-    cells_long c.args.text.now c.shape_in-told.ensures (replicate table_size 0) c.put_rows.ensures c.row_size.ensures
+    let inside = cells_in_lem c.args.text.now c.shape_in-told.ensures (replicate table_size 0) c.put_rows.ensures c.row_size.ensures in
+    let count = count_le c.args.text.now c.shape_in-told.ensures (replicate table_size 0) c.put_rows.ensures c.row_size.ensures _ c.count_at-used.ensures in
+    sym (length-take-le _ _ (omega (arith, inside, count)))
 
 pub copy-requires : goal.copy-requires
 copy-requires c =
     let few = size_few c.args.text.now c.shape_in-told.ensures (replicate table_size 0) c.put_rows.ensures c.row_size.ensures in
-    simp length-take (omega (arith, few, c.if-table-lt-TABLE_SIZE.false))
+    let count = count_le c.args.text.now c.shape_in-told.ensures (replicate table_size 0) c.put_rows.ensures c.row_size.ensures _ c.count_at-used.ensures in
+    simp length-take (omega (arith, few, c.if-table-lt-TABLE_SIZE.false, count))
 
-pub returns-in-Some : goal.returns-in-Some
-returns-in-Some c =
+pub returns : goal.returns
+returns c =
     let whole = load_done c.args.text.now c.shape_in-told.ensures (replicate table_size 0) c.put_rows.ensures c.row_size.ensures c.worst_in-worst.ensures
-    c.args.table.now c.if-table-lt-TABLE_SIZE.false c.in-Some.ensures _ refl _ refl in
-    record { answer = whole.0; rows = whole.1.0; due = whole.1.1 }
-
-pub returns-in-None : goal.returns-in-None
-returns-in-None c =
-    let whole = load_done c.args.text.now c.shape_in-told.ensures (replicate table_size 0) c.put_rows.ensures c.row_size.ensures c.worst_in-worst.ensures
-    c.args.table.now c.if-table-lt-TABLE_SIZE.false c.in-None.ensures _ refl _ c.copy.ensures in
+    c.args.table.now c.if-table-lt-TABLE_SIZE.false c.fault_in-fault.ensures c.count_at-used.ensures _ c.answer_at.ensures _ c.copy.ensures in
     record { answer = whole.0; rows = whole.1.0; due = whole.1.1 }
