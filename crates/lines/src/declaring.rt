@@ -1,5 +1,5 @@
 // A line that declares a signal.
-ghost use Rattle.std.specs.Prelude.{◌≡◌, ◌≤◌};
+ghost use Rattle.std.specs.Prelude.{◌≡◌, ◌+◌, ◌≤◌, set, OnOk, OnErr};
 ghost use Rattle.grammar.specs.Names.{names_in};
 ghost use Rattle.basics.specs.Limits.{kind_limit};
 ghost use Rattle.lines.specs.Lines.{is_name};
@@ -63,7 +63,7 @@ fn more_signals(kind: Kind, s: Sizes) -> Sizes
     }
 }
 
-// Line `line` declares the signal called `name`.
+// Line `line` declares the signal called `name`. On a refusal the slices that are lent stay as they were.
 pub fn declare<'a>(
     name: &'a [u8],
     line: usize,
@@ -75,6 +75,8 @@ pub fn declare<'a>(
     ensures value { result ≡ reading_after (declare_effect line kind name.now (signals_in s (names_in names.old))) s }
     ensures names_after { names_in names.new ≡ names_after (declare_effect line kind name.now (signals_in s (names_in names.old))) s
         (names_in names.old) }
+    ensures stored { OnOk result (names.new ≡ set names.old (first_bit kind + count_in kind s) name.entry) }
+    ensures kept { OnErr result (names.new ≡ names.old) }
 {
     if !is_name(name) {
         return Err(Refusal::BadLine(line));

@@ -87,7 +87,7 @@ more_few names Output s f h = let n = eqb-false s.outputs kind_limit (or_left (e
 more_few names Observed s f h = let n = eqb-false s.observed kind_limit (or_left (eqb s.observed kind_limit) _ f) in omega (arith, n)
 more_few names Hidden s f h = let n = eqb-false s.hidden kind_limit (or_left (eqb s.hidden kind_limit) _ f) in omega (arith, n)
 
-signals_more : (k : Kind) (name : Name) (s : Sizes) (names : List Name)
+pub signals_more : (k : Kind) (name : Name) (s : Sizes) (names : List Name)
     → signals_in (more_signals k s) (with_name k name (signals_in s names)) ≡ with_signal k name (signals_in s names)
 signals_more Output name s names = refl
 signals_more Observed name s names = refl
@@ -151,7 +151,7 @@ module _ {source p₀ : List ℕ} {at line : ℕ} {s : Sizes} {names : List Name
         declares_going k name i t q =
             let b = declaring line (between source at end) (signals_in s names) s.parts s.operators s.order k name i in
             let kept = g.kept in
-            let few = more_few names k s b (kept.outputs_few, kept.observed_few, kept.hidden_few) in
+            let few = more_few names k s b.room (kept.outputs_few, kept.observed_few, kept.hidden_few) in
             let sizes : more_signals k s ≡ t = same_sizes _ t (sym (ap (λ f. reading_after f s) i) ∙ sym d.reading ∙ q) in
             let here : names' ≡ with_name k name (signals_in s names) = d.names_left ∙ ap (λ f. names_after f s names) i in
             let left : p' ≡ p = d.parts_left ∙ ap (λ f. parts_after f s p) i in

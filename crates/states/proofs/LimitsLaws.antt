@@ -15,6 +15,10 @@ use Rattle.states.specs.Limits.{slot_size, plane_count}
 planes_whole : plane_count * word_size ≡ map_size
 planes_whole = refl
 
+-- an entry of a map is a byte
+pub slot_byte : slot_size ≤ 8
+slot_byte = omega arith
+
 -- the letters are numbered in two bytes
 pub letter_bytes : letter_limit ≤ 2 ^ 16
 letter_bytes = lit≤ tt

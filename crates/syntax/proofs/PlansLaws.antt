@@ -58,23 +58,23 @@ delay_behind zero cs = sym (append-nil cs)
 delay_behind (suc n) cs =
     ap (prefix_cells weak_next_kind) (delay_behind n cs) ∙ append_assoc cs (delay_cells n []) (cell weak_next_kind one_sided ∷ [])
 
-once_length : (cs : List ℕ) → length (once_cells cs) ≡ 7 + 3 * length cs
+pub once_length : (cs : List ℕ) → length (once_cells cs) ≡ 7 + 3 * length cs
 once_length cs = simp length-append (omega arith)
 
-during_length : (first last : ℕ) (cs : List ℕ)
+pub during_length : (first last : ℕ) (cs : List ℕ)
     → length (during_cells first last cs) ≡ first - 1 + (last - first + 1) * length cs + 2 * (last - first)
 during_length first last cs =
     let e = chain_length and_kind weak_next_kind (last - first) cs in
     delay_length (first - 1) (chain_cells and_kind weak_next_kind (last - first) cs) ∙ omega (arith, e)
 
 module _ (cs ds : List ℕ) where
-  before_length : length (before_cells cs ds) ≡ 3 + length cs + length ds
+  pub before_length : length (before_cells cs ds) ≡ 3 + length cs + length ds
   before_length = simp length-append (omega arith)
 
-  after_length : length (after_cells cs ds) ≡ 4 + length cs + length ds
+  pub after_length : length (after_cells cs ds) ≡ 4 + length cs + length ds
   after_length = simp length-append (omega arith)
 
-  within_length : (steps : ℕ) → length (within_cells steps cs ds) ≡ 3 + length cs + (steps + 1) * length ds + 2 * steps
+  pub within_length : (steps : ℕ) → length (within_cells steps cs ds) ≡ 3 + length cs + (steps + 1) * length ds + 2 * steps
   within_length steps = let e = chain_length or_kind next_kind steps ds in simp length-append (omega (arith, e))
 
 pub plan_length : (w : PlanWord) (cs ds : List ℕ) → length (plan_cells w cs ds) ≡ plan_size w (length cs) (length ds)

@@ -8,7 +8,11 @@ use lib.ListN.{get_or}
 use borrow.Author.Rules.{rules}
 use Rattle.basics.proofs.BitsLaws.{bit_test}
 use Rattle.states.specs.Planes.{lane_of}
+use Rattle.states.proofs.LimitsLaws.{slot_byte}
 use Rattle.states.proofs.maps.lane_of.Goals as goal
+
+pub from_bits-requires-clause-few : goal.from_bits-requires-clause-few
+from_bits-requires-clause-few c = slot_byte
 
 pub returns : goal.returns
 unfolding lane_of
