@@ -4,50 +4,55 @@ use cabinet::{Answer, Moved, is_stopped, steps_left};
 use game::{Shape, Table};
 use lines::order_of;
 use rules::{Refusal, Sizes, number, place};
-use streams::{Console, Told};
+use streams::Console;
 
-fn refused(console: Console, r: Refusal) -> Result<(), Told> {
-    console.say_fields(b"\trefused", &[number(r), place(r)])
+// Writes a field with its tab, a number behind that, and more numbers, each as a field.
+fn tell(console: Console, field: &[u8], n: usize, more: &[usize]) {
+    console.say_part(field);
+    let _ = console.say_number(n as u64);
+    console.say_fields(b"", more);
 }
 
-fn order(console: Console, o: Order) -> Result<(), Told> {
+fn refused(console: Console, r: Refusal) {
+    tell(console, b"\trefused\t", number(r), &[place(r)]);
+}
+
+fn order(console: Console, o: Order) {
     match o {
-        Order::Set => console.say(b"\tset"),
-        Order::Read => console.say(b"\tread"),
+        Order::Set => console.say_part(b"\tset"),
+        Order::Read => console.say_part(b"\tread"),
     }
 }
 
 // How many signals of each kind, parts and temporal operators were read, and the order.
-pub(crate) fn reading(console: Console, r: Result<Sizes, Refusal>) -> Result<(), Told> {
+pub(crate) fn reading(console: Console, r: Result<Sizes, Refusal>) {
     match r {
         Ok(s) => {
-            console.say_fields(
-                b"\tread",
-                &[s.outputs, s.observed, s.hidden, s.parts, s.operators],
-            )?;
-            order(console, order_of(s))
+            let more = [s.observed, s.hidden, s.parts, s.operators];
+            tell(console, b"\tread\t", s.outputs, &more);
+            order(console, order_of(s));
         }
         Err(x) => refused(console, x),
     }
 }
 
-pub(crate) fn verdict(console: Console, v: Result<bool, Refusal>) -> Result<(), Told> {
+pub(crate) fn verdict(console: Console, v: Result<bool, Refusal>) {
     match v {
-        Ok(true) => console.say(b"\ttrue"),
-        Ok(false) => console.say(b"\tfalse"),
+        Ok(true) => console.say_part(b"\ttrue"),
+        Ok(false) => console.say_part(b"\tfalse"),
         Err(r) => refused(console, r),
     }
 }
 
 // The first word of a table's text, rows and worst case.
-fn table(console: Console, shape: Shape, worst: usize) -> Result<(), Told> {
+fn table(console: Console, shape: Shape, worst: usize) {
     match shape.order {
-        Order::Set => console.say_fields(b"\ttable", &[shape.rows, worst]),
-        Order::Read => console.say_fields(b"\trtable", &[shape.rows, worst]),
+        Order::Set => tell(console, b"\ttable\t", shape.rows, &[worst]),
+        Order::Read => tell(console, b"\trtable\t", shape.rows, &[worst]),
     }
 }
 
-pub(crate) fn solved(console: Console, s: Result<Table, Refusal>) -> Result<(), Told> {
+pub(crate) fn solved(console: Console, s: Result<Table, Refusal>) {
     match s {
         Ok(t) => table(console, t.shape, t.worst_case),
         Err(r) => refused(console, r),
@@ -55,52 +60,51 @@ pub(crate) fn solved(console: Console, s: Result<Table, Refusal>) -> Result<(), 
 }
 
 // The same with the observed signals.
-pub(crate) fn loaded(console: Console, l: Result<Table, Refusal>) -> Result<(), Told> {
-    solved(console, l)?;
-    match l {
-        Ok(t) => console.say_fields(b"", &[t.shape.observed]),
-        Err(_) => Ok(()),
+pub(crate) fn loaded(console: Console, l: Result<Table, Refusal>) {
+    solved(console, l);
+    if let Ok(t) = l {
+        console.say_fields(b"", &[t.shape.observed]);
     }
 }
 
 // The place of a bad text.
-pub(crate) fn fault(console: Console, l: Result<Table, Refusal>) -> Result<(), Told> {
+pub(crate) fn fault(console: Console, l: Result<Table, Refusal>) {
     match l {
         Err(Refusal::BadText(place)) => console.say_fields(b"", &[place]),
         _ => console.say_wrong(),
     }
 }
 
-pub(crate) fn printed(console: Console, p: Result<usize, Refusal>) -> Result<(), Told> {
+pub(crate) fn printed(console: Console, p: Result<usize, Refusal>) {
     match p {
-        Ok(n) => console.say_fields(b"\ttext", &[n]),
+        Ok(n) => tell(console, b"\ttext\t", n, &[]),
         Err(r) => refused(console, r),
     }
 }
 
-fn choice(console: Console, a: Result<Answer, Refusal>) -> Result<(), Told> {
+fn choice(console: Console, a: Result<Answer, Refusal>) {
     match a {
-        Ok(Answer::Choice(c)) => console.say_fields(b"\tchoice", &[c as usize]),
-        Ok(Answer::Stop) => console.say(b"\tstop"),
-        Ok(Answer::Ready) => console.say(b"\tready"),
+        Ok(Answer::Choice(c)) => tell(console, b"\tchoice\t", c as usize, &[]),
+        Ok(Answer::Stop) => console.say_part(b"\tstop"),
+        Ok(Answer::Ready) => console.say_part(b"\tready"),
         Err(r) => refused(console, r),
     }
 }
 
-fn left(console: Console, l: Result<u16, Refusal>) -> Result<(), Told> {
+fn left(console: Console, l: Result<u16, Refusal>) {
     match l {
-        Ok(n) => console.say_fields(b"\tleft", &[n as usize]),
+        Ok(n) => tell(console, b"\tleft\t", n as usize, &[]),
         Err(r) => refused(console, r),
     }
 }
 
 // The answer and the position behind it, whether the cabinet stands on a stop row there, and how many steps are left.
-pub(crate) fn moved(console: Console, table: &[u16], shape: Shape, m: Moved) -> Result<(), Told> {
-    choice(console, m.answer)?;
-    console.say_fields(b"\trow", &[m.position.row])?;
-    console.say_fields(b"\tchoice", &[m.position.choice as usize])?;
+pub(crate) fn moved(console: Console, table: &[u16], shape: Shape, m: Moved) {
+    choice(console, m.answer);
+    tell(console, b"\trow\t", m.position.row, &[]);
+    tell(console, b"\tchoice\t", m.position.choice as usize, &[]);
     if is_stopped(table, shape, m.position) {
-        console.say(b"\tstopped")?;
+        console.say_part(b"\tstopped");
     }
-    left(console, steps_left(table, shape, m.position))
+    left(console, steps_left(table, shape, m.position));
 }

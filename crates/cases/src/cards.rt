@@ -7,76 +7,69 @@ use crate::memory::{look_at, look_at_work, ones};
 use basics::Order;
 use game::{Shape, TABLE_SIZE, Table};
 use rules::Refusal;
-use streams::{Console, Told, first};
+use streams::{Console, first};
 use tables::{SIDE_LIMIT, STOP, rank_at, row_size};
 
 // What loading a text answers.
 type Loaded = Result<Table, Refusal>;
 
 // Says so where the print of a table is not its text.
-fn look_at_print(console: Console, t: Table, cells: &[u16], text: &[u8]) -> Result<(), Told> {
+fn look_at_print(console: Console, t: Table, cells: &[u16], text: &[u8]) {
     let mut memory = ones();
     let _ = cabinet::print(cells, t.shape, t.worst_case, &mut memory);
-    look_at(console, &memory, text, 1)
+    look_at(console, &memory, text, 1);
 }
 
 // Loads a text, and looks at the table that was lent.
-fn load_in(
-    console: Console,
-    text: &[u8],
-    expected: &[u16],
-    cells: &mut [u16],
-) -> Result<Loaded, Told> {
+fn load_in(console: Console, text: &[u8], expected: &[u16], cells: &mut [u16]) -> Loaded {
     let l = cabinet::load(text, cells);
-    look_at(console, cells, expected, 1)?;
+    look_at(console, cells, expected, 1);
     if let Ok(t) = l {
-        look_at_print(console, t, cells, text)?;
+        look_at_print(console, t, cells, text);
     }
-    Ok(l)
+    l
 }
 
 // The same with a table of all cells.
-fn load_whole(console: Console, text: &[u8], expected: &[u16]) -> Result<Loaded, Told> {
+fn load_whole(console: Console, text: &[u8], expected: &[u16]) -> Loaded {
     let mut cells = [1u16; TABLE_SIZE];
     load_in(console, text, expected, &mut cells)
 }
 
-pub(crate) fn load(case: Case, text: &[u8], expected: &[u16]) -> Result<(), Told> {
+pub(crate) fn load(case: Case, text: &[u8], expected: &[u16]) {
     let mut cells = [1u16; TABLE_SIZE];
-    let n = TABLE_SIZE - case.argument(5)? % TABLE_SIZE;
-    let l = load_in(case.console, text, expected, &mut cells[..n])?;
-    loaded(case.console, l)
+    let n = TABLE_SIZE - case.argument(5) % TABLE_SIZE;
+    let l = load_in(case.console, text, expected, &mut cells[..n]);
+    loaded(case.console, l);
 }
 
 // Loads every proper beginning of a text, and then the text.
-pub(crate) fn prefixes(console: Console, text: &[u8], expected: &[u16]) -> Result<(), Told> {
+pub(crate) fn prefixes(console: Console, text: &[u8], expected: &[u16]) {
     for n in 0..text.len() {
-        fault(console, load_whole(console, &text[..n], &[])?)?;
+        fault(console, load_whole(console, &text[..n], &[]));
     }
-    loaded(console, load_whole(console, text, expected)?)
+    loaded(console, load_whole(console, text, expected));
 }
 
 // Prints a table that has ones behind its rows, and loads its text.
-fn copy(console: Console, cells: &[u16], shape: Shape, worst: usize) -> Result<(), Told> {
+fn copy(console: Console, cells: &[u16], shape: Shape, worst: usize) {
     let mut text = ones();
     let p = cabinet::print(cells, shape, worst, &mut text);
-    printed(console, p)?;
+    printed(console, p);
     if let Ok(n) = p {
-        loaded(console, load_whole(console, first(&text, n), cells)?)?;
+        loaded(console, load_whole(console, first(&text, n), cells));
     }
-    Ok(())
 }
 
 // Copies the table that solves a problem.
-pub(crate) fn card(console: Console, source: &[u8], work: &mut [u8]) -> Result<(), Told> {
+pub(crate) fn card(console: Console, source: &[u8], work: &mut [u8]) {
     let mut cells = [1u16; TABLE_SIZE];
     let s = game::solve(source, work, &mut cells);
-    solved(console, s)?;
-    look_at_work(console, work, false)?;
+    solved(console, s);
+    look_at_work(console, work, false);
     if let Ok(t) = s {
-        copy(console, &cells, t.shape, t.worst_case)?;
+        copy(console, &cells, t.shape, t.worst_case);
     }
-    Ok(())
 }
 
 // Room for one row more than a table may have.
@@ -88,7 +81,7 @@ fn cell_at(row: &[u16], k: usize) -> u16 {
 }
 
 // Copies a table of so many rows, as far as there is room for them. Cell k of row i is `cell(i, k)`.
-fn copy_rows<F: Fn(usize, usize) -> u16>(case: Case, shape: Shape, cell: F) -> Result<(), Told>
+fn copy_rows<F: Fn(usize, usize) -> u16>(case: Case, shape: Shape, cell: F)
     requires { F.IsAlwaysCallable cell }
 {
     let mut cells = [1u16; CELLS];
@@ -98,12 +91,12 @@ fn copy_rows<F: Fn(usize, usize) -> u16>(case: Case, shape: Shape, cell: F) -> R
             cells[i] = cell(i / size, i % size);
         }
     }
-    copy(case.console, &cells, shape, case.argument(6)?)
+    copy(case.console, &cells, shape, case.argument(6));
 }
 
 // Copies a table of equal rows.
-pub(crate) fn fill(case: Case, row: &[u16]) -> Result<(), Told> {
-    copy_rows(case, case.shape_at(5, 7, 8)?, |_, k| cell_at(row, k))
+pub(crate) fn fill(case: Case, row: &[u16]) {
+    copy_rows(case, case.shape_at(5, 7, 8), |_, k| cell_at(row, k));
 }
 
 // Whether cell k of a row is a next row.
@@ -133,7 +126,7 @@ fn rung(row: &[u16], shape: Shape, i: usize, k: usize) -> u16
 }
 
 // Copies a table of rows that lead down to the last. A next row of the row that is given says how many rows further down it is.
-pub(crate) fn ladder(case: Case, row: &[u16]) -> Result<(), Told> {
-    let shape = case.shape_at(5, 7, 8)?;
-    copy_rows(case, shape, move |i, k| rung(row, shape, i, k))
+pub(crate) fn ladder(case: Case, row: &[u16]) {
+    let shape = case.shape_at(5, 7, 8);
+    copy_rows(case, shape, move |i, k| rung(row, shape, i, k));
 }

@@ -18,11 +18,11 @@
 //
 // `line.rt` says how a text, a list of numbers and an order are written, `parts.rt` how parts are. Lent memory holds ones before a call, and
 // all of it is looked at afterwards: the answer has the field `wrong` where it is not as it should be, or where the line is not of this
-// form. A table that was loaded is printed again, which has to give its text. Nothing is written behind what could not be written.
+// form. A table that was loaded is printed again, which has to give its text. The first case whose line's end cannot be written is the last.
 #![tactic(auto)]
 
 use crate::line::Case;
-use streams::{Console, LINES_SIZE, Told, for_each_line};
+use streams::{AnswersLines, Console, LINES_SIZE, Told, for_each_line};
 
 mod answer;
 mod call;
@@ -34,19 +34,32 @@ mod parts;
 // Runs the case of a line.
 fn run_line(console: Console, line: &[u8]) -> Result<(), Told> {
     let case = Case { console, line };
-    console.say(case.field(0))?;
-    call::call(case)?;
+    console.say_part(case.field(0));
+    call::call(case);
     console.say(b"\n")
+}
+
+// The program, which takes each line for a case.
+#[derive(Clone, Copy)]
+struct Cases<'a> {
+    console: Console<'a>,
+}
+
+impl AnswersLines for Cases<'_> {
+    fn answer_line(&self, line: &[u8]) -> Result<(), Told> {
+        run_line(self.console, line)
+    }
 }
 
 fn run(rt: &HostRuntime, console: Console) -> Result<(), Told> {
     let mut buffer = [0u8; LINES_SIZE];
     let lines = streams::read_lines(console, &mut rt.stdin(), &mut buffer)?;
-    for_each_line(lines, |line| run_line(console, line))?;
-    console.close_output()
+    for_each_line(lines, &Cases { console })?;
+    console.close_output();
+    Ok(())
 }
 
 // What failed is told, and the exit status is 0 all the same.
 fn main(rt: HostRuntime) {
-    let _ = run(&rt, Console::new(&rt, "cases"));
+    let _ = run(&rt, Console::new(&rt, b"cases"));
 }

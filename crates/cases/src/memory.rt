@@ -2,7 +2,7 @@
 ghost use Rattle.std.specs.Prelude.{◌≡◌, length};
 
 use rules::WORK_SIZE;
-use streams::{Console, Told};
+use streams::Console;
 
 // Memory to lend.
 pub(crate) fn ones() -> [u8; WORK_SIZE]
@@ -17,16 +17,15 @@ pub(crate) fn look_at<T: Copy + PartialEq>(
     memory: &[T],
     expected: &[T],
     behind: T,
-) -> Result<(), Told> {
+) {
     for (i, &cell) in memory.iter().enumerate() {
         if cell != expected.get(i).copied().unwrap_or(behind) {
             return console.say_wrong();
         }
     }
-    Ok(())
 }
 
 // Work memory is all zero after a call, or untouched where memory was short.
-pub(crate) fn look_at_work(console: Console, work: &[u8], short: bool) -> Result<(), Told> {
-    look_at(console, work, b"", short as u8)
+pub(crate) fn look_at_work(console: Console, work: &[u8], short: bool) {
+    look_at(console, work, b"", short as u8);
 }

@@ -125,14 +125,17 @@ impl Drawing<'_> {
         self.seed = step(self.seed);
     }
 
-    // Puts a token of one byte, where `>` stands for `->`; now and then with a space before it where it is no small letter.
+    // Puts a token of one byte, where `>` stands for `->` and 0 for nothing; now and then with a space before it where it is no small letter.
     fn put_token(&mut self, text: &mut Text, b: u8) {
         if b == b'>' {
             text.append(b"-");
         } else if (b < b'a') & (self.seed >> 50 & 7 == 0) {
             text.append(b" ");
         }
-        self.put(text, &[b]);
+        match b {
+            0 => self.put(text, b""),
+            _ => self.put(text, &[b]),
+        }
     }
 
     // Puts an operator, which is counted if it is temporal.

@@ -73,6 +73,7 @@ fn rank_at(order: Order) -> usize
 // Writes what the row of a belief with a rank does at each observation. Each has a choice, and there are no more rows than beliefs.
 fn put_moves(options: Options, rank: u16, row: usize, rows: &mut Rows, table: &mut Table)
     requires { row < belief_limit }
+    ensures { rows.old.count ≤ rows.new.count }
 {
     let order = options.widths.order;
     for o in 0..options.widths.observations {
@@ -88,6 +89,7 @@ fn put_moves(options: Options, rank: u16, row: usize, rows: &mut Rows, table: &m
 // Writes the row of a belief with a rank.
 fn put_row(options: Options, rank: u16, row: usize, rows: &mut Rows, table: &mut Table)
     requires { row < belief_limit }
+    ensures { rows.old.count ≤ rows.new.count }
 {
     let order = options.widths.order;
     clear_row(order, row, table);
@@ -117,7 +119,9 @@ fn put_rows(moves: &Moves, ranks: &Ranks, widths: Widths, rows: &mut Rows, table
 }
 
 // Writes the table, and answers how many rows it has.
-pub(crate) fn put_table(moves: &Moves, ranks: &Ranks, widths: Widths, table: &mut Table) -> usize {
+pub(crate) fn put_table(moves: &Moves, ranks: &Ranks, widths: Widths, table: &mut Table) -> usize
+    ensures { result ≤ belief_limit }
+{
     let mut rows = Rows {
         items: [0; BELIEF_LIMIT],
         count: 1,

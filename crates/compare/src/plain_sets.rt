@@ -16,6 +16,7 @@ pub(crate) fn explore<const M: usize, const N: usize, F: Fn(&Set, usize) -> Opti
 ) -> Option<()>
     requires few { N ≤ index_limit }
     requires callable { F.IsAlwaysCallable after }
+    ensures { found.old.count ≤ found.new.count }
 {
     let mut i = 0;
     while i < found.count {

@@ -1,8 +1,9 @@
 // How many problems of a kind and an order were drawn, on how many the solvers agree, what kinds of answers these have, and how many of them
 // were asked in two ways.
 use crate::comparing::{Compared, compare, observe};
-use crate::draw::{Kind, draw};
+use crate::draw::draw;
 use crate::draw_formula::{Side, Text};
+use crate::line::kind_of;
 use crate::plain::UNREALIZABLE;
 use basics::Order;
 use std::num::wrapping_add_usize;
@@ -37,13 +38,13 @@ fn count_if(count: &mut usize, is_one: bool) {
 }
 
 impl Counts {
-    // Writes the line of a kind and an order.
+    // Writes the line of a kind and an order. What fails before its end is told.
     pub(crate) fn write(&self, console: Console, kind: &[u8], order: &[u8]) -> Result<(), Told> {
-        console.say(kind)?;
-        console.say_fields(order, &[self.drawn, self.agree, self.tables])?;
-        console.say_fields(b"", &self.refusals)?;
-        console.say_fields(b"", &[self.over_one, self.over_two, self.hidden_matter])?;
-        console.say_fields(b"", &[self.alike, self.order_matters])?;
+        console.say_part(kind);
+        console.say_fields(order, &[self.drawn, self.agree, self.tables]);
+        console.say_fields(b"", &self.refusals);
+        console.say_fields(b"", &[self.over_one, self.over_two, self.hidden_matter]);
+        console.say_fields(b"", &[self.alike, self.order_matters]);
         console.say(b"\n")
     }
 
@@ -85,13 +86,12 @@ fn differ(c: Compared, d: Compared) -> bool {
 }
 
 // Writes a problem, in both ways where they differ.
-fn show(console: Console, text: &[u8], other: &[u8], c: Compared) -> Result<(), Told> {
-    console.say(b"\n")?;
-    console.say(text)?;
+fn show(console: Console, text: &[u8], other: &[u8], c: Compared) {
+    console.say_part(b"\n");
+    console.say_part(text);
     if c.texts_differ {
-        console.say(other)?;
+        console.say_part(other);
     }
-    Ok(())
 }
 
 // Solves a problem by both. If they differ, and have not before on a problem of the kind, it is written.
@@ -101,53 +101,48 @@ fn compare_shown(
     other: &[u8],
     counts: &Counts,
     agreed: bool,
-) -> Result<Compared, Told> {
+) -> Compared {
     let c = compare(text, other);
     if agreed & !c.agrees & (counts.drawn == counts.agree) {
-        show(console, text, other, c)?;
+        show(console, text, other, c);
     }
-    Ok(c)
+    c
 }
 
 // Solves a problem by both, then with its hidden signals observed, counts it, and answers how the first went.
-fn count(
-    console: Console,
-    text: &mut Text,
-    other: &mut Text,
-    counts: &mut Counts,
-) -> Result<Compared, Told> {
-    let c = compare_shown(console, text.as_slice(), other.as_slice(), counts, true)?;
+fn count(console: Console, text: &mut Text, other: &mut Text, counts: &mut Counts) -> Compared {
+    let c = compare_shown(console, text.as_slice(), other.as_slice(), counts, true);
     observe(text);
     observe(other);
-    let d = compare_shown(console, text.as_slice(), other.as_slice(), counts, c.agrees)?;
+    let d = compare_shown(console, text.as_slice(), other.as_slice(), counts, c.agrees);
     counts.add(c, d);
-    Ok(c)
+    c
 }
 
-// Draws a problem of a kind and an order in both ways, and counts it.
+// Draws a problem of a line's kind and an order in both ways, and counts it. The kind is read each time that a text is drawn, so that what is
+// wrong with it is said each time.
 fn draw_one(
     console: Console,
-    kind: Kind,
+    line: &[u8],
     order: Order,
     seed: u64,
     counts: &mut Counts,
-) -> Result<Compared, Told> {
-    let mut text = draw(kind, order, Side::First, seed);
-    let mut other = draw(kind, order, Side::Second, seed);
+) -> Compared {
+    let mut text = draw(kind_of(console, line), order, Side::First, seed);
+    let mut other = draw(kind_of(console, line), order, Side::Second, seed);
     count(console, &mut text, &mut other, counts)
 }
 
-// Draws a problem of a kind under both orders, and counts it.
+// Draws a problem of a line's kind under both orders, and counts it.
 pub(crate) fn draw_both(
     console: Console,
-    kind: Kind,
+    line: &[u8],
     seed: u64,
     set: &mut Counts,
     read: &mut Counts,
-) -> Result<(), Told> {
-    let c = draw_one(console, kind, Order::Set, seed, set)?;
-    let d = draw_one(console, kind, Order::Read, seed, read)?;
+) {
+    let c = draw_one(console, line, Order::Set, seed, set);
+    let d = draw_one(console, line, Order::Read, seed, read);
     count_if(&mut set.order_matters, differ(c, d));
     count_if(&mut read.order_matters, differ(c, d));
-    Ok(())
 }

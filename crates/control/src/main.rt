@@ -36,17 +36,26 @@ fn run_file<F: Files, R: Read>(
     run_text(console, input, card.bytes(&text))
 }
 
+// What is told of an option that there is not.
+const NO_OPTION: &[u8] = b"no such option; see control --help";
+
 // Does what the argument asks for.
 fn run(rt: &HostRuntime, console: Console) -> Result<(), Told> {
     let mut argument = [0u8; 4096];
-    match streams::requested(rt, console, &mut argument)? {
-        Request::Help => console.say_last(help::TEXT),
+    match streams::requested(rt, console, NO_OPTION, &mut argument)? {
+        Request::Help => {
+            console.say_last(help::TEXT);
+            Ok(())
+        }
         Request::File(path) => run_file(rt, console, &mut rt.stdin(), path),
-        Request::Nothing | Request::Many => Err(console.tell_usage(b"arguments", b"one is needed")),
+        Request::Nothing | Request::Many => Err(console.tell(
+            b"arguments",
+            b"one is needed; see control --help",
+        )),
     }
 }
 
 // What failed is told, and the exit status is 0 all the same.
 fn main(rt: HostRuntime) {
-    let _ = run(&rt, Console::new(&rt, "control"));
+    let _ = run(&rt, Console::new(&rt, b"control"));
 }

@@ -10,7 +10,7 @@ use tables::{SIDE_LIMIT, Shape};
 // A table that is run as a controller, and where its answers go.
 #[derive(Clone, Copy)]
 struct Controller<'a> {
-    console: Console,
+    console: Console<'a>,
     table: &'a [u16],
     shape: Shape,
 }
@@ -31,7 +31,8 @@ fn write(console: Console, a: Result<Answer, Refusal>, left: u16) -> Result<(), 
 // Answers that a text is no table. There is no other answer then.
 pub(crate) fn refuse_text(console: Console, r: Refusal) -> Result<(), Told> {
     write(console, Err(r), 0)?;
-    console.close_output()
+    console.close_output();
+    Ok(())
 }
 
 impl Controller<'_> {
@@ -115,7 +116,8 @@ pub(crate) fn run<R: Read>(
     let mut place = controller.start()?;
     for _ in 0..u64::MAX {
         let Some(position) = place else {
-            return console.close_output();
+            console.close_output();
+            return Ok(());
         };
         place = controller.obey_line(input, position)?;
     }

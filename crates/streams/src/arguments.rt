@@ -39,23 +39,28 @@ pub enum Request<'a> {
     Many,
 }
 
-// What an argument asks for. Help is the only option.
-fn request_by(console: Console, argument: &[u8]) -> Result<Request<'_>, Told>
+// What an argument asks for. Help is the only option; `no_option` is told of another.
+fn request_by<'a>(
+    console: Console,
+    no_option: &[u8],
+    argument: &'a [u8],
+) -> Result<Request<'a>, Told>
     ensures { AsksFor argument.now result }
 {
     if is_help(argument) {
         return Ok(Request::Help);
     }
     if is_option(argument) {
-        return Err(console.tell_usage(argument, b"no such option"));
+        return Err(console.tell(argument, no_option));
     }
     Ok(Request::File(argument))
 }
 
-// What a program's arguments ask for; one is put into the buffer.
+// What a program's arguments ask for; one is put into the buffer. `no_option` is told of an option that the program does not have.
 pub fn requested<'a, E: Env>(
     rt: &E,
     console: Console,
+    no_option: &[u8],
     buffer: &'a mut [u8],
 ) -> Result<Request<'a>, Told>
     ensures { NamesFile result }
@@ -64,7 +69,7 @@ pub fn requested<'a, E: Env>(
         return Ok(Request::Many);
     }
     match argument_at(rt, 1, buffer) {
-        Ok(n) => request_by(console, &buffer[..n]),
+        Ok(n) => request_by(console, no_option, &buffer[..n]),
         Err(FillError::NotPresent) => Ok(Request::Nothing),
         Err(FillError::TooLong) => Err(console.tell(b"argument", b"File name too long")),
     }

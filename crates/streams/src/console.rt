@@ -1,14 +1,14 @@
 // Where a program writes its answers and tells its failures.
 use std::alloc::{AllocError, Global};
-use std::io::{Error, Stderr, Stdout, Write};
+use std::io::{Error, ErrorKind, Stderr, Stdout, Write};
 
 // What a program writes to, and its name, which begins what it tells. The allocator holds the text of a failure.
 #[derive(Clone, Copy)]
-pub struct Console {
-    program: &'static str,
-    output: Stdout,
-    errors: Stderr,
-    alloc: Global,
+pub struct Console<'a> {
+    pub program: &'a [u8],
+    pub output: Stdout,
+    pub errors: Stderr,
+    pub alloc: Global,
 }
 
 // A failure that standard error has been told of.
@@ -23,8 +23,16 @@ fn words_of(text: &str) -> &str {
     }
 }
 
-impl Console {
-    pub fn new(rt: &HostRuntime, program: &'static str) -> Console {
+// A write that takes no byte is told by the name of its kind, and not in std's words for a text that was not written whole.
+fn plain(error: Error) -> Error {
+    match error.kind() {
+        ErrorKind::WriteZero => Error::from(ErrorKind::WriteZero),
+        _ => error,
+    }
+}
+
+impl<'a> Console<'a> {
+    pub fn new(rt: &HostRuntime, program: &'a [u8]) -> Self {
         Console {
             program,
             output: rt.stdout(),
@@ -40,7 +48,7 @@ impl Console {
     }
 
     fn start_line(self, what: &[u8]) {
-        self.put(self.program.as_bytes());
+        self.put(self.program);
         self.put(b": ");
         self.put(what);
         self.put(b": ");
@@ -61,7 +69,7 @@ impl Console {
         Told
     }
 
-    // Tells what is wrong with what the program was given.
+    // Tells what is wrong with what the program was given, or with its arguments.
     pub fn tell(self, what: &[u8], why: &[u8]) -> Told {
         self.start_line(what);
         self.put(why);
@@ -69,22 +77,12 @@ impl Console {
         Told
     }
 
-    // Tells what is wrong with the program's arguments, and how to learn what they may be.
-    pub fn tell_usage(self, what: &[u8], why: &[u8]) -> Told {
-        self.start_line(what);
-        self.put(why);
-        self.put(b"; see ");
-        self.put(self.program.as_bytes());
-        self.put(b" --help\n");
-        Told
-    }
-
-    // Writes a text to standard output. A failure is told; a part of the text may have been written.
+    // Writes a text to standard output. A failure is told; a part of the text may have been written. `Print`, which a method call would take,
+    // gives up where signals interrupt it often.
     pub fn say(self, text: &[u8]) -> Result<(), Told> {
         let mut output = self.output;
-        output
-            .write_all(text)
-            .map_err(|error| self.fail(b"standard output", error))
+        let written = Write::write_all(&mut output, text);
+        written.map_err(|error| self.fail(b"standard output", plain(error)))
     }
 
     // Writes a number in base ten, as `say` writes a text.
@@ -94,17 +92,18 @@ impl Console {
         self.say(&digits[..k])
     }
 
-    // Hands on what standard output still holds behind the last text.
-    pub fn close_output(self) -> Result<(), Told> {
+    // Hands on what standard output still holds behind the last text. A failure is told.
+    pub fn close_output(self) {
         let mut output = self.output;
-        output
-            .flush()
-            .map_err(|error| self.fail(b"standard output", error))
+        if let Err(error) = output.flush() {
+            self.fail(b"standard output", error);
+        }
     }
 
     // Writes the last text, as `say` does, and hands on what standard output still holds.
-    pub fn say_last(self, text: &[u8]) -> Result<(), Told> {
-        self.say(text)?;
-        self.close_output()
+    pub fn say_last(self, text: &[u8]) {
+        if self.say(text).is_ok() {
+            self.close_output();
+        }
     }
 }

@@ -1,4 +1,4 @@
--- `cases::line::read_numbers` is safe and ends: no more numbers are kept than there is room for. Assumes nothing.
+-- `cases::line::read_numbers` meets its contract: no more numbers are kept than there is room for. Assumes nothing.
 use Rattle.std.proofs.Common.{◌≤◌, ◌-◌, length}
 use Rattle.cases.proofs.line.read_numbers.Given as goal
 

@@ -1,4 +1,4 @@
--- `cases::line::read_text` is safe and ends: what is written stays within the text. Assumes nothing.
+-- `cases::line::read_text` meets its contract: what is written stays within the text. Assumes nothing.
 use Rattle.std.proofs.Common.{◌≤◌, ◌-◌, length}
 use Rattle.cases.proofs.line.read_text.Given as goal
 
