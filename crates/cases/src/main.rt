@@ -22,7 +22,7 @@
 #![tactic(auto)]
 
 use crate::line::Case;
-use streams::{AnswersLines, Console, LINES_SIZE, Told, for_each_line};
+use streams::{AnswersLines, Console, LINES_SIZE, Told, answer_lines};
 
 mod answer;
 mod call;
@@ -54,7 +54,7 @@ impl AnswersLines for Cases<'_> {
 fn run(rt: &HostRuntime, console: Console) -> Result<(), Told> {
     let mut buffer = [0u8; LINES_SIZE];
     let lines = streams::read_lines(console, &mut rt.stdin(), &mut buffer)?;
-    for_each_line(lines, &Cases { console })?;
+    answer_lines(lines, &Cases { console })?;
     console.close_output();
     Ok(())
 }

@@ -9,7 +9,7 @@
 use crate::line::argument;
 use crate::summary::{Counts, draw_both, write_names};
 use basics::field;
-use streams::{AnswersLines, Console, LINES_SIZE, Told, for_each_line};
+use streams::{AnswersLines, Console, LINES_SIZE, Told, answer_lines};
 
 mod comparing;
 mod draw;
@@ -54,7 +54,7 @@ fn run(rt: &HostRuntime, console: Console) -> Result<(), Told> {
     let mut buffer = [0u8; LINES_SIZE];
     let lines = streams::read_lines(console, &mut rt.stdin(), &mut buffer)?;
     write_names(console)?;
-    for_each_line(lines, &Compare { console })?;
+    answer_lines(lines, &Compare { console })?;
     console.close_output();
     Ok(())
 }

@@ -107,13 +107,20 @@ module _ (s : List ℕ) {shape : Shape} (is_shape : shape ≡ shape_in s) where
             ∙ ap (λ w. first_fault (difference 1 s (table_text (cells_in shape s) shape w)) (cells_in shape s) shape w) is_worst
             ∙ ap (λ (h : Shape). let w = worst_in h.rows s in first_fault (difference 1 s (table_text (cells_in h s) h w)) (cells_in h s) h w) is_shape)
 
-        pub load_done : {n : ℕ} → n ≡ count_at place size → (r : Result Table Refusal) → r ≡ loaded_at place shape worst
-            → (after : List ℕ) → after ≡ written (take n cells) table → Loads s table r after
+        pub load_done : (r : Result Table Refusal) → r ≡ loaded_at place shape worst
+            → (after : List ℕ) → after ≡ written (cells_at place (take size cells)) table → Loads s table r after
         unfolding loaded_by cells_by
-        load_done is_count r q after e =
+        load_done r q after e =
             let enough = le-ltb (length table) table_size room in
             let answer : loaded_by (length table) s ≡ loaded_at place (shape_in s) (worst_in (shape_in s).rows s) = rw (enough, place_is) refl in
             let due : cells_by (length table) s ≡ cells_at place (cells_in (shape_in s) s) = rw (enough, place_is) refl in
             loads s table r after
             (q ∙ ap (loaded_at place shape) is_worst ∙ ap (λ (h : Shape). loaded_at place h (worst_in h.rows s)) is_shape ∙ sym answer)
-            (e ∙ ap (λ c. written c table) (copied place is_count ∙ ap (λ (h : Shape). cells_at place (cells_in h s)) is_shape ∙ sym due))
+            (e
+            ∙ ap (λ c. written c table) (ap (cells_at place) cells_taken ∙ ap (λ (h : Shape). cells_at place (cells_in h s)) is_shape ∙ sym due))
+
+        -- the same of so many cells as are copied
+        pub load_counted : {n : ℕ} → n ≡ count_at place size → (r : Result Table Refusal) → r ≡ loaded_at place shape worst
+            → (after : List ℕ) → after ≡ written (take n cells) table → Loads s table r after
+        load_counted is_count r q after e =
+            load_done r q after (e ∙ ap (λ c. written c table) (copied place is_count ∙ sym (ap (cells_at place) cells_taken)))

@@ -2,7 +2,7 @@
 ghost use Rattle.std.specs.Prelude.{◌<◌};
 
 use crate::console::{Console, Told};
-use basics::{Class, past};
+use basics::{Class, LINE_END, past};
 
 // A program that answers lines.
 pub trait AnswersLines {
@@ -12,12 +12,22 @@ pub trait AnswersLines {
 
 // Has each line of a text answered, up to one at which that fails.
 #[tactic(auto, using(basics::proofs::BytesLaws::past_in))]
-pub fn for_each_line<P: AnswersLines>(text: &[u8], program: &P) -> Result<(), Told> {
+pub fn answer_lines<P: AnswersLines>(text: &[u8], program: &P) -> Result<(), Told> {
     let mut i = 0;
     while i < text.len() {
         let end = past(text, i, Class::Line);
         program.answer_line(&text[i..end])?;
         i = end + 1;
+    }
+    Ok(())
+}
+
+// Answers each line of a text, without its end, up to one at which that fails.
+pub fn for_each_line<F: Fn(&[u8]) -> Result<(), Told>>(text: &[u8], answer: F) -> Result<(), Told>
+    requires { F.IsAlwaysCallable answer }
+{
+    for line in text.split_inclusive(|&byte| byte == LINE_END) {
+        answer(line.strip_suffix(&[LINE_END]).unwrap_or(line))?;
     }
     Ok(())
 }
@@ -53,6 +63,26 @@ impl Console<'_> {
                 self.say_wrong();
                 0
             }
+        }
+    }
+}
+
+#[cfg(test)]
+mod tests {
+    use super::*;
+
+    // Lines come without their ends, an empty one and a last one that has none too; one that fails is told, wherever it stands.
+    #[test]
+    fn lines_are_answered(rt: HostRuntime) {
+        let known = |line: &[u8]| match line {
+            b"" | b"a" | b"bc" => Ok(()),
+            _ => Err(Told),
+        };
+        for text in [&b""[..], b"a", b"a\n", b"\n", b"a\n\nbc\n", b"\n\nbc"] {
+            assert!(rt; for_each_line(text, known).is_ok());
+        }
+        for text in [&b"b"[..], b"a\n\nb\n", b"ab\n\nbc", b"a\nbc\nb"] {
+            assert!(rt; for_each_line(text, known).is_err());
         }
     }
 }

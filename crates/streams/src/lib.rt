@@ -13,7 +13,7 @@ mod reading_lines;
 
 pub use arguments::{Request, argument_at, is_help, is_option, open, requested};
 pub use console::{Console, Told};
-pub use fields::{AnswersLines, for_each_line};
+pub use fields::{AnswersLines, answer_lines, for_each_line};
 pub use reading::{
     Input, LINES_SIZE, drain, first, read_file, read_input, read_lines, read_to_end,
 };

@@ -3,13 +3,13 @@
 use Prim.Native.Nat.{ℕ, ◌*◌, ◌^◌, ◌≤◌, ◌<◌}
 use native.Mathlib.Nat.{not-suc-le-zero}
 use native.Mathlib.Omega.{arith}
-use mathlib.Core.Path.{◌≡◌, subst}
+use mathlib.Core.Path.{◌≡◌, refl, sym, subst}
 use mathlib.Core.Logic.{inl, inr}
 use mathlib.Core.Bool.{Bool, true, false, ◌||◌}
 use mathlib.Core.List.{List}
 use lib.Dec.{eqb, ltb}
 use lib.ListN.{length}
-use borrow.Author.Tests.{ltb-true, ltb-false, eqb-true, eqb-false, lt-ltb, eq-eqb}
+use borrow.Author.Tests.{ltb-true, ltb-false, eqb-true, eqb-false, lt-ltb, eq-eqb, ne_eqb}
 use Rattle.basics.specs.Limits.{kind_limit}
 use Rattle.play.specs.Limits.{belief_limit, side_limit}
 use Rattle.basics.specs.declared.order.Order.{Order}
@@ -199,3 +199,13 @@ module _ (t : List ℕ) (shape : Shape) (worst : ℕ) where
 
       from : Printable t shape worst → is_printable t shape worst ≡ true
       from p = three.1 ((p.shaped.sized, p.first), λ row h. (printable_row p row h, (p.shaped.each row h).blank))
+
+  -- of a table whose sizes are as they must be, by the rank of row 0
+  module _ (sized : Sized (length t) shape) where
+    pub printable_rows : rank_cell shape.order t 0 ≡ worst → all shape.rows (is_printable_row t shape) ≡ is_printable t shape worst
+    unfolding is_printable
+    printable_rows e = rw ((sized_says (length t) shape).1 sized, eq-eqb _ worst e) refl
+
+    pub printable_not : (x : ℕ) → x ≡ rank_cell shape.order t 0 → (x ≡ worst → ⊥) → eqb x worst ≡ is_printable t shape worst
+    unfolding is_printable
+    printable_not x rank ne = rw ((sized_says (length t) shape).1 sized, sym rank, ne_eqb x worst ne) refl

@@ -5,7 +5,7 @@ use mathlib.Core.Path.{sym}
 use lib.ListN.{replicate, length-take}
 use lib.Seq.{length-take-le}
 use Rattle.play.specs.Cells.{table_size}
-use Rattle.loader.proofs.LoadedAsLaws.{load_short, cells_ask, size_few, cells_in_lem, cells_long, fault_asks, count_le, load_done}
+use Rattle.loader.proofs.LoadedAsLaws.{load_short, cells_ask, size_few, cells_in_lem, cells_long, fault_asks, count_le, load_counted}
 use Rattle.loader.proofs.loading.load.Goals as goal
 
 pub returns-then-table-lt-TABLE_SIZE : goal.returns-then-table-lt-TABLE_SIZE
@@ -53,6 +53,6 @@ copy-requires c =
 
 pub returns : goal.returns
 returns c =
-    let whole = load_done c.args.text.now c.shape_in-told.ensures (replicate table_size 0) c.put_rows.ensures c.row_size.ensures c.worst_in-worst.ensures
+    let whole = load_counted c.args.text.now c.shape_in-told.ensures (replicate table_size 0) c.put_rows.ensures c.row_size.ensures c.worst_in-worst.ensures
     c.args.table.now c.if-table-lt-TABLE_SIZE.false c.fault_in-fault.ensures c.count_at-used.ensures _ c.answer_at.ensures _ c.copy.ensures in
     record { answer = whole.0; rows = whole.1.0; due = whole.1.1 }

@@ -1,7 +1,7 @@
--- `streams::for_each_line` is safe and ends: what is left of the text falls. Assumes nothing.
+-- `streams::answer_lines` is safe and ends: what is left of the text falls. Assumes nothing.
 use Prim.Native.Nat.{◌-◌}
 use lib.ListN.{length}
-use Rattle.streams.proofs.fields.for_each_line.Given as goal
+use Rattle.streams.proofs.fields.answer_lines.Given as goal
 
 abbrev pub invariant-loop-i : goal.invariant-loop-i
 invariant-loop-i g l =
